@@ -1,12 +1,12 @@
 -- Names that are copied in front of those that are still to be.
-use Rattle.std.proofs.Common.{◌≡◌, ◌≤◌, ℕ, ◌+◌, Bool, true, false, cond, eqb, List, [], ◌∷◌, ◌++◌, length, take, drop, refl, sym, ◌∙◌, ap, append_assoc}
-use Rattle.std.specs.Prelude.{◌&&◌, ◌||◌, not, is_some, nat_lt}
+use Rattle.std.proofs.Common.{◌≡◌, ◌≤◌, ◌<◌, ℕ, Bool, true, false, cond, eqb, List, [], ◌∷◌, ◌++◌, length, refl, sym, ◌∙◌, ap, append_assoc, arith}
+use Rattle.std.specs.Prelude.{◌&&◌, ◌||◌, not, is_some, nat_le, nat_lt}
 use Rattle.std.proofs.lemmas.Bool.{leb-true, true≢false}
+use Rattle.std.proofs.lemmas.Bool.Decides.{nat_tests}
 use Rattle.nd_addr.specs.Same.{bytes_tell}
 use Rattle.nd_table.specs.declared.lasting.Lasting.{Lasting}
 use Rattle.nd_table.specs.Listing.{announced, end_in, fits, open_at}
-use Rattle.nd_table.specs.ListingKept.{behind, entered, enters}
-use Rattle.nd_table.proofs.Behind.{entered_more}
+use Rattle.nd_table.specs.ListingKept.{entered, enters}
 use Rattle.nd_table.proofs.Steps.{announced_length}
 use Rattle.nd_dns.specs.AnnouncedNames.{same_name}
 
@@ -14,19 +14,27 @@ pub one_more : (copied more rest all : List (List ℕ)) (name : List ℕ) (enter
 one_more copied more rest all name true h is = ap (λ (xs : List (List ℕ)). xs ++ rest) is ∙ (append_assoc copied (name ∷ []) rest ∙ h)
 one_more copied more rest all name false h is = ap (λ (xs : List (List ℕ)). xs ++ rest) is ∙ h
 
--- the copies so far, the next name if it enters, and those of the later ones that enter are all that enter
-pub with_next : (now i : ℕ) (name : List ℕ) (w : ℕ) (all rest left : List (List ℕ × ℕ)) (es : List (Lasting (List ℕ))) (copied : List (List ℕ)) → rest ≡ (name, w) ∷ left → rest ≡ drop i all
-    → copied ++ entered same_name now rest (behind same_name now (take i all) es) ≡ entered same_name now all es
-    → copied ++ cond (not (eqb w 0) && not (is_some (end_in same_name name (behind same_name now (take i all) es)))) (name ∷ entered same_name now left (behind same_name now (take (i + 1) all) es)) (entered same_name now left (behind same_name now (take (i + 1) all) es)) ≡ entered same_name now all es
-with_next now i name w all rest left es copied is at total =
-    ap (λ (xs : List (List ℕ)). copied ++ xs) (sym (entered_more same_name bytes_tell now i name w all left es (sym at ∙ is)))
-    ∙ (ap (λ (l : List (List ℕ × ℕ)). copied ++ entered same_name now l (behind same_name now (take i all) es)) (sym is) ∙ total)
-
 -- a name enters behind the copies, so something does
 pub some_enters : (copied rest all : List (List ℕ)) (name : List ℕ) (enters : Bool) → enters ≡ true → copied ++ cond enters (name ∷ rest) rest ≡ all → all ≡ [] → ⊥
 some_enters copied rest all name false is total none = absurd (true≢false (sym is))
 some_enters [] rest all name true is total none = let e : name ∷ rest ≡ [] = total ∙ none in absurd (cc)
 some_enters (x ∷ copied) rest all name true is total none = let e : (x ∷ copied) ++ name ∷ rest ≡ [] = total ∙ none in absurd (cc)
+
+full_enters : (zero stands fewer : Bool) → (zero || (stands || fewer)) ≡ false → (not zero && not stands) ≡ true
+full_enters true stands fewer full = absurd (true≢false full)
+full_enters false true fewer full = absurd (true≢false full)
+full_enters false false fewer full = refl
+
+-- a name for which there is no room would enter
+pub no_room_enters : (limit now : ℕ) (name : List ℕ) (w : ℕ) (es : List (Lasting (List ℕ))) → length es ≤ limit → limit < length (announced same_name now name w es) → enters same_name now name w es ≡ true
+no_room_enters limit now name w es few lt =
+    let over : nat_le (length (announced same_name now name w es)) limit ≡ false = grind (arith, nat_tests, lt) in
+    full_enters (eqb w 0) (is_some (end_in same_name name (open_at now es))) (nat_lt (length (open_at now es)) limit) (sym (announced_length same_name bytes_tell now name w limit es few) ∙ over)
+
+-- the copies so far, the next name if it enters, and those of the later ones that enter are all that enter
+pub with_next : (now : ℕ) (name : List ℕ) (w : ℕ) (rest left : List (List ℕ × ℕ)) (es : List (Lasting (List ℕ))) (copied all : List (List ℕ)) → rest ≡ (name, w) ∷ left → copied ++ entered same_name now rest es ≡ all
+    → copied ++ cond (enters same_name now name w es) (name ∷ entered same_name now left (announced same_name now name w es)) (entered same_name now left (announced same_name now name w es)) ≡ all
+with_next now name w rest left es copied all is total = ap (λ (l : List (List ℕ × ℕ)). copied ++ entered same_name now l es) (sym is) ∙ total
 
 none_entered : (enters : Bool) (name : List ℕ) (rest : List (List ℕ)) → cond enters (name ∷ rest) rest ≡ [] → (enters ≡ false) × (rest ≡ [])
 none_entered true name rest none = absurd (cc)

@@ -7,7 +7,6 @@ use Rattle.nd_decode.specs.Pieces.{options_in}
 use Rattle.nd_decode.specs.Sizes.{size, sizes}
 use Rattle.nd_decode.proofs.Sizes.{sizes_within}
 use Rattle.nd_dns.specs.AnnouncedServers.{servers_of, servers_told}
-use Rattle.nd_dns.specs.AnnouncedNames.{names_of, names_told}
 
 servers_size : (option : Said) → 16 * length (servers_of option) ≤ size option
 servers_size (rdnss lifetime servers) = omega (arith, length-map {B = Addr × ℕ} servers (λ (s : Addr). (s, lifetime)))
@@ -25,20 +24,3 @@ servers_sizes (option ∷ options) = omega (arith, servers_size option, servers_
 
 pub few_servers : (bytes : List ℕ) → 16 * length (servers_told (options_in bytes)) ≤ length bytes
 few_servers bytes = omega (arith, servers_sizes (options_in bytes), sizes_within bytes)
-
-names_size : (option : Said) → length (names_of option) ≤ size option
-names_size (dnssl lifetime names) = omega (arith, length-map {B = List ℕ × ℕ} names (λ (n : List ℕ). (n, lifetime)))
-names_size (slla _) = omega arith
-names_size (tlla _) = omega arith
-names_size (prefix _) = omega arith
-names_size (redirected _) = omega arith
-names_size (mtu _) = omega arith
-names_size (rdnss _ _) = omega arith
-names_size (other _ _) = omega arith
-
-names_sizes : (options : List Said) → length (names_told options) ≤ sizes options
-names_sizes [] = omega arith
-names_sizes (option ∷ options) = omega (arith, names_size option, names_sizes options, length-append (names_of option) (names_told options))
-
-pub few_names : (bytes : List ℕ) → length (names_told (options_in bytes)) ≤ length bytes
-few_names bytes = omega (arith, names_sizes (options_in bytes), sizes_within bytes)

@@ -1,15 +1,17 @@
-ghost use Rattle.std.specs.Prelude.{◌≡◌, ◌<◌, ◌^◌, [], IfOk, IsOk, length, ◌≤◌, true, false, vec_len, vec_capacity};
+ghost use Rattle.std.specs.Prelude.{◌≡◌, [], IfOk, IsOk, length, ◌≤◌, true, false, vec_len, vec_capacity};
 ghost use Rattle.nd_search_list.specs.NameRef.{name_of};
 ghost use Rattle.nd_table.specs.Listing.{fits};
-ghost use Rattle.nd_table.specs.ListingKept.{entered, enters, announced_all};
+ghost use Rattle.nd_table.specs.ListingKept.{entered, enters, announced_all, Distinct};
 ghost use Rattle.nd_table.specs.Moment.{IsMoment};
+ghost use Rattle.nd_dns.specs.Dns.{max_names};
 ghost use Rattle.nd_dns.specs.AnnouncedNames.{same_name};
 ghost use Rattle.nd_dns.specs.AnnouncedNamesKept.{names_to_come};
 
 use crate::announced_names::AnnouncedNames;
+use crate::dns::MAX_NAMES;
 use crate::search_name::SearchName;
 use nd_decode::NameRef;
-use nd_table::{Lasting, announce, enters, enters_behind};
+use nd_table::{Lasting, Walk, announce, enters};
 use std::alloc::{AllocError, Allocator};
 use std::collections::VecDeque;
 use std::marker::Model;
@@ -81,25 +83,33 @@ impl<A: Allocator + Clone> NewNames<A> {
     }
 }
 
-/// Returns copies of the names that the announcements of a message add, in their order. Returns an error if out of memory.
+/// Returns copies of the names that the announcements of a message add, in their order. Returns an error if out of memory, or at a name for which
+/// there is no room.
 pub(crate) fn copies<A: Allocator + Clone>(
     alloc: &A,
     entries: &[Lasting<SearchName<A>>],
+    limit: usize,
     now: u64,
     announced: AnnouncedNames<'_>,
 ) -> Result<NewNames<A>, AllocError>
-    requires { length (names_to_come announced) < 2 ^ 64 }
+    requires distinct { Distinct same_name entries.now }
+    requires few { length entries.now ≤ limit }
+    requires limit { limit ≤ max_names }
     ensures value { IfOk result (λ names. names ≡ entered same_name now (names_to_come announced.entry) entries.now) }
     ensures quiet { entered same_name now (names_to_come announced.entry) entries.now ≡ [] → IsOk result }
 {
+    let mut kept = [None; 2 * MAX_NAMES];
+    let mut walk = Walk::new(entries, limit, now);
     let mut copies = NewNames::none();
     let mut rest = announced;
-    let mut taken = 0;
     while let Some((name, lifetime)) = rest.next_name() {
-        if enters_behind(entries, now, announced, taken, &name, lifetime) {
+        let adds = match walk.adds(&mut kept, name, lifetime) {
+            Some(adds) => adds,
+            None => return Err(AllocError),
+        };
+        if adds {
             copies.add(alloc, &name)?;
         }
-        taken += 1;
     }
     Ok(copies)
 }

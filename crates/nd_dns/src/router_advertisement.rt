@@ -14,7 +14,7 @@ ghost use Rattle.nd_dns.specs.AnnouncedServers.{servers_told};
 
 use crate::announced_names::AnnouncedNames;
 use crate::announced_servers::AnnouncedServers;
-use crate::dns::Dns;
+use crate::dns::{Dns, MAX_NAMES, MAX_SERVERS};
 use crate::new_names::{NewNames, announce_names, copies};
 use nd_addr::Addr;
 use nd_decode::{Options, SERVER_BYTES};
@@ -43,7 +43,8 @@ impl<A: Allocator> Dns<A> {
         ensures quiet { new_names now (options_left options.entry) self.now ≡ [] → result ≡ true }
     {
         let told = AnnouncedNames::new(options);
-        fits_all(&self.names, self.name_limit, now, told)
+        let mut kept = [None; 2 * MAX_NAMES];
+        fits_all(&self.names, self.name_limit, now, told, &mut kept)
     }
 
     /// Takes the servers and search names of a Router Advertisement at `now`, in milliseconds, in order, with copies of the names that it adds (RFC
@@ -106,7 +107,25 @@ fn servers_fit(entries: &[Lasting<Addr>], limit: usize, now: u64, options: Optio
     if entries.len() + options.byte_len() / SERVER_BYTES <= limit {
         return true;
     }
-    fits_all(entries, limit, now, AnnouncedServers::new(options))
+    servers_fit_in_order(entries, limit, now, options)
+}
+
+/// Returns the same by a walk over the servers. The names that it keeps are locals of this function, since a function pays for all of its locals at
+/// each call.
+fn servers_fit_in_order(
+    entries: &[Lasting<Addr>],
+    limit: usize,
+    now: u64,
+    options: Options<'_>,
+) -> bool
+    requires distinct { Distinct same_addr entries.now }
+    requires few { length entries.now ≤ limit }
+    requires limit { limit ≤ max_servers }
+    ensures { result ≡ fits same_addr limit now (servers_told (options_left options.entry)) entries.now }
+{
+    let mut kept = [None; 2 * MAX_SERVERS];
+    let told = AnnouncedServers::new(options);
+    fits_all(entries, limit, now, told, &mut kept)
 }
 
 impl<A: Allocator + Clone> Dns<A> {
@@ -135,14 +154,21 @@ impl<A: Allocator + Clone> Dns<A> {
         }
     }
 
-    /// Copies the search names that they add, without asking for room. Returns an error if out of memory. If they add none it takes no memory.
+    /// Copies the search names that they add, of options that `fits_names` found room for. Returns an error if out of memory, or at a name for which
+    /// there is no room. If they add none it takes no memory.
     pub fn new_names(&self, now: u64, options: Options<'_>) -> Result<NewNames<A>, AllocError>
         ensures value { IfOk result (λ names. names ≡ new_names now (options_left options.entry) self.now) }
 
         // If no name is added it succeeds, even if no memory is left.
         ensures quiet { new_names now (options_left options.entry) self.now ≡ [] → IsOk result }
     {
-        copies(&self.alloc, &self.names, now, AnnouncedNames::new(options))
+        copies(
+            &self.alloc,
+            &self.names,
+            self.name_limit,
+            now,
+            AnnouncedNames::new(options),
+        )
     }
 
     /// Returns true if the options only refresh search names that are known at `now`, in milliseconds: each is, and no lifetime is 0. It takes no memory.

@@ -11,7 +11,7 @@ ghost use Rattle.nd_table.specs.Moment.{IsMoment};
 ghost use Rattle.nd_routers.specs.OnLinkPrefixesKept.{prefixes_left};
 ghost use Rattle.nd_table.specs.Refreshing.{only_refreshes};
 
-use crate::prefixes::Prefixes;
+use crate::prefixes::{MAX_PREFIXES, Prefixes};
 use nd_addr::Prefix;
 use nd_decode::{Options, PrefixInfo};
 use nd_table::{Announces, Lasting, Limit, TableRefusal, announce_all, fits_all};
@@ -75,7 +75,19 @@ fn fits(entries: &[Lasting<Prefix>], limit: usize, now: u64, options: Options<'_
     if entries.len() + options.byte_len() / PrefixInfo::BYTES <= limit {
         return true;
     }
-    fits_all(entries, limit, now, OnLink { options })
+    fit_in_order(entries, limit, now, options)
+}
+
+/// Returns the same by a walk over the options. The names that it keeps are locals of this function, since a function pays for all of its locals at
+/// each call.
+fn fit_in_order(entries: &[Lasting<Prefix>], limit: usize, now: u64, options: Options<'_>) -> bool
+    requires distinct { Distinct same_prefix entries.now }
+    requires few { length entries.now ≤ limit }
+    requires limit { limit ≤ max_prefixes }
+    ensures { result ≡ fits same_prefix limit now (prefixes_in (options_left options.entry)) entries.now }
+{
+    let mut kept = [None; 2 * MAX_PREFIXES];
+    fits_all(entries, limit, now, OnLink { options }, &mut kept)
 }
 
 /// The prefixes that the options of a Router Advertisement say are on the link, with their valid lifetimes (RFC 4861, sections 4.6.2 and

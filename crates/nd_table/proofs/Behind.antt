@@ -1,13 +1,13 @@
 -- What the announcements of a message do to a list, one behind the other.
-use Rattle.std.proofs.Common.{◌≡◌, ℕ, zero, suc, ◌+◌, ◌≤◌, Bool, true, false, cond, eqb, List, [], ◌∷◌, ◌++◌, length, take, drop, Option, None, refl, sym, ◌∙◌, ap, arith, inl, inr, ⊎_elim}
+use Rattle.std.proofs.Common.{◌≡◌, ℕ, ◌+◌, ◌≤◌, Bool, true, false, cond, eqb, List, [], ◌∷◌, ◌++◌, length, Option, None, refl, sym, ◌∙◌, ap, arith, inl, inr, ⊎_elim}
 use Rattle.std.specs.Prelude.{map, filter, not, is_some, ◌&&◌, nat_le}
 use Rattle.std.proofs.lemmas.Bool.{cond_both, cond-true, true≢false, cases_Bool, le-leb}
 use Rattle.nd_table.specs.declared.lasting.Lasting.{Lasting}
 use Rattle.nd_table.specs.Ends.{end_time, is_before}
 use Rattle.nd_table.specs.Listing.{open_at, end_in, renewed, without, told, announced, fits}
-use Rattle.nd_table.specs.ListingKept.{announced_all, entered, behind, Distinct, count_after}
+use Rattle.nd_table.specs.ListingKept.{announced_all, entered, Distinct, count_after}
 use Rattle.nd_table.proofs.Finding.{Tells, end_in-renewed, end_in-without, end_in-push, end_in-filter-none, absent_of, as_long, one_longer, without_absent}
-use Rattle.nd_table.proofs.Steps.{AllOpen, AllOpen-open, AllOpen-announced}
+use Rattle.nd_table.proofs.Steps.{AllOpen, AllOpen-open}
 
 module _ {K : Type 0} (same : K → K → Bool) (tells : Tells same) where
   pub open_all : (es : List (Lasting K)) (now : ℕ) → AllOpen same tells es now → open_at now es ≡ es
@@ -22,24 +22,8 @@ module _ {K : Type 0} (same : K → K → Bool) (tells : Tells same) where
   fits_open limit now [] es = refl
   fits_open limit now ((key, w) ∷ more) es = ap (λ xs. nat_le (length xs) limit && fits same limit now more xs) (announced_open now key w es)
 
-  pub behind_open : (now : ℕ) (more : List (K × ℕ)) (es : List (Lasting K)) → AllOpen same tells es now → AllOpen same tells (announced_all same now more es) now
-  behind_open now [] es h = h
-  behind_open now ((key, w) ∷ more) es h = behind_open now more _ (AllOpen-announced same tells now key w es)
-
-  -- one more announcement
-  more_from : (now i : ℕ) (key : K) (w : ℕ) (all rest : List (K × ℕ)) (es : List (Lasting K)) → drop i all ≡ (key, w) ∷ rest → announced_all same now (take (suc i) all) es ≡ announced same now key w (announced_all same now (take i all) es)
-  more_from now zero key w [] rest es h = absurd (grind arith)
-  more_from now zero key w (p ∷ all) rest es h = ap (λ (x : List (K × ℕ)). announced_all same now (take 1 x) es) h
-  more_from now (suc i) key w [] rest es h = absurd (grind arith)
-  more_from now (suc i) key w (p ∷ all) rest es h = more_from now i key w all rest (announced same now p.0 p.1 es) h
-
-  pub behind_more : (now i : ℕ) (key : K) (w : ℕ) (all rest : List (K × ℕ)) (es : List (Lasting K)) → drop i all ≡ (key, w) ∷ rest → behind same now (take (i + 1) all) es ≡ announced same now key w (behind same now (take i all) es)
-  behind_more now i key w all rest es h =
-      let one : i + 1 ≡ suc i = omega arith in
-      ap (λ k. behind same now (take k all) es) one ∙ more_from now i key w all rest (open_at now es) h
-
-  -- whether a key stands behind one more announcement
-  told_has : (k key : K) (now w : ℕ) (es : List (Lasting K)) → is_some (end_in same k (told same now key w es)) ≡ cond (same key k) (not (eqb w 0)) (is_some (end_in same k es))
+  -- whether a key stands after one more announcement
+  pub told_has : (k key : K) (now w : ℕ) (es : List (Lasting K)) → is_some (end_in same k (told same now key w es)) ≡ cond (same key k) (not (eqb w 0)) (is_some (end_in same k es))
   told_has k key now w es =
       cond_both (eqb w 0) (without same key es) (cond (is_some (end_in same key es)) (map (renewed same key (end_time now w)) es) (es ++ record { key = key; end = end_time now w } ∷ []))
       (λ xs. is_some (end_in same k xs) ≡ cond (same key k) (not (eqb w 0)) (is_some (end_in same k es)))
@@ -49,39 +33,12 @@ module _ {K : Type 0} (same : K → K → Bool) (tells : Tells same) where
       (λ h. grind (arith, tells, n, h, end_in-renewed same tells k key (end_time now w) es))
       (λ h. grind (arith, tells, n, h, end_in-push same tells k es (record { key = key; end = end_time now w }) (absent_of (end_in same key es) h))))
 
-  pub has_behind : (k : K) (now i : ℕ) (key : K) (w : ℕ) (all rest : List (K × ℕ)) (es : List (Lasting K)) → drop i all ≡ (key, w) ∷ rest → is_some (end_in same k (behind same now (take (i + 1) all) es)) ≡ cond (same key k) (not (eqb w 0)) (is_some (end_in same k (behind same now (take i all) es)))
-  has_behind k now i key w all rest es h =
-      ap (λ xs. is_some (end_in same k xs)) (behind_more now i key w all rest es h)
-      ∙ (ap (λ xs. is_some (end_in same k (told same now key w xs))) (open_all (behind same now (take i all) es) now (behind_open now (take i all) (open_at now es) (AllOpen-open same tells now es)))
-      ∙ told_has k key now w (behind same now (take i all) es))
-
   -- what has ended doesn't change what a message enters
   pub entered_open : (now : ℕ) (more : List (K × ℕ)) (es : List (Lasting K)) → entered same now more (open_at now es) ≡ entered same now more es
   entered_open now [] es = refl
   entered_open now ((key, w) ∷ more) es =
       let last : List (Lasting K) → List K = λ xs. entered same now more (told same now key w xs) in
       ap (λ xs. cond (not (eqb w 0) && not (is_some (end_in same key xs))) (key ∷ last xs) (last xs)) (open_all (open_at now es) now (AllOpen-open same tells now es))
-
-  -- what one more announcement enters
-  pub entered_more : (now i : ℕ) (key : K) (w : ℕ) (all rest : List (K × ℕ)) (es : List (Lasting K)) → drop i all ≡ (key, w) ∷ rest
-      → entered same now ((key, w) ∷ rest) (behind same now (take i all) es)
-      ≡ cond (not (eqb w 0) && not (is_some (end_in same key (behind same now (take i all) es)))) (key ∷ entered same now rest (behind same now (take (i + 1) all) es)) (entered same now rest (behind same now (take (i + 1) all) es))
-  entered_more now i key w all rest es at =
-      let cur = behind same now (take i all) es in
-      let last : List (Lasting K) → List K = λ xs. entered same now rest xs in
-      ap (λ xs. cond (not (eqb w 0) && not (is_some (end_in same key xs))) (key ∷ last (announced same now key w cur)) (last (announced same now key w cur)))
-      (open_all cur now (behind_open now (take i all) (open_at now es) (AllOpen-open same tells now es)))
-      ∙ ap (λ ys. cond (not (eqb w 0) && not (is_some (end_in same key cur))) (key ∷ last ys) (last ys)) (sym (behind_more now i key w all rest es at))
-
-  take_none : (n : ℕ) → take {A = K × ℕ} n [] ≡ []
-  take_none zero = refl
-  take_none (suc n) = refl
-
-  pub take_past : (i n : ℕ) (all : List (K × ℕ)) → drop i all ≡ [] → i ≤ n → take n all ≡ take i all
-  take_past i n [] h le = take_none n ∙ sym (take_none i)
-  take_past zero n (p ∷ all) h le = absurd (grind arith)
-  take_past (suc i) zero (p ∷ all) h le = absurd (omega (arith, le))
-  take_past (suc i) (suc n) (p ∷ all) h le = ap (λ (x : List (K × ℕ)). p ∷ x) (take_past i n all h (omega (arith, le)))
 
   pub Distinct-filter : (p : Lasting K → Bool) (es : List (Lasting K)) → Distinct same es → Distinct same (filter p es)
   Distinct-filter p [] d = tt
@@ -112,8 +69,8 @@ module _ {K : Type 0} (same : K → K → Bool) (tells : Tells same) where
   Distinct-all now [] es d = d
   Distinct-all now ((key, w) ∷ more) es d = Distinct-all now more (announced same now key w es) (Distinct-announced now key w es d)
 
-  -- how many entries there are behind one more announcement
-  one_shorter : (key : K) (es : List (Lasting K)) → Distinct same es → is_some (end_in same key es) ≡ true → length (without same key es) + 1 ≡ length es
+  -- how many entries there are after one more announcement
+  pub one_shorter : (key : K) (es : List (Lasting K)) → Distinct same es → is_some (end_in same key es) ≡ true → length (without same key es) + 1 ≡ length es
   one_shorter key [] d h = absurd (true≢false (sym h))
   one_shorter key (e ∷ es) d h = ⊎_elim
       (λ s. let rest : without same key (e ∷ es) ≡ es = grind (arith, tells, s.0, without_absent same tells key es (ap (λ k. end_in same k es) (sym s.1) ∙ d.0)) in omega (arith, ap length rest))
@@ -125,7 +82,7 @@ module _ {K : Type 0} (same : K → K → Bool) (tells : Tells same) where
   some_of key [] h = absurd (true≢false (sym h))
   some_of key (e ∷ es) h = omega arith
 
-  counted_told : (now : ℕ) (key : K) (w : ℕ) (es : List (Lasting K)) → Distinct same es → count_after (length es) (is_some (end_in same key es)) (not (eqb w 0)) ≡ length (told same now key w es)
+  pub counted_told : (now : ℕ) (key : K) (w : ℕ) (es : List (Lasting K)) → Distinct same es → count_after (length es) (is_some (end_in same key es)) (not (eqb w 0)) ≡ length (told same now key w es)
   counted_told now key w es d =
       cond_both (eqb w 0) (without same key es) (cond (is_some (end_in same key es)) (map (renewed same key (end_time now w)) es) (es ++ record { key = key; end = end_time now w } ∷ []))
       (λ xs. count_after (length es) (is_some (end_in same key es)) (not (eqb w 0)) ≡ length xs)
@@ -139,43 +96,9 @@ module _ {K : Type 0} (same : K → K → Bool) (tells : Tells same) where
       removed true h z = let shorter = one_shorter key es d h in let some = some_of key es h in grind (arith, z, h, shorter, some)
       removed false h z = let kept = ap length (without_absent same tells key es (absent_of (end_in same key es) h)) in grind (arith, z, h, kept)
 
-  module _ (now : ℕ) (key : K) (w i : ℕ) (all rest : List (K × ℕ)) (es : List (Lasting K)) (d : Distinct same es) (at : drop i all ≡ (key, w) ∷ rest) where
-    opened : AllOpen same tells (behind same now (take i all) es) now
-    opened = behind_open now (take i all) (open_at now es) (AllOpen-open same tells now es)
-
-    -- how many stand behind one more announcement
-    pub counted : count_after (length (behind same now (take i all) es)) (is_some (end_in same key (behind same now (take i all) es))) (not (eqb w 0)) ≡ length (behind same now (take (i + 1) all) es)
-    counted =
-        counted_told now key w (behind same now (take i all) es) (Distinct-all now (take i all) (open_at now es) (Distinct-filter _ es d))
-        ∙ (ap (λ xs. length (told same now key w xs)) (sym (open_all (behind same now (take i all) es) now opened))
-        ∙ ap length (sym (behind_more now i key w all rest es at)))
-
-    -- and whether they fit
-    pub fits_more : (limit : ℕ) → fits same limit now ((key, w) ∷ rest) (behind same now (take i all) es) ≡ (nat_le (length (behind same now (take (i + 1) all) es)) limit && fits same limit now rest (behind same now (take (i + 1) all) es))
-    fits_more limit = ap (λ xs. nat_le (length xs) limit && fits same limit now rest xs) (sym (behind_more now i key w all rest es at))
-
-module _ {K : Type 0} where
-  tail_of : List (K × ℕ) → List (K × ℕ)
-  tail_of [] = []
-  tail_of (p ∷ more) = more
-
-  tail_is : (j : ℕ) (more : List (K × ℕ)) → tail_of (drop j more) ≡ drop (suc j) more
-  unfolding tail_of
-  tail_is zero [] = refl
-  tail_is zero (p ∷ more) = refl
-  tail_is (suc j) [] = refl
-  tail_is (suc j) (p ∷ more) = tail_is j more
-
-  -- what is left behind one more announcement
-  pub next_is : (i : ℕ) (key : K) (w : ℕ) (all rest : List (K × ℕ)) → drop i all ≡ (key, w) ∷ rest → rest ≡ drop (i + 1) all
-  unfolding tail_of
-  next_is i key w all rest at =
-      let one : i + 1 ≡ suc i = omega arith in
-      sym (ap tail_of at) ∙ (tail_is i all ∙ ap (λ k. drop k all) (sym one))
-
 -- a message that announces no more keys than there is room for fits
 module _ {K : Type 0} (same : K → K → Bool) (tells : Tells same) where
-  fewer_open : (p : Lasting K → Bool) (es : List (Lasting K)) → length (filter p es) ≤ length es
+  pub fewer_open : (p : Lasting K → Bool) (es : List (Lasting K)) → length (filter p es) ≤ length es
   fewer_open p [] = omega arith
   fewer_open p (e ∷ es) =
       elim (cases_Bool (p e)) [

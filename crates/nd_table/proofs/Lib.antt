@@ -17,3 +17,4 @@ pub mod LastingOrder
 pub mod Steps
 pub mod UniqueKeys
 pub mod Refreshing
+pub mod Walking

@@ -11,6 +11,7 @@ pub mod Blocks
 pub mod Announcements
 pub mod Listing
 pub mod ListingKept
+pub mod WalkKept
 pub mod Left
 pub mod Shown
 pub mod Moment

@@ -1,5 +1,5 @@
 -- What a list of keys with their ends is to the announcements that it stands for.
-use Rattle.std.specs.Prelude.{◌+◌, ◌≡◌, length, ℕ, ◌<◌, Bool, true, not, ◌&&◌, nat_le, ◌==◌, if◌then◌else◌, List, [], ◌∷◌, ◌++◌, Option, Some, None, filter, map, is_some}
+use Rattle.std.specs.Prelude.{◌≡◌, length, ℕ, ◌<◌, Bool, true, not, ◌&&◌, nat_le, ◌==◌, if◌then◌else◌, List, [], ◌∷◌, ◌++◌, Option, Some, None, filter, map, is_some}
 use Rattle.nd_table.specs.declared.lasting.Lasting.{Lasting}
 use Rattle.nd_table.specs.Ends.{end_time, is_before}
 use Rattle.nd_table.specs.Announcements.{Row, Announced, end_of, place, stands}

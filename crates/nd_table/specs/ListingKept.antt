@@ -2,7 +2,7 @@
 use Rattle.std.specs.Prelude.{◌+◌, ◌-◌, ◌≡◌, ℕ, ◌≤◌, Bool, not, ◌&&◌, ◌==◌, if◌then◌else◌, List, [], ◌∷◌, None, is_some}
 use Rattle.nd_table.specs.declared.lasting.Lasting.{Lasting}
 use Rattle.nd_table.specs.Announcements.{Row, last_moment, end_of, place}
-use Rattle.nd_table.specs.Listing.{open_at, end_in, Rises, Lists, told, announced}
+use Rattle.nd_table.specs.Listing.{open_at, end_in, Rises, Lists, announced}
 
 -- how many keys stand where one of them stood before or not, and stands then or not
 abbrev pub count_after : ℕ → Bool → Bool → ℕ
@@ -38,7 +38,3 @@ module _ {K : Type 0} (same : K → K → Bool) where
   entered now [] es = []
   entered now ((key, lifetime) ∷ more) es =
       if enters now key lifetime es then key ∷ entered now more (announced same now key lifetime es) else entered now more (announced same now key lifetime es)
-
-  -- the keys that stand behind some announcements of a message
-  abbrev pub behind : ℕ → List (K × ℕ) → List (Lasting K) → List (Lasting K)
-  behind now told es = announced_all now told (open_at now es)

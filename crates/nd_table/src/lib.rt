@@ -25,10 +25,11 @@ mod refusal;
 mod schedule;
 mod standing;
 mod table;
+mod walk;
 mod with_lifetime;
 
 pub use addressed::Addressed;
-pub use announcements::{announce_all, enters_behind, fits_all, only_refreshes};
+pub use announcements::{announce_all, fits_all, only_refreshes};
 pub use announces::Announces;
 pub use binary_search::search;
 pub use date::Date;
@@ -45,4 +46,5 @@ pub use refusal::{Limit, TableRefusal};
 pub use schedule::Schedule;
 pub use standing::Standing;
 pub use table::{find, holds, locate, locate_near, put};
+pub use walk::Walk;
 pub use with_lifetime::{WithLifetime, WithLifetimes};

@@ -1,14 +1,10 @@
-use Rattle.std.proofs.Common.{sym, ap, arith, length}
+use Rattle.std.proofs.Common.{sym, arith}
 use Rattle.nd_addr.specs.Same.{same_addr, addrs_tell}
 use Rattle.nd_decode.specs.Pieces.{options_left}
 use Rattle.nd_table.proofs.Behind.{fits_beside}
 use Rattle.nd_dns.specs.AnnouncedServers.{servers_told}
 use Rattle.nd_dns.proofs.Few.{few_servers}
 use Rattle.nd_dns.proofs.router_advertisement.servers_fit.Goals as goal
-
-pub fits_all-requires-clause-bounded : goal.fits_all-requires-clause-bounded
-fits_all-requires-clause-bounded c =
-    let few = few_servers c.args.options.rest.now in omega (arith, few, ap length c.new.ensures, c.ranges.options.0)
 
 pub returns-then-entries-byte_len : goal.returns-then-entries-byte_len
 returns-then-entries-byte_len c =

@@ -6,9 +6,6 @@ use Rattle.nd_routers.specs.OnLinkPrefixes.{prefixes_in}
 use Rattle.nd_routers.proofs.Told.{told_few}
 use Rattle.nd_routers.proofs.on_link_prefixes.fits.Goals as goal
 
-pub fits_all-requires-clause-bounded : goal.fits_all-requires-clause-bounded
-fits_all-requires-clause-bounded c = omega (arith, told_few c.args.options.rest.now, c.ranges.options.0)
-
 pub returns-then-entries-byte_len : goal.returns-then-entries-byte_len
 returns-then-entries-byte_len c =
     let few = told_few c.args.options.rest.now in

@@ -7,12 +7,7 @@ use Rattle.nd_table.proofs.UniqueKeys.{one_listing}
 use Rattle.nd_dns.specs.DnsKept.{Table}
 use Rattle.nd_dns.specs.AnnouncedNames.{same_name, names_told}
 use Rattle.nd_dns.proofs.Adding.{fits_unentered}
-use Rattle.nd_dns.proofs.Few.{few_names}
 use Rattle.nd_dns.proofs.dns.Dns.fits_names.Goals as goal
-
-pub fits_all-requires-clause-bounded : goal.fits_all-requires-clause-bounded
-fits_all-requires-clause-bounded g c =
-    let few = few_names c.args.options.rest.now in omega (arith, few, ap length c.new-told.ensures, c.ranges.options.0)
 
 pub returns-clause-by_history : goal.returns-clause-by_history
 returns-clause-by_history g c = λ servers history es s le l.
