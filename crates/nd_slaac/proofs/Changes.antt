@@ -19,10 +19,10 @@ pub when_formed : (key at delay retrans : ℕ) (lifetimes : Option Lifetimes) (s
 when_formed key at delay retrans None s = let e : at + delay + 0 * retrans ≡ at + delay = omega arith in rw e refl
 when_formed key at delay retrans (Some lifetimes) s = let e : at + delay + 0 * retrans ≡ at + delay = omega arith in rw e refl
 
-detecting_by : (key : ℕ) (f : Forming) (c w : Bool) (sent : ℕ) (p v : Option ℕ) → c ≡ false → w ≡ false → let a : Address = record { key = key; preferred_end = p; valid_end = v; stage = stage_by f c w sent } in a ≡ record { key = key; preferred_end = p; valid_end = v; stage = Detecting sent (step_at f sent) f.retrans }
+detecting_by : (key : ℕ) (f : Forming) (c w : Bool) (sent : ℕ) (p v : Option ℕ) → c ≡ false → w ≡ false → let a : Address = record { key = key; preferred_end = p; valid_end = v; stage = stage_by f c w sent } in a ≡ record { key = key; preferred_end = p; valid_end = v; stage = Detecting sent f.retrans (step_at f sent) }
 detecting_by key f c w sent p v not_c not_w = rw (not_c, not_w) refl
 
-detecting : (key : ℕ) (f : Forming) (s : Story) → has_conflict s ≡ false → was_assigned s ≡ false → made key f s ≡ record { key = key; preferred_end = preferred_end s; valid_end = valid_end s; stage = Detecting (sent_of s) (step_at f (sent_of s)) f.retrans }
+detecting : (key : ℕ) (f : Forming) (s : Story) → has_conflict s ≡ false → was_assigned s ≡ false → made key f s ≡ record { key = key; preferred_end = preferred_end s; valid_end = valid_end s; stage = Detecting (sent_of s) f.retrans (step_at f (sent_of s)) }
 detecting key f s c w = detecting_by key f (has_conflict s) (was_assigned s) (sent_of s) (preferred_end s) (valid_end s) c w
 
 module _ (key at : ℕ) (s : Story) (a : Address) (there : address_of key s ≡ Some a) where
@@ -38,7 +38,7 @@ module _ (key at : ℕ) (s : Story) (a : Address) (there : address_of key s ≡ 
       ap (λ o. address_by key o true (was_assigned s) (sent_of s) (preferred_end s) (valid_end s)) was.1 ∙ ap (λ (m : Address). Some (failed m)) (sym was.2)
 
 -- a step of a detection that goes on
-stepping : (transmits key at : ℕ) (s : Story) (f : Forming) → forming_of s ≡ Some f → has_conflict s ≡ false → was_assigned s ≡ false → step_at f (sent_of s) ≡ at → let a : Address = record { key = key; preferred_end = preferred_end s; valid_end = valid_end s; stage = Detecting (sent_of s) (step_at f (sent_of s)) f.retrans } in address_of key ((at, happens (falls_by transmits key a.stage)) ∷ s) ≡ Some (stepped transmits at a)
+stepping : (transmits key at : ℕ) (s : Story) (f : Forming) → forming_of s ≡ Some f → has_conflict s ≡ false → was_assigned s ≡ false → step_at f (sent_of s) ≡ at → let a : Address = record { key = key; preferred_end = preferred_end s; valid_end = valid_end s; stage = Detecting (sent_of s) f.retrans (step_at f (sent_of s)) } in address_of key ((at, happens (falls_by transmits key a.stage)) ∷ s) ≡ Some (stepped transmits at a)
 stepping transmits key at s f is c w d = elim (cases_Bool (ltb (sent_of s) transmits)) [
   | inl more ↦
       let e : step_at f (sent_of s + 1) ≡ at + f.retrans = omega (arith, d) in
@@ -51,6 +51,6 @@ module _ (transmits key at : ℕ) (s : Story) (a : Address) (there : address_of 
   when_stepped now =
       let was = was_formed key s a there in
       let step = steps key s a was.0 at was.2 now in
-      let is : a ≡ record { key = key; preferred_end = preferred_end s; valid_end = valid_end s; stage = Detecting (sent_of s) (step_at was.0 (sent_of s)) was.0.retrans } =
+      let is : a ≡ record { key = key; preferred_end = preferred_end s; valid_end = valid_end s; stage = Detecting (sent_of s) was.0.retrans (step_at was.0 (sent_of s)) } =
       was.2 ∙ detecting key was.0 s step.0 step.1 in
       subst (λ (m : Address). address_of key ((at, happens (falls_by transmits m.key m.stage)) ∷ s) ≡ Some (stepped transmits at m)) (sym is) (stepping transmits key at s was.0 was.1 step.0 step.1 step.2)

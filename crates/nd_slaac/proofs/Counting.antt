@@ -1,9 +1,14 @@
 -- Whether there is room for the addresses that options would form.
-use Rattle.std.proofs.Common.{◌≡◌, ℕ, ◌+◌, ◌*◌, ◌/◌, ◌<◌, ◌≤◌, Bool, true, false, cond, eqb, ltb, leb, List, [], ◌∷◌, length, Some, refl, sym, ◌∙◌, ap, arith, suc, inl, inr}
+use Rattle.std.proofs.Common.{◌≡◌, ℕ, ◌+◌, ◌*◌, ◌/◌, ◌<◌, ◌≤◌, Bool, true, false, eqb, ltb, List, [], ◌∷◌, ◌++◌, length, Some, refl, sym, ◌∙◌, ap, arith, suc, inl, inr}
 use Rattle.std.specs.Prelude.{is_some, ◌&&◌, ◌||◌, not, IsOk, IfSome, Result, Ok, Err}
 use Rattle.std.proofs.lemmas.Bool.Decides.{nat_tests}
-use Rattle.std.proofs.lemmas.Bool.{true≢false, eqb-true, eq-eqb, le-leb, cases_Bool}
+use Rattle.std.proofs.lemmas.Bool.{true≢false, cond-true, cond-false, cases_Bool}
+use Rattle.std.proofs.Math.Bool.{or-false}
+use Rattle.std.proofs.lemmas.List.{length-append}
+use Rattle.std.proofs.lemmas.List.Folds.{list_any-append}
+use Rattle.nd_addr.specs.declared.addr.Addr.{Addr}
 use Rattle.nd_addr.specs.declared.mac.Mac.{Mac}
+use Rattle.nd_addr.specs.Number.{number_of}
 use Rattle.nd_decode.specs.declared.prefix_info.PrefixInfo.{PrefixInfo}
 use Rattle.nd_decode.specs.Option.{Said, slla, tlla, prefix, redirected, mtu, rdnss, dnssl, other}
 use Rattle.nd_decode.specs.Sizes.{sizes}
@@ -15,75 +20,13 @@ use Rattle.nd_slaac.specs.AddressKept.{Address}
 use Rattle.nd_slaac.specs.TableKept.{key_of, address_in}
 use Rattle.nd_slaac.specs.PrefixOption.{is_taken, named_by, lifetimes_of, is_forming, prefixes_in}
 use Rattle.nd_slaac.specs.Room.{is_among, would_form, fits_in}
-use Rattle.nd_slaac.specs.RoomKept.{is_formed_by, new_in}
+use Rattle.nd_slaac.specs.RoomKept.{is_listed, is_new}
 use Rattle.nd_slaac.specs.Calls.{keys_in, formed, announced, taken_by, Changes, row_taken, GainsRowIfAny}
 use Rattle.nd_slaac.specs.History.{Row, story}
 use Rattle.nd_slaac.specs.State.{is_known}
 use Rattle.nd_slaac.specs.MayCome.{MayCome}
 use Rattle.nd_slaac.proofs.Keys.{known_among, keys-length, keys-set, among-put, length-put}
 use Rattle.nd_slaac.proofs.Altering.{formed_gains, announced_gains}
-
--- 1 where it is so
-abbrev count_if : Bool → ℕ
-count_if true = 1
-count_if false = 0
-
--- what one option counts
-step_by : (f g h a : Bool) (n m : ℕ) → n ≡ m + count_if a → f ≡ true → h ≡ false → g ≡ false → (cond (f && not a) (n + 1) n) ≡ m + 1
-step_by f g h true n m e ft hf gf = rw ft (omega (arith, e))
-step_by f g h false n m e ft hf gf = rw ft (omega (arith, e))
-
--- with one more address known, the options form one address less, if they form that one
-one_less : (mac : Mac) (key : ℕ) (keys : List ℕ) (infos : List PrefixInfo) → is_among key keys ≡ false → new_in mac keys infos ≡ new_in mac (key ∷ keys) infos + count_if (is_formed_by mac key infos)
-one_less mac key keys [] new = refl
-one_less mac key keys (info ∷ infos) new = elim (cases_Bool (is_forming info)) [
-  | inr idle ↦ rw idle (one_less mac key keys infos new)
-  | inl forms ↦ elim (cases_Bool (eqb (named_by mac info) key)) [
-    | inl same ↦
-        let e : named_by mac info ≡ key = eqb-true (named_by mac info) key same in
-        let back : eqb key (named_by mac info) ≡ true = eq-eqb key (named_by mac info) (sym e) in
-        let free : is_among (named_by mac info) keys ≡ false = ap (λ k. is_among k keys) e ∙ new in
-        let again : is_formed_by mac (named_by mac info) infos ≡ is_formed_by mac key infos = ap (λ k. is_formed_by mac k infos) e in
-        rw (forms, same, back, free, again) (step_by true false false (is_formed_by mac key infos) (new_in mac keys infos) (new_in mac (key ∷ keys) infos) (one_less mac key keys infos new) refl refl refl)
-    | inr differ ↦
-        let back : eqb key (named_by mac info) ≡ false = grind (arith, nat_tests, differ) in
-        rw (forms, differ, back) (other_by (not (is_among (named_by mac info) keys) && not (is_formed_by mac (named_by mac info) infos)) (count_if (is_formed_by mac key infos)) (new_in mac keys infos) (new_in mac (key ∷ keys) infos) (one_less mac key keys infos new))
-  ]
-]
-  where
-    other_by : (b : Bool) (c n m : ℕ) → n ≡ m + c → cond b (n + 1) n ≡ cond b (m + 1) m + c
-    other_by true c n m e = omega (arith, e)
-    other_by false c n m e = e
-
-room_by : (b : Bool) (limit len n : ℕ) → len ≤ limit → (suc len ≤ limit → b ≡ leb (suc len + n) limit) → (ltb len limit && b) ≡ leb (len + (n + 1)) limit
-room_by b limit len n few rest = elim (cases_Bool (ltb len limit)) [
-  | inl lt ↦
-      let lt' : suc len ≤ limit = grind (arith, nat_tests, lt) in
-      let e : suc len + n ≡ len + (n + 1) = omega arith in
-      rw lt (rest lt' ∙ ap (λ k. leb k limit) e)
-  | inr ge ↦
-      let full : leb (len + (n + 1)) limit ≡ false = grind (arith, nat_tests, ge) in
-      rw (ge, full) refl
-]
-
--- there is room where those that are known and those that would be new are few enough
-pub fits_count : (limit : ℕ) (mac : Mac) (keys : List ℕ) (infos : List PrefixInfo) → length keys ≤ limit → fits_in limit mac keys infos ≡ leb (length keys + new_in mac keys infos) limit
-fits_count limit mac keys [] few = let e : leb (length keys + 0) limit ≡ true = grind (arith, nat_tests, few) in sym e
-fits_count limit mac keys (info ∷ infos) few = elim (cases_Bool (would_form mac keys info)) [
-  | inr idle ↦ rw idle (fits_count limit mac keys infos few)
-  | inl forms ↦
-      let key = named_by mac info in
-      let free : is_among key keys ≡ false = forms_free (is_forming info) (is_among key keys) forms in
-      let all : cond (not (is_formed_by mac key infos)) (new_in mac keys infos + 1) (new_in mac keys infos) ≡ new_in mac (key ∷ keys) infos + 1 =
-      step_by true false false (is_formed_by mac key infos) (new_in mac keys infos) (new_in mac (key ∷ keys) infos) (one_less mac key keys infos free) refl refl refl in
-      rw (forms, all) (room_by (fits_in limit mac (key ∷ keys) infos) limit (length keys) (new_in mac (key ∷ keys) infos) few (λ lt. fits_count limit mac (key ∷ keys) infos lt))
-]
-  where
-    forms_free : (f a : Bool) → (f && not a) ≡ true → a ≡ false
-    forms_free true true h = absurd (true≢false (sym h))
-    forms_free true false h = refl
-    forms_free false true h = absurd (true≢false (sym h))
-    forms_free false false h = refl
 
 -- which addresses are known, and how many, is all that counts
 pub fits_same : (limit : ℕ) (mac : Mac) (keys ks : List ℕ) (infos : List PrefixInfo) → ((key : ℕ) → is_among key keys ≡ is_among key ks) → length keys ≡ length ks → fits_in limit mac keys infos ≡ fits_in limit mac ks infos
@@ -209,34 +152,80 @@ comes_taken limit transmits now mac info delay retrans count (Ok Renewed) histor
 comes_taken limit transmits now mac info delay retrans count (Ok Ignored) history is positive = tt
 comes_taken limit transmits now mac info delay retrans count (Err full) history is positive = tt
 
--- all were looked at, and there was room
-pub fits_all : (limit : ℕ) (mac : Mac) (entries : List Address) (count : ℕ) (rest all : List PrefixInfo) → length entries ≤ limit → count ≤ limit → rest ≡ [] → count + new_in mac (keys_in entries) rest ≡ length entries + new_in mac (keys_in entries) all → true ≡ fits_in limit mac (keys_in entries) all
-fits_all limit mac entries count rest all few enough none is =
-    let len : length (keys_in entries) ≡ length entries = keys-length entries in
-    let small : new_in mac (keys_in entries) rest ≡ 0 = ap (new_in mac (keys_in entries)) none in
-    let le : length (keys_in entries) + new_in mac (keys_in entries) all ≤ limit = omega (arith, is, small, len) in
-    let yes' : leb (length (keys_in entries) + new_in mac (keys_in entries) all) limit ≡ true = grind (arith, nat_tests, le) in
-    sym (fits_count limit mac (keys_in entries) all (omega (arith, len)) ∙ yes')
+-- ---- by a walk over the options
 
-one_new : (b : Bool) (n : ℕ) → b ≡ true → cond b (n + 1) n ≡ n + 1
-one_new b n e = rw e refl
+-- the walk has come to these options: the addresses that are known, and those that options before these form, decide of them
+pub record Comes (limit : ℕ) (mac : Mac) (known : List ℕ) (formed : List Addr) (rest : List PrefixInfo) (fit : Bool) : Type 0 where
+  pub keys : List ℕ
+  pub among : (key : ℕ) → is_among key keys ≡ (is_among key known || is_listed key formed)
+  pub long : length keys ≡ length known + length formed
+  pub decides : fits_in limit mac keys rest ≡ fit
 
--- one more has no room
-pub fits_not : (limit : ℕ) (mac : Mac) (entries : List Address) (count : ℕ) (info : PrefixInfo) (behind rest all : List PrefixInfo) → length entries ≤ limit → limit ≤ count → rest ≡ info ∷ behind → true ≡ (would_form mac (keys_in entries) info && not (is_formed_by mac (named_by mac info) behind)) → count + new_in mac (keys_in entries) rest ≡ length entries + new_in mac (keys_in entries) all → false ≡ fits_in limit mac (keys_in entries) all
-fits_not limit mac entries count info behind rest all few full rest_is new is =
-    let len : length (keys_in entries) ≡ length entries = keys-length entries in
-    let one : new_in mac (keys_in entries) rest ≡ new_in mac (keys_in entries) behind + 1 = ap (new_in mac (keys_in entries)) rest_is ∙ one_new (would_form mac (keys_in entries) info && not (is_formed_by mac (named_by mac info) behind)) (new_in mac (keys_in entries) behind) (sym new) in
-    let gt : limit < length (keys_in entries) + new_in mac (keys_in entries) all = omega (arith, is, one, len) in
-    let no' : leb (length (keys_in entries) + new_in mac (keys_in entries) all) limit ≡ false = grind (arith, nat_tests, gt) in
-    sym (fits_count limit mac (keys_in entries) all (omega (arith, len)) ∙ no')
+pub comes_first : (limit : ℕ) (mac : Mac) (known : List ℕ) (infos : List PrefixInfo) → Comes limit mac known [] infos (fits_in limit mac known infos)
+comes_first limit mac known infos = record { keys = known; among = λ key. sym (or-false (is_among key known)); long = omega arith; decides = refl }
+
+module _ (limit : ℕ) (mac : Mac) (known : List ℕ) (formed : List Addr) (rest : List PrefixInfo) (info : PrefixInfo) (more : List PrefixInfo) (fit : Bool) (is : rest ≡ info ∷ more) (c : Comes limit mac known formed rest fit) where
+  forms_is : would_form mac c.keys info ≡ is_new mac known formed info
+  forms_is = ap (λ b. is_forming info && not b) (c.among (named_by mac info)) ∙ by (is_forming info) (is_among (named_by mac info) known) (is_listed (named_by mac info) formed)
+    where
+      by : (f a b : Bool) → (f && not (a || b)) ≡ ((f && not a) && not b)
+      by true true b = refl
+      by true false b = refl
+      by false a b = refl
+
+  first : fits_in limit mac c.keys (info ∷ more) ≡ fit
+  first = ap (λ (l : List PrefixInfo). fits_in limit mac c.keys l) (sym is) ∙ c.decides
+
+  -- an option that forms no other address
+  pub comes_past : is_new mac known formed info ≡ false → Comes limit mac known formed more fit
+  comes_past none = record {
+    keys = c.keys;
+    among = c.among;
+    long = c.long;
+    decides = sym (cond-false (would_form mac c.keys info) (ltb (length c.keys) limit && fits_in limit mac (named_by mac info ∷ c.keys) more) (fits_in limit mac c.keys more) (forms_is ∙ none)) ∙ first;
+  }
+
+  forming : is_new mac known formed info ≡ true → (ltb (length c.keys) limit && fits_in limit mac (named_by mac info ∷ c.keys) more) ≡ fit
+  forming new = sym (cond-true (would_form mac c.keys info) (ltb (length c.keys) limit && fits_in limit mac (named_by mac info ∷ c.keys) more) (fits_in limit mac c.keys more) (forms_is ∙ new)) ∙ first
+
+  -- one that does
+  pub comes_on : (addr : Addr) → is_new mac known formed info ≡ true → number_of addr.0 ≡ named_by mac info → length known + length formed < limit → Comes limit mac known (formed ++ addr ∷ []) more fit
+  comes_on addr new named lt = record {
+    keys = named_by mac info ∷ c.keys;
+    among = λ key. ap (λ b. eqb (named_by mac info) key || b) (c.among key)
+        ∙ (by (eqb (named_by mac info) key) (is_among key known) (is_listed key formed)
+        ∙ (ap (λ n. is_among key known || (is_listed key formed || (eqb n key || false))) (sym named)
+        ∙ ap (λ b. is_among key known || b) (sym (list_any-append (λ a. eqb (number_of a.0) key) formed (addr ∷ [])))));
+    long = omega (arith, c.long, length-append formed (addr ∷ []));
+    decides =
+        let room : ltb (length c.keys) limit ≡ true = grind (arith, nat_tests, c.long, lt) in
+        ap (λ b. b && fits_in limit mac (named_by mac info ∷ c.keys) more) (sym room) ∙ forming new;
+  }
+    where
+      by : (n a b : Bool) → (n || (a || b)) ≡ (a || (b || (n || false)))
+      by true true true = refl
+      by true true false = refl
+      by true false true = refl
+      by true false false = refl
+      by false true b = refl
+      by false false true = refl
+      by false false false = refl
+
+  -- one for which there is no room
+  pub comes_no_further : is_new mac known formed info ≡ true → limit ≤ length known + length formed → false ≡ fit
+  comes_no_further new full =
+      let none : ltb (length c.keys) limit ≡ false = grind (arith, nat_tests, c.long, full) in
+      ap (λ b. b && fits_in limit mac (named_by mac info ∷ c.keys) more) (sym none) ∙ forming new
 
 -- ---- by the bytes of the options
 
-new_few : (mac : Mac) (keys : List ℕ) (infos : List PrefixInfo) → new_in mac keys infos ≤ length infos
-new_few mac keys [] = omega arith
-new_few mac keys (info ∷ infos) = elim (cases_Bool (would_form mac keys info && not (is_formed_by mac (named_by mac info) infos))) [
-  | inl one ↦ rw one (omega (arith, new_few mac keys infos))
-  | inr none ↦ rw none (omega (arith, new_few mac keys infos))
+few_fit : (limit : ℕ) (mac : Mac) (keys : List ℕ) (infos : List PrefixInfo) → length keys + length infos ≤ limit → fits_in limit mac keys infos ≡ true
+few_fit limit mac keys [] le = refl
+few_fit limit mac keys (info ∷ infos) le = elim (cases_Bool (would_form mac keys info)) [
+  | inr idle ↦ rw idle (few_fit limit mac keys infos (omega (arith, le)))
+  | inl forms ↦
+      let room : ltb (length keys) limit ≡ true = grind (arith, nat_tests, le) in
+      rw (forms, room) (few_fit limit mac (named_by mac info ∷ keys) infos (omega (arith, le)))
 ]
 
 prefixes_few : (options : List Said) → 32 * length (prefixes_in options) ≤ sizes options
@@ -255,5 +244,4 @@ pub fits_bytes : (limit : ℕ) (mac : Mac) (entries : List Address) (options : L
 fits_bytes limit mac entries options bytes enough few =
     let keys = keys-length entries in
     let most = prefixes_few options in
-    let new = new_few mac (keys_in entries) (prefixes_in options) in
-    fits_count limit mac (keys_in entries) (prefixes_in options) (omega (arith, keys, few)) ∙ le-leb _ _ (omega (arith, keys, most, new, enough, few))
+    few_fit limit mac (keys_in entries) (prefixes_in options) (omega (arith, keys, most, enough, few))

@@ -115,7 +115,7 @@ module _ (transmits : ℕ) where
   stage_falls : (key now : ℕ) (st : Stage) → stage_date st ≡ Some now → (falls_by transmits key st ≡ Solicits key) ⊎ (falls_by transmits key st ≡ Assigns key)
   stage_falls key now Failed h = absurd (cc)
   stage_falls key now Passed h = absurd (cc)
-  stage_falls key now (Detecting sent due retrans) h = elim (cases_Bool (ltb sent transmits)) [
+  stage_falls key now (Detecting sent retrans due) h = elim (cases_Bool (ltb sent transmits)) [
     | inl more ↦ inl (rw more refl)
     | inr last ↦ inr (rw last refl)
   ]
@@ -233,14 +233,14 @@ module _ (transmits : ℕ) where
   turns-remove (x ∷ xs) (suc i) a lt is = omega (arith, turns-remove xs i a (omega arith) is)
 
   some_turn : (st : Stage) → 0 < turns_to transmits st
-  some_turn (Detecting sent due retrans) = omega arith
+  some_turn (Detecting sent retrans due) = omega arith
   some_turn Failed = omega arith
   some_turn Passed = omega arith
 
   fewer_to : (now : ℕ) (st : Stage) → stage_date st ≡ Some now → turns_to transmits (stage_after transmits now st) < turns_to transmits st
   fewer_to now Failed h = absurd (cc)
   fewer_to now Passed h = absurd (cc)
-  fewer_to now (Detecting sent due retrans) h = elim (cases_Bool (ltb sent transmits)) [
+  fewer_to now (Detecting sent retrans due) h = elim (cases_Bool (ltb sent transmits)) [
     | inl more ↦ let lt : sent < transmits = grind (arith, nat_tests, more) in rw more (omega arith)
     | inr last ↦ rw last (omega arith)
   ]
@@ -254,7 +254,7 @@ module _ (transmits : ℕ) where
   later_to : (now : ℕ) (st : Stage) → NotBefore now (stage_date (stage_after transmits now st))
   later_to now Failed = tt
   later_to now Passed = tt
-  later_to now (Detecting sent due retrans) = elim (cases_Bool (ltb sent transmits)) [
+  later_to now (Detecting sent retrans due) = elim (cases_Bool (ltb sent transmits)) [
     | inl more ↦ rw more (omega arith)
     | inr last ↦ rw last tt
   ]

@@ -19,7 +19,7 @@ pub went : (transmits now : ℕ) (xs new : List Address) (i : ℕ) (a : Address)
 went transmits now xs new i a what lt first is what_is gone = Goes i a lt is (first_is end_date now xs i a lt first is) what_is gone
 
 detects : (st : Stage) (now : ℕ) → stage_date st ≡ Some now → is_detecting st ≡ true
-detects (Detecting sent due retrans) now h = refl
+detects (Detecting sent retrans due) now h = refl
 detects Failed now h = absurd (cc)
 detects Passed now h = absurd (cc)
 

@@ -17,7 +17,7 @@ pub record Address : Type 0 where
 abbrev pub stage_by : Forming → Bool → Bool → ℕ → Stage
 stage_by f true assigned sent = Failed
 stage_by f false true sent = Passed
-stage_by f false false sent = Detecting sent (step_at f sent) f.retrans
+stage_by f false false sent = Detecting sent f.retrans (step_at f sent)
 
 abbrev pub address_by : ℕ → Option Forming → Bool → Bool → ℕ → Option ℕ → Option ℕ → Option Address
 address_by key None conflict assigned sent preferred valid = None
@@ -30,6 +30,6 @@ address_of key s = address_by key (forming_of s) (has_conflict s) (was_assigned 
 
 -- the state at a moment of what is kept
 abbrev pub state_in : Stage → Option ℕ → ℕ → State
-state_in (Detecting sent due retrans) end t = state_by false false end t
+state_in (Detecting sent retrans due) end t = state_by false false end t
 state_in Failed end t = state_by true false end t
 state_in Passed end t = state_by false true end t

@@ -25,9 +25,9 @@ keys_in addresses = map key_of addresses
 -- an address as it is formed
 abbrev pub formed : ℕ → ℕ → ℕ → ℕ → Option Lifetimes → Address
 formed key now delay retrans None =
-    record { key = key; preferred_end = None; valid_end = None; stage = Detecting 0 (now + delay) retrans }
+    record { key = key; preferred_end = None; valid_end = None; stage = Detecting 0 retrans (now + delay) }
 formed key now delay retrans (Some lifetimes) =
-    record { key = key; preferred_end = end_time now lifetimes.preferred; valid_end = end_time now lifetimes.valid; stage = Detecting 0 (now + delay) retrans }
+    record { key = key; preferred_end = end_time now lifetimes.preferred; valid_end = end_time now lifetimes.valid; stage = Detecting 0 retrans (now + delay) }
 
 -- an address whose prefix is announced again
 abbrev pub announced : ℕ → Lifetimes → Address → Address
@@ -39,7 +39,7 @@ abbrev pub failed : Address → Address
 failed a = record { key = a.key; preferred_end = a.preferred_end; valid_end = a.valid_end; stage = Failed }
 
 abbrev pub is_detecting : Stage → Bool
-is_detecting (Detecting sent due retrans) = true
+is_detecting (Detecting sent retrans due) = true
 is_detecting Failed = false
 is_detecting Passed = false
 

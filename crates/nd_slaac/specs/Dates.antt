@@ -13,7 +13,7 @@ abbrev pub end_date : Address → Option ℕ
 end_date a = a.valid_end
 
 abbrev pub stage_date : Stage → Option ℕ
-stage_date (Detecting sent due retrans) = Some due
+stage_date (Detecting sent retrans due) = Some due
 stage_date Failed = None
 stage_date Passed = None
 
@@ -38,13 +38,13 @@ NoneBefore addresses now = NotBefore now (next_in addresses)
 
 -- the step that an address takes, where a detection sends so many solicitations
 abbrev pub falls_by : ℕ → ℕ → Stage → Falls
-falls_by transmits key (Detecting sent due retrans) = if nat_lt sent transmits then Solicits key else Assigns key
+falls_by transmits key (Detecting sent retrans due) = if nat_lt sent transmits then Solicits key else Assigns key
 falls_by transmits key Failed = Ends key
 falls_by transmits key Passed = Ends key
 
 -- and its stage afterwards
 abbrev pub stage_after : ℕ → ℕ → Stage → Stage
-stage_after transmits now (Detecting sent due retrans) = if nat_lt sent transmits then Detecting (sent + 1) (now + retrans) retrans else Passed
+stage_after transmits now (Detecting sent retrans due) = if nat_lt sent transmits then Detecting (sent + 1) retrans (now + retrans) else Passed
 stage_after transmits now Failed = Failed
 stage_after transmits now Passed = Passed
 
@@ -63,7 +63,7 @@ pub record Rests (now : ℕ) (addresses : List Address) : Type 0 where
 
 -- how many turns an address can still take, where nothing else happens
 abbrev pub turns_to : ℕ → Stage → ℕ
-turns_to transmits (Detecting sent due retrans) = transmits - sent + 2
+turns_to transmits (Detecting sent retrans due) = transmits - sent + 2
 turns_to transmits Failed = 1
 turns_to transmits Passed = 1
 

@@ -26,10 +26,10 @@ pub record IsTo (counted : Counted) (history : List Row) (destination : Addr) : 
 
 -- the same of what is kept
 abbrev pub counts_in : Counted → Stage → Bool
-counts_in Own (Detecting sent due retrans) = true
+counts_in Own (Detecting sent retrans due) = true
 counts_in Own Failed = false
 counts_in Own Passed = true
-counts_in Assigned (Detecting sent due retrans) = false
+counts_in Assigned (Detecting sent retrans due) = false
 counts_in Assigned Failed = false
 counts_in Assigned Passed = true
 

@@ -134,7 +134,7 @@ impl Entry {
         ensures due { falls_of result ≡ falls_by transmits self.old.key self.old.stage }
     {
         match &mut self.stage {
-            Stage::Detecting { sent, due, retrans } if *sent < transmits.number() => {
+            Stage::Detecting { sent, retrans, due } if *sent < transmits.number() => {
                 *sent += 1;
                 *due = now + u64::from(*retrans);
                 Due::Solicit(self.addr)

@@ -1,17 +1,17 @@
 //! Room for the addresses that prefix options form (RFC 4862, section 5.5.3). The definitions are in `specs/Room.antt`.
 
-ghost use Rattle.std.specs.Prelude.{◌≡◌, ◌≤◌, ◌&&◌, ◌==◌, not, length, List, true, is_some};
+ghost use Rattle.std.specs.Prelude.{◌≡◌, ◌≤◌, ◌&&◌, not, length, List, MatchOption, true, false, is_some};
 ghost use Rattle.nd_addr.specs.Number.{number_of};
 ghost use Rattle.nd_decode.specs.Pieces.{options_left};
 ghost use Rattle.nd_slaac.specs.PrefixOption.{is_forming, named_by, prefixes_in};
 ghost use Rattle.nd_slaac.specs.Room.{is_among, would_form, fits_in, max_addresses};
-ghost use Rattle.nd_slaac.specs.RoomKept.{is_formed_by};
+ghost use Rattle.nd_slaac.specs.RoomKept.{is_listed, is_new};
 ghost use Rattle.nd_table.specs.Keyed.{Rises};
 ghost use Rattle.nd_slaac.specs.TableKept.{key_of};
 ghost use Rattle.nd_slaac.specs.Calls.{keys_in};
 ghost use Rattle.nd_decode.specs.declared.prefix_info.PrefixInfo.{PrefixInfo};
 
-use crate::addresses::Addresses;
+use crate::addresses::{Addresses, MAX_ADDRESSES};
 use crate::entry::Entry;
 use crate::prefix_option::{is_taken, named_by};
 use nd_addr::{Addr, Mac};
@@ -69,57 +69,66 @@ pub(crate) fn would_form(entries: &[Entry], mac: Mac, info: &PrefixInfo) -> bool
     is_forming(info) && !is_known(entries, named_by(info, mac))
 }
 
-/// Returns true if an option forms this address unless that is known.
-fn forms(info: &PrefixInfo, mac: Mac, addr: Addr) -> bool
-    ensures { result ≡ (is_forming info.now && (named_by mac info.now == number_of addr.0)) }
+/// Returns true if an address is among these.
+fn is_listed(addrs: &[Addr], addr: Addr) -> bool
+    ensures { result ≡ is_listed (number_of addr.0) addrs.now }
 {
-    is_forming(info) && compare(named_by(info, mac), addr).is_eq()
-}
-
-/// Returns true if some option forms this address unless that is known.
-#[tactic(auto, using(crate::proofs::OfType::prefixes_by_first))]
-fn is_formed_by(options: Options<'_>, mac: Mac, addr: Addr) -> bool
-    ensures { result ≡ is_formed_by mac (number_of addr.0) (prefixes_in (options_left options.entry)) }
-{
-    let mut rest = options;
-    while let Some(info) = rest.next_prefix() {
-        if forms(&info, mac, addr) {
+    for other in addrs {
+        if compare(*other, addr).is_eq() {
             return true;
         }
     }
     false
 }
 
+/// Returns the address that an option would form, given room for it, unless it is among those that options before it form.
+fn new_address(entries: &[Entry], mac: Mac, info: &PrefixInfo, formed: &[Addr]) -> Option<Addr>
+    requires { Rises key_of entries.now }
+    ensures { MatchOption result (is_new mac (keys_in entries.now) formed.now info.now ≡ false) (λ addr. (is_new mac (keys_in entries.now) formed.now info.now ≡ true) × (number_of addr.0 ≡ named_by mac info.now)) }
+{
+    if !would_form(entries, mac, info) {
+        return None;
+    }
+    let addr = named_by(info, mac);
+    if is_listed(formed, addr) {
+        return None;
+    }
+    Some(addr)
+}
+
 /// Returns true if there is room for each address that the options would form.
-#[tactic(auto, using(crate::proofs::OfType::prefixes_by_first))]
 pub(crate) fn fits(entries: &[Entry], limit: usize, mac: Mac, options: Options<'_>) -> bool
     requires few { length entries.now ≤ limit }
     requires most { limit ≤ max_addresses }
     requires order { Rises key_of entries.now }
     ensures { result ≡ fits_in limit mac (keys_in entries.now) (prefixes_in (options_left options.entry)) }
 {
-    let mut count = entries.len();
     // Mostly there is room for as many as the bytes of the options could form.
-    if count + options.byte_len() / PrefixInfo::BYTES <= limit {
+    if entries.len() + options.byte_len() / PrefixInfo::BYTES <= limit {
         return true;
     }
+    fit_in_order(entries, limit, mac, options)
+}
+
+/// Returns true if there is room for each address that the options would form, taken in their order.
+#[tactic(auto, using(crate::proofs::OfType::prefixes_by_first))]
+fn fit_in_order(entries: &[Entry], limit: usize, mac: Mac, options: Options<'_>) -> bool
+    requires few { length entries.now ≤ limit }
+    requires most { limit ≤ max_addresses }
+    requires order { Rises key_of entries.now }
+    ensures { result ≡ fits_in limit mac (keys_in entries.now) (prefixes_in (options_left options.entry)) }
+{
+    let mut formed = [Addr([0; 16]); MAX_ADDRESSES];
+    let mut count = 0;
     let mut rest = options;
     while let Some(info) = rest.next_prefix() {
-        // An address that several options would form is counted at the last of them.
-        if is_new(entries, mac, &info, rest) {
-            if count >= limit {
+        if let Some(addr) = new_address(entries, mac, &info, &formed[..count]) {
+            if entries.len() + count >= limit {
                 return false;
             }
+            formed[count] = addr;
             count += 1;
         }
     }
     true
-}
-
-/// Returns true if an option would form an address, and none of the options after it would form the same.
-fn is_new(entries: &[Entry], mac: Mac, info: &PrefixInfo, behind: Options<'_>) -> bool
-    requires { Rises key_of entries.now }
-    ensures { result ≡ (would_form mac (keys_in entries.now) info.now && not (is_formed_by mac (named_by mac info.now) (prefixes_in (options_left behind.entry)))) }
-{
-    would_form(entries, mac, info) && !is_formed_by(behind, mac, named_by(info, mac))
 }

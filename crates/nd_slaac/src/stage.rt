@@ -10,10 +10,10 @@ pub(crate) enum Stage {
     Detecting {
         /// The number of solicitations sent.
         sent: u8,
-        /// The moment of the next step, in milliseconds: a further solicitation, or the assignment.
-        due: u64,
         /// The time between two steps, in milliseconds.
         retrans: u32,
+        /// The moment of the next step, in milliseconds: a further solicitation, or the assignment.
+        due: u64,
     },
     /// It failed: another node has the address or tries it.
     Failed,
@@ -25,12 +25,12 @@ impl Stage {
     /// Returns a detection that begins at `now`; its first solicitation waits for `delay`. Moment and times are in milliseconds.
     pub(crate) fn begin(now: u64, delay: u32, retrans: u32) -> Self
         requires { IsMoment now }
-        ensures { result ≡ Stage.Detecting 0 (now + delay) retrans }
+        ensures { result ≡ Stage.Detecting 0 retrans (now + delay) }
     {
         Stage::Detecting {
             sent: 0,
-            due: now + u64::from(delay),
             retrans,
+            due: now + u64::from(delay),
         }
     }
 }
