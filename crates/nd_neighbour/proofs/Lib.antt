@@ -18,3 +18,4 @@ pub mod Releasing
 pub mod Unique
 pub mod Second
 pub mod Planning
+pub mod Waiting

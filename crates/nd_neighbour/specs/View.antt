@@ -14,7 +14,7 @@ use Rattle.nd_neighbour.specs.Due.{Falls, Multicasts, Unicasts, Fails, Ages}
 use Rattle.nd_neighbour.specs.Sending.{Sending, Sends, Queues}
 
 abbrev pub stage_of : {A : Type 0} → held.Stage A → Stage
-stage_of (variant.Resolving retrans sent waiting) = Resolving retrans sent waiting
+stage_of (variant.Resolving sent retrans waiting) = Resolving retrans sent waiting
 stage_of (variant.Known mac confirmed since probing) = Known (number_of mac.0) confirmed since probing
 
 abbrev pub sending_of : {A : Type 0} → Use A → Sending

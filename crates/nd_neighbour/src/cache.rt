@@ -33,12 +33,13 @@ impl<A: Allocator> Model for Cache<A> {
     ghost use Rattle.std.specs.Vec.{vec_len, vec_capacity};
     ghost use Rattle.nd_neighbour.specs.TableKept.{Table};
     ghost use Rattle.nd_neighbour.specs.Planned.{IsPlanned};
+    ghost use Rattle.nd_neighbour.specs.Rings.{RoomWithin};
 
     ghost Value = { Table };
 
     ghost view = { λ c. record { limit = c.limit; entries = c.entries.items; waiting = c.rings.room; rings = c.rings.count } };
 
-    ghost invariant = { λ c. (vec_len c.entries ≤ c.limit) × (c.limit ≤ vec_capacity c.entries) × (c.limit ≤ c.dates.room) × IsPlanned c.entries.items c.dates };
+    ghost invariant = { λ c. (vec_len c.entries ≤ c.limit) × (c.limit ≤ vec_capacity c.entries) × (c.limit ≤ c.dates.room) × IsPlanned c.entries.items c.dates × RoomWithin c.rings.room c.entries.items };
 }
 
 impl<A: Allocator + Clone> Cache<A> {

@@ -30,10 +30,10 @@ pub(crate) struct Entry<A: Allocator> {
 pub(crate) enum Stage<A: Allocator> {
     /// INCOMPLETE: its link-layer address is being resolved (RFC 4861, section 7.2.2).
     Resolving {
+        /// The number of solicitations sent after the first. It stands before `retrans`, so that an entry takes 72 bytes and not 80.
+        sent: u8,
         /// RetransTimer when it began: the time between two solicitations, in milliseconds.
         retrans: u32,
-        /// The number of solicitations sent after the first.
-        sent: u8,
         waiting: Waiting<A>,
     },
     /// REACHABLE, STALE, DELAY or PROBE: its link-layer address is known.

@@ -6,6 +6,7 @@ ghost use Rattle.nd_packet.specs.Waiting.{max_waiting};
 ghost use Rattle.nd_neighbour.specs.TableKept.{entry_in, Rises};
 ghost use Rattle.nd_neighbour.specs.Planned.{IsPlanned};
 ghost use Rattle.nd_neighbour.specs.Removal.{Removes, all_waiting, waiting_at};
+ghost use Rattle.nd_neighbour.specs.Rings.{RoomWithin};
 
 use crate::cache::Cache;
 use crate::entry::{Entry, Stage};
@@ -32,11 +33,12 @@ impl<A: Allocator> Cache<A> {
         remove(&mut self.entries, &mut self.dates, addr)
     }
 
-    /// Returns the number of packets that wait for a neighbour, at most eight: `heard`, `turn` and `forget` return no more of its packets.
+    /// Returns the number of packets that wait for a neighbour, at most as many as may wait: `heard`, `turn` and `forget` return no more of them.
     pub fn waiting_at(&self, addr: Addr) -> usize
         ensures value { result ≡ length (waiting_at (entry_in (number_of addr.0) self.now.entries)) }
         ensures by_history { (history : List Row) → Stands self.now.entries history → result ≡ length (waits_of (story (number_of addr.0) history)) }
         ensures few { result ≤ max_waiting }
+        ensures limit { result ≤ self.now.waiting }
     {
         count_at(&self.entries, addr)
     }
@@ -97,6 +99,7 @@ pub(crate) fn remove<A: Allocator>(
 fn count_at<A: Allocator>(entries: &[Entry<A>], addr: Addr) -> usize
     requires { Rises entries.now }
     ensures few { result ≤ max_waiting }
+    ensures limit { (room : ℕ) → RoomWithin room entries.now → result ≤ room }
     ensures value { result ≡ length (waiting_at (entry_in (number_of addr.0) entries.now)) }
 {
     match find(entries, addr) {
@@ -149,6 +152,7 @@ pub(crate) fn take_all<A: Allocator + Clone>(
 
 impl<A: Allocator> Entry<A> {
     ghost use Rattle.nd_neighbour.specs.EntryKept.{waiting_in};
+    ghost use Rattle.nd_neighbour.specs.Rings.{room_of};
 
     /// Returns the packets that wait at an entry that is removed. Packets wait in INCOMPLETE alone (RFC 4861, section 7.2.2).
     pub(crate) fn packets(self) -> Packets<A>
@@ -164,6 +168,7 @@ impl<A: Allocator> Entry<A> {
     pub(crate) fn waiting(&self) -> usize
         ensures value { result ≡ length (waiting_in self.now.stage) }
         ensures few { result ≤ max_waiting }
+        ensures room { result ≤ room_of self.now.stage }
     {
         match &self.stage {
             Stage::Resolving { waiting, .. } => waiting.len(),

@@ -63,6 +63,7 @@ impl<A: Allocator + Clone> Rings<A> {
     /// Returns a ring for a new entry: one in reserve, or a new one. Returns an error if out of memory.
     pub(crate) fn take_or_make(&mut self, alloc: &A) -> Result<Ring<A>, AllocError>
         ensures room { IfOk result (λ ring. ring.waiting.room ≡ self.old.room) }
+        ensures least { 1 ≤ self.old.room }
         ensures in_hand { 1 ≤ self.old.count → IsOk result }
         ensures fewer { OnOk result (self.new ≡ record { room = self.old.room; count = self.old.count - 1 }) }
         ensures same { OnErr result (self.new ≡ self.old) }

@@ -13,6 +13,7 @@ use Rattle.nd_neighbour.proofs.Results.{if_ok_both}
 use Rattle.nd_neighbour.proofs.NewsCalls.{given_key, given_hears, advertised_gains, marked_gains, given_tells, advertised_tells, marked_tells, few_released}
 use Rattle.nd_neighbour.proofs.Second.{gives_there}
 use Rattle.nd_neighbour.proofs.Planning.{marked_planned}
+use Rattle.nd_neighbour.proofs.Waiting.{news_within, marked_within}
 use Rattle.nd_neighbour.proofs.cache.Cache.heard.Goals as goal
 
 pub returns-in-Given-clause-stands : goal.returns-in-Given-clause-stands
@@ -103,6 +104,17 @@ invariant_of-self-in-Marked g c =
       subst (λ (n : ℕ). c.self.inside.limit ≤ n) (sym c.mark.ensures.capacity) was.1,
       was.2,
       marked_planned (number_of c.in-Marked.addr.0) c.in-Marked.router c.self.inside.entries.items c.mark.new.entries.items c.self.inside.dates c.mark.ensures.alters was.3,
+      marked_within c.self.inside.rings.room (number_of c.in-Marked.addr.0) c.in-Marked.router c.self.inside.entries.items c.mark.new.entries.items c.mark.ensures.alters was.4,
+    )
+
+pub invariant_of-self : goal.invariant_of-self
+invariant_of-self g c =
+    let was = c.self.invariant in (
+      c.give_or_enter.ensures.few,
+      subst (λ (n : ℕ). c.self.inside.limit ≤ n) (sym c.give_or_enter.ensures.capacity) was.1,
+      subst (λ (n : ℕ). c.self.inside.limit ≤ n) (sym c.give_or_enter.ensures.room) was.2,
+      c.give_or_enter.ensures.planned,
+      news_within c.self.inside.rings.room c.self.inside.limit c.args.now (number_of c.in-Given.addr.0) (number_of c.in-Given.mac.0) c.in-Given.mark _ _ c.give_or_enter.result c.give_or_enter.ensures.gives c.give_or_enter.ensures.same was.4,
     )
 
 pub returns-in-Given-clause-was_known : goal.returns-in-Given-clause-was_known

@@ -2,6 +2,7 @@ use Rattle.std.proofs.Common.{◌≡◌, List, [], ap, sym, subst, arith, rules}
 use Rattle.nd_table.specs.Dates.{Planned, has}
 use Rattle.nd_neighbour.specs.EntryKept.{NeighbourEntry}
 use Rattle.nd_neighbour.specs.Planned.{IsPlanned}
+use Rattle.nd_neighbour.specs.Rings.{RoomWithin}
 use Rattle.nd_neighbour.specs.TableKept.{Stands}
 use Rattle.nd_neighbour.proofs.cache.Cache.new.Goals as goal
 
@@ -22,6 +23,7 @@ invariant_of-result g c = (
   omega (arith, c.in_ok-entries.ensures.capacity),
   omega (arith, c.in_ok-dates.ensures.room),
   none_planned c.in_ok-entries.entries.items c.in_ok-dates.dates c.in_ok-entries.ensures.items c.in_ok-dates.ensures.none,
+  subst (λ (l : List NeighbourEntry). RoomWithin c.new-2.result.room l) (sym c.in_ok-entries.ensures.items) tt,
 )
 
 pub returns-clause-stands : goal.returns-clause-stands

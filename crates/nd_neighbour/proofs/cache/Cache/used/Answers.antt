@@ -1,16 +1,18 @@
 use Rattle.std.specs.Prelude.{is_some}
 use Rattle.std.proofs.lemmas.Bool.{cond-true}
-use Rattle.std.proofs.Common.{◌≡◌, ◌-◌, ◌∙◌, ℕ, sym, ap, subst, Option, None}
+use Rattle.std.proofs.Common.{◌≡◌, ◌≤◌, ◌-◌, ◌∙◌, ℕ, max, sym, ap, subst, arith, Option, None}
 use Rattle.nd_addr.specs.Number.{number_of}
 use Rattle.nd_neighbour.specs.EntryKept.{NeighbourEntry}
 use Rattle.nd_neighbour.specs.AddressResolutionKept.{asked_entry}
 use Rattle.nd_neighbour.specs.TableKept.{Table, entry_in, Alters}
 use Rattle.nd_neighbour.specs.PlaceKept.{Gives}
 use Rattle.nd_neighbour.specs.SendingKept.{used, sending_in}
+use Rattle.nd_neighbour.specs.Rings.{Rings, RoomWithin}
 use Rattle.nd_neighbour.specs.View.{sending_of}
 use Rattle.nd_neighbour.proofs.Finds.{was_there, not_there, no_rings, holding, has_place_there}
 use Rattle.nd_neighbour.proofs.PacketCalls.{takes_packet, sending_by_history}
 use Rattle.nd_neighbour.proofs.Second.{leaves_room}
+use Rattle.nd_neighbour.proofs.Waiting.{begun_within}
 use Rattle.nd_neighbour.proofs.cache.Cache.used.Goals as goal
 
 pub returns-in-Ok-clause-stands : goal.returns-in-Ok-clause-stands
@@ -91,3 +93,18 @@ pub returns-in-Ok-clause-rings : goal.returns-in-Ok-clause-rings
 returns-in-Ok-clause-rings g c =
     let held = holding c.args.self.now.limit c.args.now (number_of c.args.addr.0) c.args.self.now.entries c.deref.result.now c.in-Ok.i (c.deref.ensures.value ∙ ap (λ (t : Table). t.entries) c.self.view_is) c.in-Ok.ensures.within c.in-Ok.ensures.found in
     ap (λ (t : Table). t.rings) c.self.view_is ∙ sym (cond-true (is_some (entry_in (number_of c.args.addr.0) c.args.self.now.entries)) c.args.self.now.rings (c.args.self.now.rings - 1) held)
+
+pub invariant_of-self-2 : goal.invariant_of-self-2
+invariant_of-self-2 g c =
+    let was = c.self.invariant in
+    let key = number_of c.args.addr.0 in
+    let same : c.take_or_make.new.self.room ≡ c.self.inside.rings.room = ap (λ (r : Rings). r.room) c.in-Ok-take_or_make.ensures.fewer in
+    let least : 1 ≤ c.self.inside.rings.room = c.take_or_make.ensures.least in
+    let fit : max 1 c.in-Ok-take_or_make.ring.waiting.room ≤ c.self.inside.rings.room = omega (arith, least, c.in-Ok-take_or_make.ensures.room) in (
+      c.begin.ensures.few,
+      subst (λ (n : ℕ). c.self.inside.limit ≤ n) (sym c.begin.ensures.capacity) was.1,
+      subst (λ (n : ℕ). c.self.inside.limit ≤ n) (sym c.begin.ensures.room) was.2,
+      c.begin.ensures.planned,
+      subst (λ (n : ℕ). RoomWithin n c.begin.new.entries.items) (sym same)
+          (begun_within c.self.inside.rings.room c.self.inside.limit c.args.now key c.args.times.retrans c.args.packet (asked_entry key c.args.now c.args.times.retrans c.in-Ok-take_or_make.ring.waiting.room c.args.packet) _ _ fit c.begin.ensures.gives was.4),
+    )

@@ -1,7 +1,9 @@
-use Rattle.std.proofs.Common.{◌∙◌, ap, length}
+use Rattle.std.proofs.Common.{◌≤◌, ◌∙◌, List, ap, length, subst, sym}
 use Rattle.nd_addr.specs.Number.{number_of}
 use Rattle.nd_neighbour.specs.TableKept.{Table, entry_in}
+use Rattle.nd_neighbour.specs.EntryKept.{NeighbourEntry}
 use Rattle.nd_neighbour.specs.Removal.{waiting_at}
+use Rattle.nd_neighbour.specs.Rings.{RoomWithin}
 use Rattle.nd_neighbour.proofs.Forgetting.{waits_by_history}
 use Rattle.nd_neighbour.proofs.cache.Cache.waiting_at.Goals as goal
 
@@ -16,3 +18,9 @@ returns-clause-by_history g c history s =
     c.count_at.ensures.value
     ∙ (ap (λ xs. length (waiting_at (entry_in key xs))) (c.deref.ensures.value ∙ ap (λ (t : Table). t.entries) c.self.view_is)
     ∙ ap length (waits_by_history key c.args.self.now.entries history s))
+
+pub returns-clause-limit : goal.returns-clause-limit
+returns-clause-limit g c =
+    let room = c.self.inside.rings.room in
+    subst (λ (t : Table). c.count_at.result ≤ t.waiting) c.self.view_is
+    (c.count_at.ensures.limit room (subst (λ (l : List NeighbourEntry). RoomWithin room l) (sym c.deref.ensures.value) c.self.invariant.4))
