@@ -41,10 +41,10 @@ contents_of mac history = option_map (contents mac (offers_of history)) (adverti
 abbrev pub last_contents_of : Mac → List Row → Option Parts
 last_contents_of mac history = option_map (last_contents mac (offers_of history)) (advertised_by history)
 
--- the bytes of the options at most: the first two, and 16 prefixes
-abbrev pub max_options_length : ℕ
-max_options_length = 8 + 8 + 16 * 32
+-- the bytes of the options at most: the first two, and so many prefixes
+abbrev pub options_length : ℕ → ℕ
+options_length offers = 8 + 8 + 32 * offers
 
--- the bytes of a message at most: the fields, and the options
-abbrev pub max_contents_length : ℕ
-max_contents_length = 16 + max_options_length
+-- the bytes of a message at most, with so many prefixes: the fields, and the options
+abbrev pub contents_length : ℕ → ℕ
+contents_length offers = 16 + options_length offers

@@ -7,4 +7,5 @@ pub mod Advertising
 pub mod Table
 pub mod Calls
 pub mod Contents
+pub mod Message
 pub mod Overdue

@@ -1,123 +1,127 @@
-ghost use Rattle.std.specs.Prelude.{◌≡◌, ◌≤◌, List, [], IfOk, IfSome, length, map, option_map};
+ghost use Rattle.std.specs.Prelude.{◌≡◌, ◌+◌, ◌≤◌, List, [], IfSome, length, map, option_map};
 ghost use Rattle.std.specs.List.{AllByRecursion, flat_map};
 ghost use Rattle.nd_decode.specs.declared.body.Body.TheVariants.{Ra};
 ghost use Rattle.nd_decode.specs.Option.{prefix};
 ghost use Rattle.nd_message.specs.Fitting.{FitsOption};
-ghost use Rattle.nd_message.specs.Owned.{said, whole};
+ghost use Rattle.nd_message.specs.Owned.{said};
 ghost use Rattle.nd_message.specs.Spelling.{piece_of, written_length};
 ghost use Rattle.nd_message.specs.WellFormed.{IsMediumAtZero, IsWellFormed};
 ghost use Rattle.nd_advertiser.specs.Calls.{settings_in};
-ghost use Rattle.nd_advertiser.specs.Contents.{contents, contents_of, last_contents, last_contents_of, max_contents_length, max_options_length, options_of, without_lifetime};
-ghost use Rattle.nd_advertiser.specs.Offers.{max_offers};
+ghost use Rattle.nd_advertiser.specs.Contents.{contents, contents_length, contents_of, last_contents, last_contents_of, options_length, options_of, without_lifetime};
+ghost use Rattle.nd_advertiser.specs.Message.{message_in};
 
 use crate::advertiser::Advertiser;
 use crate::offer::Offer;
+use arrayvec::ArrayVec;
 use nd_addr::{Mac, Preference};
 use nd_decode::{Body, RouterAdvertisement};
-use nd_message::{Message, Opt};
-use std::alloc::{AllocError, Allocator};
+use nd_message::Opt;
+use std::alloc::{Allocator, Global};
 
-/// The length of the longest advertisement, in bytes: 16 of fields, 8 of the link-layer address, 8 of the MTU, and 32 of each of 16 offers (RFC
-/// 4861, section 4.2).
-pub const MAX_CONTENTS_LENGTH: usize = 544;
+/// The length of an advertisement without offers at most, in bytes: 16 of fields, 8 of the link-layer address, and 8 of the MTU (RFC 4861, section
+/// 4.2).
+const FIRST_LENGTH: usize = 32;
 
-/// The most options of an advertisement besides the offers: the link-layer address and the MTU.
-const MAX_FIRST_OPTIONS: usize = 2;
+/// The length of the option of an offer, in bytes (RFC 4861, section 4.6.2).
+const PREFIX_LENGTH: usize = 32;
+
+/// The most options of an advertisement: the link-layer address, the MTU, and 16 offers.
+const MAX_OPTIONS: usize = 18;
+
+/// What an advertisement says, in place: it takes no memory.
+#[derive(Drop)]
+pub struct Contents {
+    /// Its type and its fields.
+    pub body: Body,
+    /// Its options in their order.
+    pub options: ArrayVec<Opt<Global>, MAX_OPTIONS>,
+}
 
 impl<A: Allocator> Advertiser<A> {
     ghost use Rattle.nd_advertiser.specs.History.{Row};
     ghost use Rattle.nd_advertiser.specs.Table.{Stands};
 
-    /// Returns what it advertises now, if it does, from an interface of this Ethernet address (RFC 4861, section 6.2.3), in `MAX_CONTENTS_LENGTH`
-    /// bytes at most. Returns an error if out of memory.
-    pub fn contents<B: Allocator>(
-        &self,
-        alloc: B,
-        mac: Mac,
-    ) -> Result<Option<Message<B>>, AllocError>
-        ensures value { IfOk result (λ found. option_map whole found ≡ option_map (contents mac self.now.offers) (settings_in self.now.advertising)) }
-        ensures by_history { (history : List Row) → Stands self.now history → IfOk result (λ found. option_map whole found ≡ contents_of mac history) }
-        ensures formed { IfOk result (λ found. IfSome found (λ message. IsWellFormed (whole message))) }
-        ensures short { IfOk result (λ found. IfSome found (λ message. written_length (whole message) ≤ max_contents_length)) }
+    /// Returns what it advertises now, if it does, from an interface of this Ethernet address (RFC 4861, section 6.2.3), in `longest` bytes at most.
+    pub fn contents(&self, mac: Mac) -> Option<Contents>
+        ensures value { option_map message_in result ≡ option_map (contents mac self.now.offers) (settings_in self.now.advertising) }
+        ensures by_history { (history : List Row) → Stands self.now history → option_map message_in result ≡ contents_of mac history }
+        ensures formed { IfSome result (λ found. IsWellFormed (message_in found)) }
+        ensures short { IfSome result (λ found. written_length (message_in found) ≤ contents_length self.now.limit) }
     {
-        let Some(config) = self.config() else {
-            return Ok(None);
-        };
-        let options = self.options(alloc, mac, config.mtu())?;
-        Ok(Some(advertisement(config.fields(), options)))
+        let config = self.config()?;
+        let options = self.options(mac, config.mtu());
+        Some(advertisement(config.fields(), options))
     }
 
     /// Returns the last advertisement, which is sent when it ceases to advertise: the same, with a router lifetime of 0 (RFC 4861, section 6.2.5)
     /// and the preference Medium (RFC 4191, section 2.2).
-    pub fn last_contents<B: Allocator>(
-        &self,
-        alloc: B,
-        mac: Mac,
-    ) -> Result<Option<Message<B>>, AllocError>
-        ensures value { IfOk result (λ found. option_map whole found ≡ option_map (last_contents mac self.now.offers) (settings_in self.now.advertising)) }
-        ensures by_history { (history : List Row) → Stands self.now history → IfOk result (λ found. option_map whole found ≡ last_contents_of mac history) }
-        ensures formed { IfOk result (λ found. IfSome found (λ message. IsWellFormed (whole message))) }
-        ensures short { IfOk result (λ found. IfSome found (λ message. written_length (whole message) ≤ max_contents_length)) }
+    pub fn last_contents(&self, mac: Mac) -> Option<Contents>
+        ensures value { option_map message_in result ≡ option_map (last_contents mac self.now.offers) (settings_in self.now.advertising) }
+        ensures by_history { (history : List Row) → Stands self.now history → option_map message_in result ≡ last_contents_of mac history }
+        ensures formed { IfSome result (λ found. IsWellFormed (message_in found)) }
+        ensures short { IfSome result (λ found. written_length (message_in found) ≤ contents_length self.now.limit) }
     {
-        let Some(config) = self.config() else {
-            return Ok(None);
-        };
-        let options = self.options(alloc, mac, config.mtu())?;
+        let config = self.config()?;
+        let options = self.options(mac, config.mtu());
         let fields = without_lifetime(config.fields());
-        Ok(Some(advertisement(fields, options)))
+        Some(advertisement(fields, options))
+    }
+
+    /// Returns the length of the longest advertisement that it may have to send, in bytes: 16 of fields, 8 of the link-layer address, 8 of the MTU,
+    /// and 32 of each offer that there is room for (RFC 4861, section 4.2).
+    pub fn longest(&self) -> usize
+        ensures value { result ≡ contents_length self.now.limit }
+        ensures most { result ≤ 544 }
+    {
+        FIRST_LENGTH + PREFIX_LENGTH * self.limit()
     }
 
     /// Returns the options of an advertisement.
-    fn options<B: Allocator>(
-        &self,
-        alloc: B,
-        mac: Mac,
-        mtu: u32,
-    ) -> Result<Vec<Opt<B>, B>, AllocError>
-        ensures value { IfOk result (λ options. map said options.items ≡ options_of mac mtu self.now.offers) }
-        ensures fits { IfOk result (λ options. AllByRecursion FitsOption (map said options.items)) }
-        ensures short { IfOk result (λ options. length (flat_map piece_of (map said options.items)) ≤ max_options_length) }
+    fn options(&self, mac: Mac, mtu: u32) -> ArrayVec<Opt<Global>, MAX_OPTIONS>
+        ensures value { map said result.items ≡ options_of mac mtu self.now.offers }
+        ensures fits { AllByRecursion FitsOption (map said result.items) }
+        ensures short { length (flat_map piece_of (map said result.items)) ≤ options_length self.now.limit }
+        ensures most { length (flat_map piece_of (map said result.items)) ≤ 528 }
     {
-        let mut options = first_options(alloc, mac, mtu, self.limit())?;
+        let _few = self.limit();
+        let mut options = first_options(mac, mtu);
         for offer in self.rows() {
-            options.push(prefix_option(offer))?;
+            options.push(prefix_option(offer));
         }
-        Ok(options)
+        options
     }
 }
 
-/// Returns the options before those of the offers, with room for so many of these too.
-fn first_options<B: Allocator>(
-    alloc: B,
-    mac: Mac,
-    mtu: u32,
-    offers: usize,
-) -> Result<Vec<Opt<B>, B>, AllocError>
-    requires { offers ≤ max_offers }
-    ensures value { IfOk result (λ options. map said options.items ≡ options_of mac mtu []) }
-    ensures fits { IfOk result (λ options. AllByRecursion FitsOption (map said options.items)) }
-    ensures short { IfOk result (λ options. length (flat_map piece_of (map said options.items)) ≤ 16) }
+/// Returns the options before those of the offers.
+fn first_options(mac: Mac, mtu: u32) -> ArrayVec<Opt<Global>, MAX_OPTIONS>
+    ensures value { map said result.items ≡ options_of mac mtu [] }
+    ensures fits { AllByRecursion FitsOption (map said result.items) }
+    ensures short { length (flat_map piece_of (map said result.items)) ≤ 16 }
+    ensures few { length result.items ≤ 2 }
 {
-    let mut options = Vec::with_capacity(alloc, MAX_FIRST_OPTIONS + offers)?;
+    let mut options = ArrayVec::new();
     let _bytes = mac.as_bytes();
-    options.push(Opt::Slla(mac))?;
+    options.push(Opt::Slla(mac));
     if mtu == 0 {
-        return Ok(options);
+        return options;
     }
-    options.push(Opt::Mtu(mtu))?;
-    Ok(options)
+    options.push(Opt::Mtu(mtu));
+    options
 }
 
 /// Returns the advertisement of these fields and options.
-fn advertisement<B: Allocator>(fields: RouterAdvertisement, options: Vec<Opt<B>, B>) -> Message<B>
+fn advertisement(
+    fields: RouterAdvertisement,
+    options: ArrayVec<Opt<Global>, MAX_OPTIONS>,
+) -> Contents
     requires medium { IsMediumAtZero fields }
     requires fits { AllByRecursion FitsOption (map said options.items) }
-    requires short { length (flat_map piece_of (map said options.items)) ≤ max_options_length }
-    ensures value { whole result ≡ record { body = Ra fields; options = map said options.items } }
-    ensures formed { IsWellFormed (whole result) }
-    ensures short { written_length (whole result) ≤ max_contents_length }
+    requires short { length (flat_map piece_of (map said options.items)) ≤ 528 }
+    ensures value { message_in result ≡ record { body = Ra fields; options = map said options.items } }
+    ensures formed { IsWellFormed (message_in result) }
+    ensures short { written_length (message_in result) ≡ 16 + length (flat_map piece_of (map said options.items)) }
 {
-    Message {
+    Contents {
         body: Body::Ra(fields),
         options,
     }

@@ -14,7 +14,7 @@ mod offers;
 pub use advertiser::Advertiser;
 pub use config::{Config, ConfigFlags};
 pub use config_fault::ConfigFault;
-pub use contents::MAX_CONTENTS_LENGTH;
+pub use contents::Contents;
 pub use offer::{Offer, OfferFlags};
 pub use offer_rows::OfferRows;
 pub use offers::{Full, MAX_OFFERS};

@@ -1,3 +1,4 @@
 pub mod Frames
 pub mod Redirect
 pub mod Meaning
+pub mod Room

@@ -1,5 +1,5 @@
 //! The frames that a node sends for itself (RFC 4861, sections 4 and 7.2; RFC 4862, section 5.4). The short ones are written into room that is
-//! reserved beforehand, so that sending one takes no memory; those of a router are made before they are sent.
+//! reserved beforehand, so that sending one takes no memory, and so is a Router Advertisement; a Redirect is made before it is sent.
 #![tactic(auto)]
 
 mod advertisement;
@@ -12,7 +12,6 @@ mod router_advertisement;
 mod router_solicitation;
 mod solicitation;
 
-pub use frame_room::FrameRoom;
+pub use frame_room::{FrameRoom, LONGEST_MESSAGE};
 pub use open_mac::OPEN_MAC;
 pub use redirect::redirect_frame;
-pub use router_advertisement::router_advertisement_frame;

@@ -48,6 +48,13 @@ pub enum Opt<A: Allocator> {
     Other(u8, Vec<u8, A>),
 }
 
+impl<A: Allocator> Default for Opt<A> {
+    /// Returns an option that stands where there is none yet, in a list of a fixed length.
+    fn default() -> Self {
+        Opt::Mtu(0)
+    }
+}
+
 impl<A: Allocator> Opt<A> {
     /// Returns the number of bytes of its piece, if some piece spells it.
     pub(crate) fn piece_length(&self) -> Option<usize>
