@@ -29,3 +29,4 @@ pub mod RouterRows
 pub mod RouterCommands
 pub mod InTransit
 pub mod Refusals
+pub mod Growing

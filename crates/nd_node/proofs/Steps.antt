@@ -140,7 +140,7 @@ showing stream old new x y now table rows out out_is are settled is told = recor
 -- ---- an event comes
 
 -- the moments of a walk are not above its end
-walk_last : (start : Start) (c d : Chronicle) (moment end : ℕ) → Walk start c moment end d → last_moment start.at c ≤ end → last_moment start.at d ≤ end
+pub walk_last : (start : Start) (c d : Chronicle) (moment end : ℕ) → Walk start c moment end d → last_moment start.at c ≤ end → last_moment start.at d ≤ end
 walk_last start c d moment end (over past) le = le
 walk_last start c d moment end (adds what soon due rest) le =
     walk_last start (comes start moment what c) d moment end rest (rw (last_of start c moment what due) soon)

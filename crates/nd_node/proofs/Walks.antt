@@ -1,14 +1,15 @@
 -- The walk over the milliseconds, and the turns that make it.
-use Rattle.std.proofs.Common.{◌≡◌, ℕ, ◌+◌, ◌<◌, ◌≤◌, List, ◌++◌, Option, Some, None, refl, ◌∙◌, ap, subst, arith, ⊎_elim}
+use Rattle.std.proofs.Common.{◌≡◌, ℕ, ◌+◌, ◌<◌, ◌≤◌, List, [], ◌++◌, append-nil, Option, Some, None, refl, sym, ◌∙◌, ap, subst, arith, ⊎_elim}
 use Rattle.std.proofs.lemmas.Bool.{cases_lt}
 use Rattle.std.specs.Option.{option_map}
 use Rattle.rand_core.specs.Stream.{Stream}
 use Rattle.nd_addr.specs.declared.addr.Addr.{Addr}
 use Rattle.nd_addr.specs.declared.mac.Mac.{Mac}
+use Rattle.nd_advertiser.specs.Advertising.{advertised_by as advertised_by_history}
 use Rattle.nd_advertiser.specs.Config.{Settings}
 use Rattle.nd_advertiser.specs.Contents.{contents_of}
-use Rattle.nd_advertiser.specs.History as advertising_rows
 use Rattle.nd_advertiser.specs.Table as advertising
+use Rattle.nd_advertiser.proofs.ByRows.{contents_are}
 use Rattle.nd_neighbour.specs.Due as neighbours
 use Rattle.nd_slaac.specs.Due as addresses
 use Rattle.nd_chronicle.specs.Start.{Start, link_local}
@@ -16,19 +17,21 @@ use Rattle.nd_chronicle.specs.Advertising.{advertising_by}
 use Rattle.nd_chronicle.specs.Histories.{advertising_history}
 use Rattle.nd_compose.specs.Frames.{router_advertisement_frame}
 use Rattle.nd_chronicle.specs.Happening.{Chronicle, Happening, Unreachable, last_moment}
-use Rattle.nd_chronicle.specs.Due.{What, RouterEnds, AddressFalls, NeighbourFalls, RoutersSolicited, RouterAdvertises, Redraws, Due, comes, router_advertisement_date}
+use Rattle.nd_chronicle.specs.Due.{What, RouterEnds, AddressFalls, NeighbourFalls, RoutersSolicited, RouterAdvertises, Redraws, Due, comes}
 use Rattle.nd_chronicle.specs.History.{Walk, over, adds}
+use Rattle.nd_chronicle.specs.Told.{items}
 use Rattle.nd_out.specs.declared.out.Out.{Out}
-use Rattle.nd_steps.specs.RouterTables.{advertised, frame_of, next_advertisement}
-use Rattle.nd_steps.specs.DueRows.{advertised_by, told_of}
+use Rattle.nd_steps.specs.RouterTables.{advertised, frame_of}
+use Rattle.nd_steps.specs.declared.router_tables.RouterTables.{RouterTables}
+use Rattle.nd_steps.specs.DueRows.{advertised_by, frame_in, told_of}
 use Rattle.nd_steps.specs.Outputs.{at_moment, happenings}
-use Rattle.nd_steps.proofs.RouterSide.{advertisement_date, due_has_settings}
+use Rattle.nd_steps.proofs.RouterSide.{due_has_settings}
 use Rattle.nd_steps.proofs.Quiet.{losing_is_quiet}
 use Rattle.nd_steps.proofs.Telling.{due_items, Tells-then}
 use Rattle.nd_node.specs.declared.node.Node.{Node}
 use Rattle.nd_node.specs.Node.{NextDue}
 use Rattle.nd_node.specs.NodeKept.{Stands}
-use Rattle.nd_node.specs.Time.{Leads, Comes, Passes, Onward}
+use Rattle.nd_node.specs.Time.{Leads, Advances, Comes, Passes, Onward}
 
 -- the newest moment is that of what fell due
 pub last_of : (start : Start) (c : Chronicle) (at : ℕ) (what : What) → Due start c at (Some what) → last_moment start.at (comes start at what c) ≡ at
@@ -45,49 +48,56 @@ last_of start c at RouterAdvertises due =
     let s = due_has_settings start c at due.4 in ap (λ (x : Option Settings). last_moment start.at (advertising_by start at x c)) s.1
 last_of start c at Redraws due = refl
 
--- with the Router Advertisement that was made before, what is told is that of the chronicle
-told_of_due : (start : Start) (c : Chronicle) (now : ℕ) (mac : Mac) (own : Addr) (made : Option (List ℕ)) (what : What) → Due start c now (Some what)
-    → (router_advertisement_date start c ≡ Some now → made ≡ frame_of start (contents_of start.mac (advertising_history start c)))
-    → told_of mac own (advertised_by made) what ≡ told_of mac own (advertised start c) what
-told_of_due start c now mac own made (RouterEnds key) due frame = refl
-told_of_due start c now mac own made (AddressFalls falls) due frame = refl
-told_of_due start c now mac own made (NeighbourFalls falls) due frame = refl
-told_of_due start c now mac own made RoutersSolicited due frame = refl
-told_of_due start c now mac own made RouterAdvertises due frame = ap advertised_by (frame due.4)
-told_of_due start c now mac own made Redraws due frame = refl
+-- what is advertised stays when an advertisement was sent
+still_advertised : (start : Start) (c : Chronicle) (now : ℕ) (settings : Option Settings)
+    → contents_of start.mac (advertising_history start (advertising_by start now settings c)) ≡ contents_of start.mac (advertising_history start c)
+still_advertised start c now None = refl
+still_advertised start c now (Some settings) = refl
 
--- the frame that a node made of an advertisement that is due is that of the chronicle
-made_before : {R A : Type 0} (stream : R → Stream) (start : Start) (node : Node R A) (c : Chronicle) (now : ℕ) (own : Addr) (made : Option (List ℕ)) → Stands stream start node c → own ≡ link_local start
-    → ((history : List advertising_rows.Row) → advertising.Stands node.router.advertiser history → next_advertisement node.role node.router ≡ Some now
-    → made ≡ option_map (router_advertisement_frame node.mac own) (contents_of node.mac history))
-    → router_advertisement_date start c ≡ Some now → made ≡ frame_of start (contents_of start.mac (advertising_history start c))
-made_before stream start node c now own made s own_is by_history date =
-    by_history (advertising_history start c) s.router.advertiser (advertisement_date start node.role node.router c s.role s.router ∙ date)
-    ∙ (ap (λ (mac : Mac). option_map (router_advertisement_frame mac own) (contents_of mac (advertising_history start c))) s.mac
-    ∙ ap (λ (a : Addr). option_map (router_advertisement_frame start.mac a) (contents_of start.mac (advertising_history start c))) own_is)
+-- the frame of what a node advertises once it has sent an advertisement is that of the chronicle before
+made_after : {A : Type 0} (start : Start) (c : Chronicle) (now : ℕ) (mac : Mac) (own : Addr) (tables : RouterTables A) → mac ≡ start.mac → own ≡ link_local start
+    → advertising.Stands tables.advertiser (advertising_history start (comes start now RouterAdvertises c))
+    → frame_in mac own tables ≡ frame_of start (contents_of start.mac (advertising_history start c))
+made_after start c now mac own tables mac_is own_is s =
+    ap (λ (m : Mac). frame_in m own tables) mac_is
+    ∙ (ap (λ (a : Addr). frame_in start.mac a tables) own_is
+    ∙ ap (option_map (router_advertisement_frame start.mac (link_local start)))
+    (contents_are start.mac tables.advertiser (advertising_history start (comes start now RouterAdvertises c)) s ∙ still_advertised start c now (advertised_by_history (advertising_history start c))))
+
+-- with the Router Advertisement that is sent where one is due, what is told is that of the chronicle
+told_of_due : {A : Type 0} (start : Start) (c : Chronicle) (now : ℕ) (mac : Mac) (own : Addr) (tables : RouterTables A) (what : What) → mac ≡ start.mac → own ≡ link_local start
+    → advertising.Stands tables.advertiser (advertising_history start (comes start now what c))
+    → told_of mac own (advertised_by (frame_in mac own tables)) what ≡ told_of start.mac (link_local start) (advertised start c) what
+told_of_due start c now mac own tables what mac_is own_is s =
+    ap (λ (m : Mac). told_of m own (advertised_by (frame_in mac own tables)) what) mac_is
+    ∙ (ap (λ (a : Addr). told_of start.mac a (advertised_by (frame_in mac own tables)) what) own_is ∙ by what s)
+  where
+    by : (w : What) → advertising.Stands tables.advertiser (advertising_history start (comes start now w c))
+        → told_of start.mac (link_local start) (advertised_by (frame_in mac own tables)) w ≡ told_of start.mac (link_local start) (advertised start c) w
+    by (RouterEnds key) h = refl
+    by (AddressFalls falls) h = refl
+    by (NeighbourFalls falls) h = refl
+    by RoutersSolicited h = refl
+    by RouterAdvertises h = ap advertised_by (made_after start c now mac own tables mac_is own_is h)
+    by Redraws h = refl
 
 -- a turn leads to what comes
-pub turn_leads : {R A : Type 0} (stream : R → Stream) (old new : Node R A) (x y : List (ℕ × Out A)) (now : ℕ) (what : What) (own : Addr) (made : Option (List ℕ))
+pub turn_leads : {R A : Type 0} (stream : R → Stream) (old new : Node R A) (x y : List (ℕ × Out A)) (now : ℕ) (what : What) (own : Addr)
     → ((start : Start) (c : Chronicle) → Stands stream start old c → Due start c now (Some what))
     → ((start : Start) (c : Chronicle) → Stands stream start old c → Stands stream start new (comes start now what c))
     → ((start : Start) → old.addresses.mac ≡ start.mac → own ≡ link_local start)
-    → ((history : List advertising_rows.Row) → advertising.Stands old.router.advertiser history → next_advertisement old.role old.router ≡ Some now
-    → made ≡ option_map (router_advertisement_frame old.mac own) (contents_of old.mac history))
-    → happenings y ≡ happenings x ++ at_moment now (told_of new.mac own (advertised_by made) what) → Leads stream old new x y (Comes now)
-turn_leads stream old new x y now what own made due stands own_is by_history told = record {
+    → happenings y ≡ happenings x ++ at_moment now (told_of new.mac own (advertised_by (frame_in new.mac own new.router)) what) → Leads stream old new x y (Comes now)
+turn_leads stream old new x y now what own due stands own_is told = record {
   each = λ start c s.
-      let n = stands start c s in
-      let own' = own_is start s.address_mac in (
+      let n = stands start c s in (
         comes start now what c,
         (what, due start c s, refl),
         n,
         record {
           newer = at_moment now (told_of start.mac (link_local start) (advertised start c) what);
           told = due_items start c now what;
-          outs = told ∙ (ap (λ mac. happenings x ++ at_moment now (told_of mac own (advertised_by made) what)) n.mac
-              ∙ (ap (λ (a : Addr). happenings x ++ at_moment now (told_of start.mac a (advertised_by made) what)) own'
-              ∙ ap (λ (l : List Happening). happenings x ++ at_moment now l)
-              (told_of_due start c now start.mac (link_local start) made what (due start c s) (made_before stream start old c now own made s own' by_history))));
+          outs = told ∙ ap (λ (l : List Happening). happenings x ++ at_moment now l)
+              (told_of_due start c now new.mac own new.router what n.mac (own_is start s.address_mac) n.router.advertiser);
         },
       );
 }
@@ -130,3 +140,37 @@ module _ {R A : Type 0} (stream : R → Stream) where
         (cases_lt now (last_moment start.at d)) in
         (d, l.1 d rest, l.2, l.3);
   }
+
+  -- nothing has happened yet
+  pub still : (node : Node R A) (x : List (ℕ × Out A)) (now : ℕ) → Leads stream node node x x (Onward now)
+  still node x now = record { each = λ start c s. (c, λ e w. w, s, record { newer = []; told = sym (append-nil (items c)); outs = sym (append-nil (happenings x)) }) }
+
+  -- what is due first comes, and then time goes on
+  module _ (idle : Idle) (old mid new : Node R A) (x y z : List (ℕ × Out A)) (now next : ℕ) (due : (start : Start) (c : Chronicle) → Stands stream start old c → NextDue start c next)
+      (turn : Leads stream old mid x y (Comes next)) (le : next ≤ now) where
+    first_comes : Leads stream old mid x y (Onward now)
+    first_comes = settle_more idle old old mid x x y now next (still old x now) due turn le
+
+    pub first_onward : Leads stream mid new y z (Onward now) → Leads stream old new x z (Onward now)
+    first_onward rest = record {
+      each = λ start c s.
+          let a = first_comes.each start c s in
+          let b = rest.each start a.0 a.2 in
+          (b.0, λ e w. a.1 e (b.1 e w), b.2, Tells-then c a.0 b.0 x y z a.3 b.3);
+    }
+
+    pub first_passes : Leads stream mid new y z (Passes now) → Leads stream old new x z (Passes now)
+    first_passes rest = record {
+      each = λ start c s.
+          let a = first_comes.each start c s in
+          let b = rest.each start a.0 a.2 in
+          (b.0, a.1 b.0 b.1, b.2, Tells-then c a.0 b.0 x y z a.3 b.3);
+    }
+
+    pub first_advances : Leads stream mid new y z (Onward now) → Leads stream old new x z (Advances now)
+    first_advances rest = record {
+      each = λ start c s.
+          let a = turn.each start c s in
+          let b = rest.each start a.0 a.2 in
+          (b.0, record { at = next; first = due start c s; due = le; between = a.0; comes = a.1; onward = b.1 }, b.2, Tells-then c a.0 b.0 x y z a.3 b.3);
+    }

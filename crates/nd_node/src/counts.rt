@@ -73,10 +73,12 @@ impl<R: Rng + Drop, A: Allocator + Clone> Node<R, A> {
         self.limits
     }
 
-    /// Returns how many packets wait for a neighbour's link-layer address, at most as many as the limit on them (RFC 4861, section 7.2.2). It takes no memory.
+    /// Returns how many packets wait for a neighbour's link-layer address, at most as many as the limit on them (RFC 4861, section 7.2.2). It takes no
+    /// memory.
     pub fn waiting_at(&self, addr: Addr) -> usize
         ensures value { (start : Start) (c : Chronicle) → Stands R.stream start self.now c → result ≡ length (waits_of (story (number_of addr.0) (neighbour_history c))) }
         ensures few { result ≤ max_waiting }
+        ensures limit { (start : Start) (c : Chronicle) → Stands R.stream start self.now c → result ≤ start.limits.waiting }
     {
         self.neighbours.waiting_at(addr)
     }

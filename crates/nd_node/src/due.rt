@@ -12,7 +12,8 @@ use std::alloc::Allocator;
 impl<R: Rng + Drop, A: Allocator + Clone> Node<R, A> {
     ghost use Rattle.nd_chronicle.specs.Start.{Start};
     ghost use Rattle.nd_chronicle.specs.Happening.{Chronicle};
-    ghost use Rattle.nd_chronicle.specs.Due.{Due, comes};
+    ghost use Rattle.nd_chronicle.specs.Due.{Due, RouterAdvertises, comes};
+    ghost use Rattle.nd_steps.specs.RouterTables.{next_advertisement};
     ghost use Rattle.nd_steps.specs.Turned.{what_of};
     ghost use Rattle.nd_node.specs.Node.{NextDue};
     ghost use Rattle.nd_node.specs.NodeKept.{Stands, next_of, turns_left};
@@ -46,6 +47,9 @@ impl<R: Rng + Drop, A: Allocator + Clone> Node<R, A> {
         ensures due { (start : Start) (c : Chronicle) → Stands R.stream start self.old c → Due start c now (Some (what_of result)) }
         ensures stands { (start : Start) (c : Chronicle) → Stands R.stream start self.old c → Stands R.stream start self.new (comes start now (what_of result) c) }
         ensures fewer { (end : ℕ) → now ≤ end → turns_left end self.new < turns_left end self.old }
+        ensures limit { self.new.router.advertiser.limit ≡ self.old.router.advertiser.limit }
+        ensures role { self.new.role ≡ self.old.role }
+        ensures advertisement { what_of result ≡ RouterAdvertises → next_advertisement self.old.role self.old.router ≡ Some now }
     {
         let turned = self.do_first_due(now);
         self.advance_to(now);
@@ -59,6 +63,9 @@ impl<R: Rng + Drop, A: Allocator + Clone> Node<R, A> {
         ensures due { (start : Start) (c : Chronicle) → Stands R.stream start self.old c → Due start c now (Some (what_of result)) }
         ensures stands { (start : Start) (c : Chronicle) → Stands R.stream start self.old c → Stands R.stream start (record self.new { last = now }) (comes start now (what_of result) c) }
         ensures fewer { (end : ℕ) → now ≤ end → turns_left end self.new < turns_left end self.old }
+        ensures limit { self.new.router.advertiser.limit ≡ self.old.router.advertiser.limit }
+        ensures role { self.new.role ≡ self.old.role }
+        ensures advertisement { what_of result ≡ RouterAdvertises → next_advertisement self.old.role self.old.router ≡ Some now }
     {
         if let Some(addr) = self.routers.turn(now) {
             // "all entries in the Destination Cache that use that router" go with it (RFC 4861, section 6.3.5).

@@ -86,7 +86,7 @@ impl<R: Rng + Drop, A: Allocator + Clone> Node<R, A> {
     /// Receives a frame at `now`, in milliseconds, up to which nothing is due. The frame is dropped for the first reason that holds; a message for
     /// this node is heard, and another packet for this node goes to the upper layer (RFC 4861, sections 6.1, 7.1 and 8.1). Returns an error if out
     /// of memory; nothing has happened then.
-    pub(crate) fn judge_frame(
+    pub fn judge_frame(
         &mut self,
         now: u64,
         frame: &[u8],

@@ -46,8 +46,8 @@ impl<R: Rng + Drop, A: Allocator + Copy> Node<R, A> {
 
     /// Starts a node at `start`, in milliseconds. It draws its ReachableTime, then the delay of the first solicitation for its link-local address,
     /// and forms that address (RFC 4861, section 6.3.2; RFC 4862, sections 5.3 and 5.4.2). `transmits` is the number of solicitations that it sends
-    /// for each address, and `limits` are the most neighbours and default routers that it keeps. If out of memory, returns the generator with no
-    /// word drawn.
+    /// for each address, and `limits` says how many rows each of its tables keeps at most. If out of memory, returns the generator with no word
+    /// drawn.
     pub fn new(
         alloc: A,
         role: Role,

@@ -260,7 +260,7 @@ impl<R: Rng + Drop, A: Allocator + Clone> Node<R, A> {
 
     /// Sends a packet of the upper layer as `send_packet` does, whose payload the caller keeps: it is copied once the packet is not refused. Returns
     /// an error if out of memory; nothing has happened then.
-    pub(crate) fn send_copied(
+    pub fn send_copied(
         &mut self,
         now: u64,
         source: Addr,

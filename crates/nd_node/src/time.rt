@@ -1,11 +1,17 @@
 //! Does what is due at a node as time passes.
 
-ghost use Rattle.std.specs.Prelude.{◌≡◌, ℕ, ◌<◌, ◌≤◌, Ok, OnOk, OnErr};
+ghost use Rattle.std.specs.Prelude.{◌≡◌, ℕ, ◌+◌, ◌<◌, ◌≤◌, ◌⊎◌, None, Ok, Some, IfSome, IsOk, IsSome, IsSomeAnd, OnOk, OnErr, vec_len, vec_capacity};
+ghost use Rattle.nd_advertiser.specs.Contents.{contents_length};
+ghost use Rattle.nd_compose.specs.Room.{HasRoomFor};
+ghost use Rattle.nd_packet.specs.Waiting.{max_waiting};
+ghost use Rattle.nd_steps.specs.Outputs.{Grows, SendsFrame};
+ghost use Rattle.nd_steps.specs.RouterTables.{next_advertisement};
 ghost use Rattle.nd_table.specs.Moment.{IsMoment};
-ghost use Rattle.nd_node.specs.Time.{Leads, Comes, Passes, Onward};
+ghost use Rattle.nd_node.specs.Time.{Advances, Comes, IsInHand, Leads, Onward, Passes, longest_due};
 
 use crate::node::Node;
-use nd_compose::FrameRoom;
+use nd_addr::Role;
+use nd_compose::{FrameRoom, LONGEST_MESSAGE};
 use nd_out::Out;
 use nd_steps::{MOST_TOLD, link_local, tell};
 use rand_core::Rng;
@@ -13,6 +19,90 @@ use std::alloc::{AllocError, Allocator};
 
 impl<R: Rng + Drop, A: Allocator + Clone> Node<R, A> {
     ghost use Rattle.nd_node.specs.NodeKept.{next_of, turns_left};
+
+    /// Returns how long a message that the node sends when something is due can be, in bytes: a router's advertisement with all that it has room to
+    /// offer (RFC 4861, section 6.2.3), or one with a link-layer address.
+    pub fn longest_due(&self) -> usize
+        ensures value { result ≡ longest_due self.now }
+        ensures most { result ≤ 544 }
+    {
+        match self.role {
+            Role::Host => LONGEST_MESSAGE,
+            Role::Router => self.router.advertiser.longest(),
+        }
+    }
+
+    /// Returns how long a message that the node sends at `now` can be, in bytes, where that is the moment at which something is due next.
+    fn longest_at(&self, now: u64) -> usize
+        ensures advertisement { next_advertisement self.now.role self.now.router ≡ Some now → result ≡ contents_length self.now.router.advertiser.limit }
+        ensures most { result ≤ longest_due self.now }
+        ensures few { result ≤ 544 }
+    {
+        match self.router.next_due(self.role) {
+            Some(at) if at == now => self.longest_due(),
+            _ => LONGEST_MESSAGE,
+        }
+    }
+
+    /// Does the first thing that is due at `now`, in milliseconds, as `turn` does, with room for the frame and for what is reported. It takes no
+    /// memory. Returns the room, unless a frame was written into it.
+    pub fn turn_in(
+        &mut self,
+        now: u64,
+        room: FrameRoom<A>,
+        outs: &mut Vec<(u64, Out<A>), A>,
+    ) -> Option<FrameRoom<A>>
+        requires moment { IsMoment now }
+        requires due { now ≡ next_of self.old }
+        requires long { next_advertisement self.old.role self.old.router ≡ Some now → HasRoomFor room (contents_length self.old.router.advertiser.limit) }
+        requires places { vec_len outs.old + (max_waiting + 1) ≤ vec_capacity outs.old }
+        ensures leads { Leads R.stream self.old self.new outs.old.items outs.new.items (Comes now) }
+        ensures fewer { (end : ℕ) → now ≤ end → turns_left end self.new < turns_left end self.old }
+        ensures same { IfSome result (λ rest. rest ≡ room) }
+        ensures sends { result ≡ None → SendsFrame outs.old.items outs.new.items }
+        ensures grows { Grows outs.old.items outs.new.items }
+        ensures capacity { vec_capacity outs.old ≤ vec_capacity outs.new }
+        ensures longest { longest_due self.new ≡ longest_due self.old }
+    {
+        let own = link_local(&self.addresses);
+        let turned = self.take_turn(now);
+        tell(outs, now, room, self.mac, own, &self.router, turned)
+    }
+
+    /// Does the first thing that is due at `now`, in milliseconds, as `turn_in` does, in the room in reserve if that is long enough. Returns an
+    /// error if out of memory; nothing has changed then.
+    fn turn_with(
+        &mut self,
+        now: u64,
+        room: &mut Option<FrameRoom<A>>,
+        outs: &mut Vec<(u64, Out<A>), A>,
+    ) -> Result<(), AllocError>
+        requires moment { IsMoment now }
+        requires due { now ≡ next_of self.old }
+        ensures leads { OnOk result (Leads R.stream self.old self.new outs.old.items outs.new.items (Comes now)) }
+        ensures fewer { OnOk result ((end : ℕ) → now ≤ end → turns_left end self.new < turns_left end self.old) }
+        ensures same { OnErr result (self.new ≡ self.old) }
+        ensures told { OnErr result (outs.new.items ≡ outs.old.items) }
+        ensures succeeds { IsInHand self.old room.old → vec_len outs.old + (max_waiting + 1) ≤ vec_capacity outs.old → IsOk result }
+        ensures room { (room.new ≡ room.old) ⊎ SendsFrame outs.old.items outs.new.items }
+        ensures grows { Grows outs.old.items outs.new.items }
+        ensures capacity { vec_capacity outs.old ≤ vec_capacity outs.new }
+        ensures longest { longest_due self.new ≡ longest_due self.old }
+    {
+        outs.reserve(MOST_TOLD)?;
+        let longest = self.longest_at(now);
+        match taken_if_long(room, longest) {
+            Some(in_hand) => {
+                *room = self.turn_in(now, in_hand, outs);
+                Ok(())
+            }
+            None => {
+                let made = FrameRoom::with_room(outs.allocator().clone()?, longest)?;
+                let _made = self.turn_in(now, made, outs);
+                Ok(())
+            }
+        }
+    }
 
     /// Does the first thing that is due at `now`, in milliseconds, and reports it; the caller passes the moment that `next_due` returns. The order
     /// is: ends of routers, ends of own addresses, duplicate address detection, neighbours, Router Solicitations, Router Advertisements, a redraw
@@ -25,16 +115,7 @@ impl<R: Rng + Drop, A: Allocator + Clone> Node<R, A> {
         ensures same { OnErr result (self.new ≡ self.old) }
         ensures told { OnErr result (outs.new.items ≡ outs.old.items) }
     {
-        let room = FrameRoom::new(outs.allocator().clone()?)?;
-        let own = link_local(&self.addresses);
-        let alloc = outs.allocator().clone()?;
-        let advertisement = self
-            .router
-            .advertisement_due(alloc, self.role, now, self.mac, own)?;
-        outs.reserve(MOST_TOLD)?;
-        let turned = self.take_turn(now);
-        tell(outs, now, room, self.mac, own, advertisement, turned);
-        Ok(())
+        self.turn_with(now, &mut None, outs)
     }
 
     /// Does all that is due up to `now`, in milliseconds, and reports it. Returns an error if out of memory; the rest can be done later.
@@ -47,13 +128,79 @@ impl<R: Rng + Drop, A: Allocator + Clone> Node<R, A> {
         // If nothing is due up to `now` nothing happens, even if no memory is left.
         ensures idle { now < next_of self.old → (result ≡ Ok tt) × (self.new ≡ self.old) × (outs.new ≡ outs.old) }
     {
+        self.go_on(now, &mut None, outs)
+    }
+
+    /// Does all that is due up to `now`, in milliseconds, as `settle` does. The first frame is written into the room in reserve, if that is long
+    /// enough for it; the room stays, unless a frame was written into it. Returns an error if out of memory; the rest can be done later.
+    pub fn settle_in(
+        &mut self,
+        now: u64,
+        room: &mut Option<FrameRoom<A>>,
+        outs: &mut Vec<(u64, Out<A>), A>,
+    ) -> Result<(), AllocError>
+        requires { IsMoment now }
+        ensures onward { Leads R.stream self.old self.new outs.old.items outs.new.items (Onward now) }
+        ensures passes { OnOk result (Leads R.stream self.old self.new outs.old.items outs.new.items (Passes now)) }
+        ensures settled { OnOk result (now < next_of self.new) }
+        ensures idle { now < next_of self.old → (result ≡ Ok tt) × (self.new ≡ self.old) × (room.new ≡ room.old) × (outs.new ≡ outs.old) }
+
+        // With room for the longest frame and for what one thing that is due reports, the first one is done even if no memory is left.
+        ensures advances { IsInHand self.old room.old → vec_len outs.old + (max_waiting + 1) ≤ vec_capacity outs.old → OnErr result (Leads R.stream self.old self.new outs.old.items outs.new.items (Advances now)) }
+        ensures room { (room.new ≡ room.old) ⊎ SendsFrame outs.old.items outs.new.items }
+        ensures grows { Grows outs.old.items outs.new.items }
+        ensures capacity { vec_capacity outs.old ≤ vec_capacity outs.new }
+        ensures longest { longest_due self.new ≡ longest_due self.old }
+    {
+        nd_chronicle::laws::idle_time_passes();
+        let next = self.next_due();
+        if next > now {
+            return Ok(());
+        }
+        self.turn_with(next, room, outs)?;
+        self.go_on(now, room, outs)
+    }
+
+    /// Does what is due up to `now`, in milliseconds, one thing after the other.
+    fn go_on(
+        &mut self,
+        now: u64,
+        room: &mut Option<FrameRoom<A>>,
+        outs: &mut Vec<(u64, Out<A>), A>,
+    ) -> Result<(), AllocError>
+        requires { IsMoment now }
+        ensures onward { Leads R.stream self.old self.new outs.old.items outs.new.items (Onward now) }
+        ensures passes { OnOk result (Leads R.stream self.old self.new outs.old.items outs.new.items (Passes now)) }
+        ensures settled { OnOk result (now < next_of self.new) }
+        ensures idle { now < next_of self.old → (result ≡ Ok tt) × (self.new ≡ self.old) × (outs.new ≡ outs.old) }
+        ensures room { (room.new ≡ room.old) ⊎ SendsFrame outs.old.items outs.new.items }
+        ensures grows { Grows outs.old.items outs.new.items }
+        ensures capacity { vec_capacity outs.old ≤ vec_capacity outs.new }
+        ensures longest { longest_due self.new ≡ longest_due self.old }
+    {
         nd_chronicle::laws::idle_time_passes();
         loop {
             let next = self.next_due();
             if next > now {
                 return Ok(());
             }
-            self.turn(next, outs)?;
+            self.turn_with(next, room, outs)?;
         }
+    }
+}
+
+/// Takes the room in reserve, if it is long enough for a message of `length` bytes.
+fn taken_if_long<A: Allocator>(
+    room: &mut Option<FrameRoom<A>>,
+    length: usize,
+) -> Option<FrameRoom<A>>
+    requires { length ≤ 65535 }
+    ensures taken { IfSome result (λ r. (room.old ≡ Some r) × HasRoomFor r length) }
+    ensures left { result ≡ None → room.new ≡ room.old }
+    ensures long { IsSomeAnd room.old (λ r. HasRoomFor r length) → IsSome result }
+{
+    match room {
+        Some(in_hand) if in_hand.has_room_for(length) => room.take(),
+        _ => None,
     }
 }

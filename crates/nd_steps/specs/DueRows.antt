@@ -1,16 +1,23 @@
 -- What is reported of what is due: what is sent, and what happened, the oldest first.
 use Rattle.std.specs.Prelude.{ℕ, List, [], ◌∷◌, map, Option}
-use Rattle.std.specs.Option.{option_to_list}
+use Rattle.std.specs.Option.{option_map, option_to_list}
 use Rattle.nd_addr.specs.declared.addr.Addr.{Addr}
 use Rattle.nd_addr.specs.declared.mac.Mac.{Mac}
 use Rattle.nd_addr.specs.Number.{addr_at, mac_at}
-use Rattle.nd_compose.specs.Frames.{detection_frame, resolution_frame, probe_frame, router_solicitation_frame}
+use Rattle.nd_advertiser.specs.Calls.{settings_in}
+use Rattle.nd_advertiser.specs.Contents.{contents}
+use Rattle.nd_compose.specs.Frames.{detection_frame, resolution_frame, probe_frame, router_advertisement_frame, router_solicitation_frame}
 use Rattle.nd_chronicle.specs.Happening.{Happening, Address, Neighbour, LeftRouter, Sent, Lost, Unreachable}
 use Rattle.nd_chronicle.specs.Due.{What, RouterEnds, AddressFalls, NeighbourFalls, RoutersSolicited, RouterAdvertises, Redraws}
 use Rattle.nd_slaac.specs.History as address_rows
 use Rattle.nd_slaac.specs.Due as addresses
 use Rattle.nd_neighbour.specs.History as neighbour_rows
 use Rattle.nd_neighbour.specs.Due as neighbours
+use Rattle.nd_steps.specs.declared.router_tables.RouterTables.{RouterTables}
+
+-- the frame of what an interface with these addresses advertises, if it does
+abbrev pub frame_in : {A : Type 0} → Mac → Addr → RouterTables A → Option (List ℕ)
+frame_in mac own tables = option_map (router_advertisement_frame mac own) (option_map (contents mac tables.advertiser.offers) (settings_in tables.advertiser.advertising))
 
 -- a Router Advertisement that is due, if one is
 abbrev pub advertised_by : Option (List ℕ) → List Happening

@@ -15,6 +15,18 @@ at_moment at happenings = map (λ h. (at, h)) happenings
 abbrev pub happenings : {A : Type 0} → List (ℕ × Out A) → List (ℕ × Happening)
 happenings outs = map (λ o. (o.0, happening o.1)) outs
 
+-- reports came behind those that there were
+abbrev pub Grows : {A : Type 0} → List (ℕ × Out A) → List (ℕ × Out A) → Type 0
+Grows old new = (newer : List (ℕ × Happening)) × (happenings new ≡ happenings old ++ newer)
+
+-- a frame is among what happened
+abbrev pub HasFrame : List (ℕ × Happening) → Type 0
+HasFrame rows = (before after : List (ℕ × Happening)) × (at : ℕ) × (frame : List ℕ) × (rows ≡ before ++ (at, Sent frame) ∷ after)
+
+-- reports came behind those that there were, and a frame is among them
+abbrev pub SendsFrame : {A : Type 0} → List (ℕ × Out A) → List (ℕ × Out A) → Type 0
+SendsFrame old new = (newer : List (ℕ × Happening)) × (happenings new ≡ happenings old ++ newer) × HasFrame newer
+
 -- What is reported more is what is reported of the one more than of the other.
 pub record Tells {A : Type 0} (c d : Chronicle) (old new : List (ℕ × Out A)) : Type 0 where
   pub newer : List (ℕ × Happening)

@@ -1,17 +1,21 @@
 //! What the node reports of what was due.
 
-ghost use Rattle.std.specs.Prelude.{◌≡◌, ◌+◌, ◌++◌, ◌≤◌, vec_len, vec_capacity, length, map};
+ghost use Rattle.std.specs.Prelude.{◌≡◌, ◌+◌, ◌++◌, ◌∷◌, [], ◌≤◌, None, IfSome, vec_len, vec_capacity, length, map};
 ghost use Rattle.nd_addr.specs.Number.{number_of, addr_at, mac_at};
 ghost use Rattle.nd_compose.specs.Frames.{detection_frame, resolution_frame, probe_frame};
-ghost use Rattle.nd_chronicle.specs.Happening.{Lost};
+ghost use Rattle.nd_advertiser.specs.Contents.{contents_length};
+ghost use Rattle.nd_compose.specs.Room.{HasRoomFor};
+ghost use Rattle.nd_chronicle.specs.Due.{RouterAdvertises};
+ghost use Rattle.nd_chronicle.specs.Happening.{Lost, Sent};
 ghost use Rattle.nd_out.specs.Out.{happening, loss_of};
 ghost use Rattle.nd_packet.specs.Waiting.{max_waiting};
 ghost use Rattle.nd_steps.specs.Turned.{what_of};
-ghost use Rattle.nd_steps.specs.DueRows.{advertised_by, told_of_address, told_of_neighbour, told_of};
-ghost use Rattle.nd_steps.specs.Outputs.{at_moment, happenings};
+ghost use Rattle.nd_steps.specs.DueRows.{advertised_by, frame_in, told_of_address, told_of_neighbour, told_of};
+ghost use Rattle.nd_steps.specs.Outputs.{SendsFrame, at_moment, happenings};
 ghost use Rattle.nd_slaac.specs.View as addresses;
 ghost use Rattle.nd_neighbour.specs.View as neighbours;
 
+use crate::router_tables::RouterTables;
 use crate::turned::Turned;
 use nd_addr::{Addr, Mac};
 use nd_compose::FrameRoom;
@@ -50,19 +54,45 @@ fn probe<A: Allocator>(room: FrameRoom<A>, mac: Mac, own: Addr, to: Mac, addr: A
     room.probe(mac, own, to, addr)
 }
 
-/// Returns what is reported of a step for one of the node's own addresses.
-fn told_of_address<A: Allocator>(
+/// Reports that one frame is sent. It takes no memory: the caller has made room.
+fn tell_frame<A: Allocator>(outs: &mut Vec<(u64, Out<A>), A>, at: u64, frame: Packet<A>)
+    requires { vec_len outs.old + 1 ≤ vec_capacity outs.old }
+    ensures told { happenings outs.new.items ≡ happenings outs.old.items ++ at_moment at (Sent frame ∷ []) }
+    ensures sends { SendsFrame outs.old.items outs.new.items }
+    ensures capacity { vec_capacity outs.new ≡ vec_capacity outs.old }
+{
+    outs.push_reserved((at, Out::Frame(frame)));
+}
+
+/// Reports a step that was due for one of the node's own addresses. Returns the room, unless a frame was written into it.
+fn tell_address<A: Allocator>(
+    outs: &mut Vec<(u64, Out<A>), A>,
+    at: u64,
     room: FrameRoom<A>,
     mac: Mac,
     own: Addr,
     due: nd_slaac::Due,
-) -> Out<A>
-    ensures { happening result ≡ told_of_address mac own (addresses.falls_of due) }
+) -> Option<FrameRoom<A>>
+    requires { vec_len outs.old + 1 ≤ vec_capacity outs.old }
+    ensures told { happenings outs.new.items ≡ happenings outs.old.items ++ at_moment at (told_of_address mac own (addresses.falls_of due) ∷ []) }
+    ensures same { IfSome result (λ rest. rest ≡ room) }
+    ensures sends { result ≡ None → SendsFrame outs.old.items outs.new.items }
+    ensures capacity { vec_capacity outs.new ≡ vec_capacity outs.old }
 {
+    let _own = own;
     match due {
-        nd_slaac::Due::End(addr) => Out::EndedAddress(addr),
-        nd_slaac::Due::Solicit(addr) => Out::Frame(detection(room, mac, addr)),
-        nd_slaac::Due::Assign(addr) => Out::Assigned(addr),
+        nd_slaac::Due::End(addr) => {
+            outs.push_reserved((at, Out::EndedAddress(addr)));
+            Some(room)
+        }
+        nd_slaac::Due::Solicit(addr) => {
+            tell_frame(outs, at, detection(room, mac, addr));
+            None
+        }
+        nd_slaac::Due::Assign(addr) => {
+            outs.push_reserved((at, Out::Assigned(addr)));
+            Some(room)
+        }
     }
 }
 
@@ -75,7 +105,8 @@ pub fn tell_lost<A: Allocator>(
     packets: Packets<A>,
 )
     requires { vec_len outs.old + length packets ≤ vec_capacity outs.old }
-    ensures { happenings outs.new.items ≡ happenings outs.old.items ++ at_moment at (map (λ packet. Lost (loss_of why) packet) packets) }
+    ensures told { happenings outs.new.items ≡ happenings outs.old.items ++ at_moment at (map (λ packet. Lost (loss_of why) packet) packets) }
+    ensures capacity { vec_capacity outs.new ≡ vec_capacity outs.old }
 {
     let mut rest = packets;
     while let Some(packet) = rest.take() {
@@ -83,7 +114,7 @@ pub fn tell_lost<A: Allocator>(
     }
 }
 
-/// Reports a step that was due for a neighbour.
+/// Reports a step that was due for a neighbour. Returns the room, unless a frame was written into it.
 fn tell_neighbour<A: Allocator>(
     outs: &mut Vec<(u64, Out<A>), A>,
     at: u64,
@@ -91,24 +122,55 @@ fn tell_neighbour<A: Allocator>(
     mac: Mac,
     own: Addr,
     due: nd_neighbour::Due<A>,
-)
+) -> Option<FrameRoom<A>>
     requires { vec_len outs.old + (max_waiting + 1) ≤ vec_capacity outs.old }
-    ensures { happenings outs.new.items ≡ happenings outs.old.items ++ at_moment at (told_of_neighbour mac own (neighbours.falls_of due)) }
+    ensures told { happenings outs.new.items ≡ happenings outs.old.items ++ at_moment at (told_of_neighbour mac own (neighbours.falls_of due)) }
+    ensures same { IfSome result (λ rest. rest ≡ room) }
+    ensures sends { result ≡ None → SendsFrame outs.old.items outs.new.items }
+    ensures capacity { vec_capacity outs.new ≡ vec_capacity outs.old }
 {
     match due {
         nd_neighbour::Due::Multicast(addr) => {
-            outs.push_reserved((at, Out::Frame(resolution(room, mac, own, addr))));
+            tell_frame(outs, at, resolution(room, mac, own, addr));
+            None
         }
         nd_neighbour::Due::Unicast(addr, to) => {
-            outs.push_reserved((at, Out::Frame(probe(room, mac, own, to, addr))));
+            tell_frame(outs, at, probe(room, mac, own, to, addr));
+            None
         }
         nd_neighbour::Due::Failed(addr, packets) => {
             let _few = packets.len();
             outs.push_reserved((at, Out::Failed(addr)));
             tell_lost(outs, at, Loss::Unreachable, packets);
+            Some(room)
         }
-        nd_neighbour::Due::Aged(_) => {}
+        nd_neighbour::Due::Aged(_) => Some(room),
     }
+}
+
+/// Reports that an interface with these addresses sends what it advertises, if it does. Returns the room, unless a frame was written into it.
+fn tell_contents<A: Allocator>(
+    outs: &mut Vec<(u64, Out<A>), A>,
+    at: u64,
+    room: FrameRoom<A>,
+    mac: Mac,
+    own: Addr,
+    router: &RouterTables<A>,
+) -> Option<FrameRoom<A>>
+    requires place { vec_len outs.old + 1 ≤ vec_capacity outs.old }
+    requires long { HasRoomFor room (contents_length router.now.advertiser.limit) }
+    ensures told { happenings outs.new.items ≡ happenings outs.old.items ++ at_moment at (advertised_by (frame_in mac own router.now)) }
+    ensures same { IfSome result (λ rest. rest ≡ room) }
+    ensures sends { result ≡ None → SendsFrame outs.old.items outs.new.items }
+    ensures capacity { vec_capacity outs.new ≡ vec_capacity outs.old }
+{
+    let Some(contents) = router.advertiser.contents(mac) else {
+        return Some(room);
+    };
+    let options = contents.options.as_slice();
+    let frame = room.router_advertisement(mac, own, &contents.body, options);
+    tell_frame(outs, at, frame);
+    None
 }
 
 /// Reports at `at`, in milliseconds, that a Router Advertisement is sent, if there is one. It takes no memory: the caller has made room.
@@ -126,28 +188,37 @@ pub fn tell_advertisement<A: Allocator>(
     }
 }
 
-/// Reports what was due at `at`, in milliseconds. `mac` and `own` are the node's link-layer address and its link-local address; `advertisement` is
-/// the Router Advertisement that is due, if one is. It takes no memory: the caller has made room.
+/// Reports what was due at `at`, in milliseconds. `mac` and `own` are the node's link-layer address and its link-local address, and `router` what
+/// it advertises. Returns the room, unless a frame was written into it. It takes no memory: the caller has made room, for the advertisement too if
+/// one is due.
 pub fn tell<A: Allocator>(
     outs: &mut Vec<(u64, Out<A>), A>,
     at: u64,
     room: FrameRoom<A>,
     mac: Mac,
     own: Addr,
-    advertisement: Option<Packet<A>>,
+    router: &RouterTables<A>,
     turned: Turned<A>,
-)
-    requires { vec_len outs.old + (max_waiting + 1) ≤ vec_capacity outs.old }
-    ensures { happenings outs.new.items ≡ happenings outs.old.items ++ at_moment at (told_of mac own (advertised_by advertisement) (what_of turned)) }
+) -> Option<FrameRoom<A>>
+    requires places { vec_len outs.old + (max_waiting + 1) ≤ vec_capacity outs.old }
+    requires long { what_of turned ≡ RouterAdvertises → HasRoomFor room (contents_length router.now.advertiser.limit) }
+    ensures told { happenings outs.new.items ≡ happenings outs.old.items ++ at_moment at (told_of mac own (advertised_by (frame_in mac own router.now)) (what_of turned)) }
+    ensures same { IfSome result (λ rest. rest ≡ room) }
+    ensures sends { result ≡ None → SendsFrame outs.old.items outs.new.items }
+    ensures capacity { vec_capacity outs.new ≡ vec_capacity outs.old }
 {
     match turned {
-        Turned::EndedRouter(addr) => outs.push_reserved((at, Out::EndedRouter(addr))),
-        Turned::Address(due) => outs.push_reserved((at, told_of_address(room, mac, own, due))),
+        Turned::EndedRouter(addr) => {
+            outs.push_reserved((at, Out::EndedRouter(addr)));
+            Some(room)
+        }
+        Turned::Address(due) => tell_address(outs, at, room, mac, own, due),
         Turned::Neighbour(due) => tell_neighbour(outs, at, room, mac, own, due),
         Turned::SolicitedRouters => {
-            outs.push_reserved((at, Out::Frame(room.router_solicitation(mac, own))));
+            tell_frame(outs, at, room.router_solicitation(mac, own));
+            None
         }
-        Turned::RouterAdvertised => tell_advertisement(outs, at, advertisement),
-        Turned::Redrawn => {}
+        Turned::RouterAdvertised => tell_contents(outs, at, room, mac, own, router),
+        Turned::Redrawn => Some(room),
     }
 }

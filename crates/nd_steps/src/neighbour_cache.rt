@@ -115,6 +115,7 @@ fn neighbour_in(news: &News) -> Addr
 pub fn waiting_for<A: Allocator>(neighbours: &Cache<A>, news: Option<News>) -> usize
     ensures value { result ≡ waiting_for news neighbours.now.entries }
     ensures few { result ≤ max_waiting }
+    ensures limit { result ≤ neighbours.now.waiting }
 {
     match news {
         Some(news) => neighbours.waiting_at(neighbour_in(&news)),

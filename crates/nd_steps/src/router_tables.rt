@@ -1,27 +1,24 @@
 //! What only a router has: its advertising and its static routes. The definitions are in `specs/RouterTables.antt`.
 
-ghost use Rattle.std.specs.Prelude.{◌≡◌, ◌≢◌, ◌≤◌, ◌<◌, List, [], None, Ok, Some, IfOk, IfSome, is_some, option_map, true, false};
+ghost use Rattle.std.specs.Prelude.{◌≡◌, ◌≢◌, ◌≤◌, ◌<◌, List, [], None, Some, IfOk, is_some, option_map, true, false};
 ghost use Rattle.nd_addr.specs.Number.{number_of};
 ghost use Rattle.nd_table.specs.Moment.{IsMoment};
 ghost use Rattle.nd_advertiser.specs.Calls.{settings_in};
-ghost use Rattle.nd_advertiser.specs.Contents.{contents_of, last_contents_of};
+ghost use Rattle.nd_advertiser.specs.Contents.{last_contents_of};
 ghost use Rattle.nd_advertiser.specs.History.{Row};
 ghost use Rattle.nd_advertiser.specs.Offers.{max_offers};
 ghost use Rattle.nd_forwarding.specs.Routes.{max_routes};
 ghost use Rattle.nd_advertiser.specs.Overdue.{IsAfter};
 ghost use Rattle.nd_advertiser.specs.Table as advertising;
 ghost use Rattle.nd_compose.specs.Frames.{router_advertisement_frame};
-ghost use Rattle.nd_message.specs.Owned.{whole};
-ghost use Rattle.nd_message.specs.WellFormed.{IsWellFormed};
 ghost use Rattle.nd_slaac.specs.View.{falls_of};
 ghost use Rattle.nd_steps.specs.RouterTables.{Advertises, NotesAddress, Plans, next_advertisement, plans};
 
 use crate::draws::{answer_delay_drawn, interval_drawn};
 use nd_addr::{Addr, Mac, Role};
 use nd_advertiser::Advertiser;
-use nd_compose::router_advertisement_frame;
+use nd_compose::FrameRoom;
 use nd_forwarding::Routes;
-use nd_message::Message;
 use nd_packet::Packet;
 use nd_slaac::Due;
 use nd_table::compare;
@@ -55,27 +52,7 @@ impl<A: Allocator + Copy> RouterTables<A> {
     }
 }
 
-impl<A: Allocator + Clone> RouterTables<A> {
-    /// Returns the Router Advertisement that is due at `now`, in milliseconds, if one is, from an interface with these addresses (RFC 4861, section
-    /// 6.2.3). Returns an error if out of memory, and only if one is due.
-    pub fn advertisement_due(
-        &self,
-        alloc: A,
-        role: Role,
-        now: u64,
-        mac: Mac,
-        own: Addr,
-    ) -> Result<Option<Packet<A>>, AllocError>
-        ensures due { (history : List Row) → advertising.Stands self.now.advertiser history → next_advertisement role self.now ≡ Some now → IfOk result (λ frame. frame ≡ option_map (router_advertisement_frame mac own) (contents_of mac history)) }
-        ensures none { next_advertisement role self.now ≢ Some now → result ≡ Ok None }
-    {
-        if self.next_due(role) != Some(now) {
-            return Ok(None);
-        }
-        let message = self.advertiser.contents(alloc.clone()?, mac)?;
-        framed(alloc, mac, own, message)
-    }
-
+impl<A: Allocator> RouterTables<A> {
     /// Returns the last Router Advertisement of an interface with these addresses, with a router lifetime of 0, if it advertises (RFC 4861, section
     /// 6.2.5). Returns an error if out of memory.
     pub fn last_advertisement(
@@ -86,27 +63,13 @@ impl<A: Allocator + Clone> RouterTables<A> {
     ) -> Result<Option<Packet<A>>, AllocError>
         ensures { (history : List Row) → advertising.Stands self.now.advertiser history → IfOk result (λ frame. frame ≡ option_map (router_advertisement_frame mac own) (last_contents_of mac history)) }
     {
-        let message = self.advertiser.last_contents(alloc.clone()?, mac)?;
-        framed(alloc, mac, own, message)
-    }
-}
-
-/// Returns the frame of a message to all nodes, if there is one. Returns an error if out of memory.
-fn framed<A: Allocator>(
-    alloc: A,
-    mac: Mac,
-    own: Addr,
-    message: Option<Message<A>>,
-) -> Result<Option<Packet<A>>, AllocError>
-    requires { IfSome message (λ m. IsWellFormed (whole m)) }
-    ensures { IfOk result (λ frame. frame ≡ option_map (router_advertisement_frame mac own) (option_map whole message)) }
-{
-    match message {
-        Some(message) => {
-            let frame = router_advertisement_frame(alloc, mac, own, &message)?;
-            Ok(Some(frame))
-        }
-        None => Ok(None),
+        let Some(contents) = self.advertiser.last_contents(mac) else {
+            return Ok(None);
+        };
+        let room = FrameRoom::with_room(alloc, self.advertiser.longest())?;
+        let options = contents.options.as_slice();
+        let frame = room.router_advertisement(mac, own, &contents.body, options);
+        Ok(Some(frame))
     }
 }
 

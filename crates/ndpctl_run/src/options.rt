@@ -12,7 +12,7 @@ pub struct RunOptions<R> {
     pub mac: Mac,
     /// The number of solicitations that the node sends for each of its addresses.
     pub transmits: Transmits,
-    /// The limits on the node's neighbours and default routers.
+    /// The limits of the node's tables.
     pub limits: Limits,
     /// The generator of the node's random words.
     pub generator: R,
