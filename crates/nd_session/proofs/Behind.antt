@@ -1,6 +1,7 @@
 -- What leads a node on and is reported behind some reports leads it on and is reported behind more.
-use Rattle.std.proofs.Common.{ℕ, List, ◌++◌, append_assoc, sym, ◌∙◌, ap, Ok, Err}
-use Rattle.std.specs.Prelude.{Result, OnOk, OnErr}
+use Rattle.std.proofs.Common.{◌≡◌, ◌≤◌, ℕ, List, ◌++◌, append_assoc, sym, ◌∙◌, ap, subst, Ok, Err}
+use Rattle.std.specs.Prelude.{Result, IfOk, OnOk, OnErr, MatchResult}
+use Rattle.std.specs.declared.alloc.AllocError.{AllocError}
 use Rattle.std.proofs.lemmas.List.{map-append}
 use Rattle.rand_core.specs.Stream.{Stream}
 use Rattle.nd_chronicle.specs.Start.{Start}
@@ -9,7 +10,15 @@ use Rattle.nd_out.specs.declared.out.Out.{Out}
 use Rattle.nd_out.specs.Out.{happening}
 use Rattle.nd_steps.specs.Outputs.{happenings, Tells}
 use Rattle.nd_node.specs.declared.node.Node.{Node}
-use Rattle.nd_node.specs.Time.{Leads}
+use Rattle.nd_node.specs.declared.answer.Answer.{Answer}
+use Rattle.nd_chronicle.specs.Answer as answers
+use Rattle.nd_chronicle.specs.Event as events
+use Rattle.nd_node.specs.Answer.{answer_of}
+use Rattle.nd_node.specs.Event.{FollowsBy}
+use Rattle.nd_node.specs.EventKept.{AddsEvent}
+use Rattle.nd_node.specs.Frame.{Stays}
+use Rattle.nd_node.specs.Time.{Leads, Onward, Passes}
+use Rattle.nd_node.proofs.Steps.{follows}
 
 module _ {A : Type 0} (xs before after : List (ℕ × Out A)) where
   tells_behind : {c d : Chronicle} → Tells c d before after → Tells c d (xs ++ before) (xs ++ after)
@@ -35,3 +44,30 @@ on_ok (Err e) f p = p
 pub on_err : {X E P Q : Type 0} (r : Result X E) → (P → Q) → OnErr r P → OnErr r Q
 on_err (Ok x) f p = p
 on_err (Err e) f p = f p
+
+-- ---- an event
+
+module _ {R A : Type 0} (stream : R → Stream) (old new : Node R A) where
+  -- the reports stand behind two others
+  pub leads_behind_both : (xs ys before after : List (ℕ × Out A)) {To : Start → Chronicle → Chronicle → Type 0} → Leads stream old new before after To → Leads stream old new (xs ++ (ys ++ before)) (xs ++ (ys ++ after)) To
+  leads_behind_both xs ys before after l = leads_behind xs (ys ++ before) (ys ++ after) (leads_behind ys before after l)
+
+  -- the reports are the same ones
+  pub leads_same : (x y z w : List (ℕ × Out A)) {To : Start → Chronicle → Chronicle → Type 0} → z ≡ x → w ≡ y → Leads stream old new x y To → Leads stream old new z w To
+  leads_same x y z w {To} zx wy l = subst (λ (q : List (ℕ × Out A)). Leads stream old new q w To) (sym zx) (subst (λ (q : List (ℕ × Out A)). Leads stream old new x q To) (sym wy) l)
+
+  pub adds_behind : (xs ys before after : List (ℕ × Out A)) (now : ℕ) (event : events.Event) (answer : answers.Answer) → AddsEvent stream old new before after now event answer
+      → AddsEvent stream old new (xs ++ (ys ++ before)) (xs ++ (ys ++ after)) now event answer
+  adds_behind xs ys before after now event answer h = record {
+    each = λ start c s le. let (d, adds, stood, tells, is) = h.each start c s le in (d, adds, stood, tells_behind xs (ys ++ before) (ys ++ after) (tells_behind ys before after tells), is);
+  }
+
+-- what is due is done, and then the event adds what it adds, or nothing
+pub event_taken : {R A : Type 0} (stream : R → Stream) (old mid new : Node R A) (x y z : List (ℕ × Out A)) (now : ℕ) (event : events.Event) (r : Result Answer AllocError) → old.last ≤ now
+    → Leads stream old mid x y (Onward now) → Leads stream old mid x y (Passes now)
+    → IfOk r (λ a. AddsEvent stream mid new y z now event (answer_of a)) → OnErr r (Stays stream mid new) → OnErr r (z ≡ y)
+    → MatchResult r (λ a. Leads stream old new x z (FollowsBy now event (answer_of a))) (λ error. Leads stream old new x z (Onward now))
+event_taken stream old mid new x y z now event (Ok a) le onward passes adds stays told = follows stream old mid new x y z now event le passes adds
+event_taken stream old mid new x y z now event (Err e) le onward passes adds stays told = record {
+  each = λ start c s. let (d, to, stood, tells) = onward.each start c s in (d, to, stays.each start d stood, subst (λ (w : List (ℕ × Out _)). Tells c d x w) (sym told) tells);
+}

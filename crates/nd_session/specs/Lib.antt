@@ -1,3 +1,4 @@
 pub mod Held
 pub mod Boxed
 pub mod Event
+pub mod Ready

@@ -1,18 +1,26 @@
 //! A session: its start, its events, and its queue.
 
-ghost use Rattle.std.specs.Prelude.{◌≡◌, ◌<◌, ◌≤◌, [], IfOk, OnOk, OnErr, drop, option_copied, slice_get};
+ghost use Rattle.std.specs.Prelude.{◌≡◌, ℕ, ◌<◌, ◌≤◌, ◌+◌, ◌↔◌, List, [], None, true, IfOk, IsSomeAnd, IsTrue, OnOk, OnErr, drop, max, vec_capacity, option_copied, slice_get};
 ghost use Rattle.nd_table.specs.Moment.{IsMoment};
+ghost use Rattle.nd_addr.specs.Frame.{headers_length};
+ghost use Rattle.nd_compose.specs.Frames.{longest_message};
+ghost use Rattle.nd_compose.specs.Room.{HasRoomFor};
 ghost use Rattle.nd_chronicle.specs.Event as events;
+ghost use Rattle.nd_chronicle.specs.Happening.{Chronicle, Sent};
 ghost use Rattle.nd_chronicle.specs.History.{beginning};
+ghost use Rattle.nd_chronicle.specs.Start.{Start};
+ghost use Rattle.nd_out.specs.Out.{happening};
 ghost use Rattle.nd_node.specs.Event.{event_of};
 ghost use Rattle.nd_node.specs.Node.{starting, last_of};
 ghost use Rattle.nd_node.specs.NodeKept.{Stands, next_of};
-ghost use Rattle.nd_node.specs.Time.{Leads, Onward, Passes};
+ghost use Rattle.nd_node.specs.Time.{Advances, IsInHand, Leads, Onward, Passes, longest_due};
 ghost use Rattle.nd_random.specs.Source.{stream_of_source};
-ghost use Rattle.nd_session.specs.Event.{Takes};
+ghost use Rattle.nd_session.specs.Event.{LedBy, Takes};
+ghost use Rattle.nd_session.specs.Ready.{IsReady};
 
 use crate::queue::Queue;
 use nd_addr::{Addr, Mac, Role};
+use nd_compose::FrameRoom;
 use nd_node::{Answer, Event, Limits, Node};
 use nd_out::Out;
 use nd_random::Source;
@@ -25,12 +33,14 @@ use std::alloc::{AllocError, Global};
 pub struct Session {
     pub(crate) node: Node<Source, Global>,
     pub(crate) queue: Queue,
+    /// The room in reserve: the next frame that is due is written into it. It is missing from then on until a frame's block is had back.
+    pub(crate) room: Option<FrameRoom<Global>>,
 }
 
 impl Session {
     /// Starts a node at `start`, in milliseconds, whose random words come from `source`. Its queue is empty. `transmits` is the number of
-    /// solicitations that it sends for each address, and `limits` are the most neighbours and default routers that it keeps. Returns an error if
-    /// out of memory.
+    /// solicitations that it sends for each address, and `limits` says how many rows each of its tables keeps at most. Returns an error if out of
+    /// memory.
     pub fn start(
         alloc: Global,
         role: Role,
@@ -43,10 +53,18 @@ impl Session {
         requires { IsMoment start }
         ensures stands { IfOk result (λ s. let first = starting start role mac transmits limits (stream_of_source source) in Stands stream_of_source first s.node (beginning first)) }
         ensures empty { IfOk result (λ s. s.queue ≡ []) }
+        ensures ready { IfOk result IsReady }
     {
         let queue = Queue::new(alloc)?;
         match Node::new(alloc, role, mac, start, transmits, limits, source) {
-            Ok(node) => Ok(Session { node, queue }),
+            Ok(node) => {
+                let room = FrameRoom::with_room(alloc, node.longest_due())?;
+                Ok(Session {
+                    node,
+                    queue,
+                    room: Some(room),
+                })
+            }
             Err(_) => Err(AllocError),
         }
     }
@@ -76,35 +94,68 @@ impl Session {
     #[inline(always)]
     pub fn event(&mut self, now: u64, event: &Event<Global>) -> Result<Answer, AllocError>
         requires { IsMoment now }
-        ensures { Takes now (event_of event.now) result self.old self.new }
+        ensures takes { Takes now (event_of event.now) result self.old self.new }
+        ensures ready { (start : Start) (c : Chronicle) → Stands stream_of_source start self.old.node c → IsReady self.old → IsReady self.new }
     {
         if let Some(past) = self.past(now) {
             return Ok(past);
         }
-        self.node.event(now, event, &mut self.queue.back)
+        self.settle(now)?;
+        self.node.add(now, event, &mut self.queue.back)
     }
 
     /// Does all that is due up to `now`, in milliseconds, its own millisecond included. Returns an error if out of memory: a part of it may have
-    /// been done and reported then.
+    /// been done and reported then, and the first thing has been done if no report was left to take.
     pub fn settle(&mut self, now: u64) -> Result<(), AllocError>
         requires { IsMoment now }
         ensures passes { OnOk result (Leads stream_of_source self.old.node self.new.node self.old.queue self.new.queue (Passes now)) }
         ensures settled { OnOk result (now < next_of self.new.node) }
-        ensures onward { OnErr result (Leads stream_of_source self.old.node self.new.node self.old.queue self.new.queue (Onward now)) }
+        ensures onward { Leads stream_of_source self.old.node self.new.node self.old.queue self.new.queue (Onward now) }
+
+        // If no report was left to take, the first thing that is due was done, even if no memory is left.
+        ensures advances { IsReady self.old → self.old.queue ≡ [] → OnErr result (LedBy self.old self.new (Advances now)) }
+        ensures ready { IsReady self.old → IsReady self.new }
     {
-        self.node.settle(now, &mut self.queue.back)
+        nd_chronicle::laws::idle_time_passes();
+        let next = self.node.next_due();
+        if next > now {
+            return Ok(());
+        }
+        self.catch_up(now)
+    }
+
+    /// Does what is due up to `now`, in milliseconds, as `settle` does. If the queue is empty, the reports have room in its part for what is due.
+    fn catch_up(&mut self, now: u64) -> Result<(), AllocError>
+        requires { IsMoment now }
+        ensures passes { OnOk result (LedBy self.old self.new (Passes now)) }
+        ensures settled { OnOk result (now < next_of self.new.node) }
+        ensures onward { LedBy self.old self.new (Onward now) }
+        ensures advances { IsReady self.old → self.old.queue ≡ [] → OnErr result (LedBy self.old self.new (Advances now)) }
+        ensures ready { IsReady self.old → IsReady self.new }
+    {
+        if !self.queue.is_empty() {
+            let outs = &mut self.queue.back;
+            return self.node.settle_in(now, &mut self.room, outs);
+        }
+        self.queue.due.clear();
+        let outs = &mut self.queue.due;
+        let settled = self.node.settle_in(now, &mut self.room, outs);
+        self.queue.due.reverse();
+        settled
     }
 
     /// Receives a frame, from its Ethernet destination on (RFC 2464, section 3), at `now`, in milliseconds. The caller keeps the frame, which is
     /// not copied. Otherwise as `event`.
     pub fn receive(&mut self, now: u64, frame: &[u8]) -> Result<Answer, AllocError>
         requires { IsMoment now }
-        ensures { Takes now (events.Receives frame.now) result self.old self.new }
+        ensures takes { Takes now (events.Receives frame.now) result self.old self.new }
+        ensures ready { (start : Start) (c : Chronicle) → Stands stream_of_source start self.old.node c → IsReady self.old → IsReady self.new }
     {
         if let Some(past) = self.past(now) {
             return Ok(past);
         }
-        self.node.receive(now, frame, &mut self.queue.back)
+        self.settle(now)?;
+        self.node.judge_frame(now, frame, &mut self.queue.back)
     }
 
     /// Sends a packet of the upper layer at `now`, in milliseconds (RFC 4861, section 5.2). `payload` is copied once the packet is not refused.
@@ -118,12 +169,14 @@ impl Session {
         payload: &[u8],
     ) -> Result<Answer, AllocError>
         requires { IsMoment now }
-        ensures { Takes now (events.Sends source destination next_header payload.now) result self.old self.new }
+        ensures takes { Takes now (events.Sends source destination next_header payload.now) result self.old self.new }
+        ensures ready { (start : Start) (c : Chronicle) → Stands stream_of_source start self.old.node c → IsReady self.old → IsReady self.new }
     {
         if let Some(past) = self.past(now) {
             return Ok(past);
         }
-        self.node.send(
+        self.settle(now)?;
+        self.node.send_copied(
             now,
             source,
             destination,
@@ -140,12 +193,71 @@ impl Session {
         self.queue.first()
     }
 
-    /// Removes the oldest report from the queue and returns it, with its moment in milliseconds.
+    /// Removes the oldest report from the queue and returns it, with its moment in milliseconds. A frame that was written into the room in reserve takes
+    /// it along: `remove_oldest` gets it back.
     pub fn take(&mut self) -> Option<(u64, Out<Global>)>
         ensures taken { result ≡ slice_get self.old.queue 0 }
         ensures rest { self.new.queue ≡ drop 1 self.old.queue }
         ensures node { self.new.node ≡ self.old.node }
     {
         self.queue.pop_first()
+    }
+
+    /// Removes the oldest report from the queue, once the caller has copied what it needs of it. If the room in reserve is missing, the block of a frame
+    /// becomes it. It takes no memory. Returns false if the report was a frame whose block is too short for that; the frame that took the room along
+    /// has a block that is long enough.
+    pub fn remove_oldest(&mut self) -> bool
+        ensures rest { self.new.queue ≡ drop 1 self.old.queue }
+        ensures node { self.new.node ≡ self.old.node }
+        ensures ready { result ≡ true → IsReady self.old → IsReady self.new }
+        ensures kept { IsInHand self.old.node self.old.room → (result ≡ true) × (self.new.room ≡ self.old.room) }
+    {
+        let Some((_, report)) = self.queue.pop_first() else {
+            return true;
+        };
+        match block_of(report) {
+            Some(block) => self.refill(block),
+            None => true,
+        }
+    }
+
+    /// Makes the room in reserve of a frame's block, if it is missing. Returns false if the block is too short.
+    fn refill(&mut self, block: Vec<u8, Global>) -> bool
+        ensures node { self.new.node ≡ self.old.node }
+        ensures queue { self.new.queue ≡ self.old.queue }
+        ensures in_hand { result ≡ true → IsInHand self.new.node self.new.room }
+        ensures kept { IsInHand self.old.node self.old.room → (result ≡ true) × (self.new.room ≡ self.old.room) }
+        ensures long { headers_length + max (longest_due self.old.node) longest_message ≤ vec_capacity block → result ≡ true }
+    {
+        let longest = self.node.longest_due();
+        if has_room_for(&self.room, longest) {
+            return true;
+        }
+        let Some(room) = FrameRoom::of_block(block, longest) else {
+            return false;
+        };
+        self.room = Some(room);
+        true
+    }
+}
+
+/// Returns the block of a report that is a frame.
+fn block_of(report: Out<Global>) -> Option<Vec<u8, Global>>
+    ensures { result ≡ None → (frame : List ℕ) → happening report ≡ Sent frame → ⊥ }
+{
+    match report {
+        Out::Frame(frame) => Some(frame.into_frame()),
+        _ => None,
+    }
+}
+
+/// Returns true if there is room for a message of `length` bytes.
+fn has_room_for(room: &Option<FrameRoom<Global>>, length: usize) -> bool
+    requires { length ≤ 65535 }
+    ensures { IsTrue result ↔ IsSomeAnd room.now (λ r. HasRoomFor r length) }
+{
+    match room {
+        Some(room) => room.has_room_for(length),
+        None => false,
     }
 }

@@ -66,3 +66,18 @@ fn reports_are_taken_in_their_order(rt: HostRuntime) {
     }
     assert!(rt; next_moment(&mut session) == None);
 }
+
+/// Reports that were read are removed: a solicitation, the address that is assigned, and a Router Solicitation. The block of each frame becomes the
+/// room in reserve.
+#[test]
+fn reports_are_removed_once_they_are_read(rt: HostRuntime) {
+    let alloc = rt.alloc();
+    let mut slot = host_in_slot(&rt);
+    let mut session = slot.take(alloc).expect(&rt, "a session");
+    session.settle(2000).expect(&rt, "memory");
+    for _ in 0..3 {
+        assert!(rt; session.oldest().is_some());
+        assert!(rt; session.remove_oldest());
+    }
+    assert!(rt; session.oldest().is_none());
+}

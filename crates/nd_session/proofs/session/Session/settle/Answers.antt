@@ -1,15 +1,7 @@
-use Rattle.std.proofs.Common.{◌++◌, subst, OnOk}
-use Rattle.std.specs.Prelude.{reverse}
-use Rattle.nd_node.specs.Time.{Leads, Passes}
 use Rattle.nd_random.specs.Source.{stream_of_source}
-use Rattle.nd_session.specs.declared.session.Session.{Session}
-use Rattle.nd_session.proofs.Behind.{leads_behind, on_ok}
+use Rattle.nd_node.proofs.Walks.{settle_end, still}
 use Rattle.nd_session.proofs.session.Session.settle.Goals as goal
 
-pub returns-clause-passes : goal.returns-clause-passes
-returns-clause-passes c =
-    let front = reverse c.self.inside.0.1.0.front.items in
-    subst
-    (λ (s : Session). OnOk c.settle.result (Leads stream_of_source s.node c.settle.new.self s.queue (front ++ c.settle.new.outs.items) (Passes c.args.now)))
-    c.self.view_is
-    (on_ok c.settle.result (leads_behind front c.self.inside.0.1.0.back.items c.settle.new.outs.items) c.settle.ensures.passes)
+pub returns-then-next-now-clause-passes : goal.returns-then-next-now-clause-passes
+returns-then-next-now-clause-passes c =
+    settle_end stream_of_source c.idle_time_passes.ensures _ _ _ _ c.args.now _ (still stream_of_source c.args.self.now.node c.args.self.now.queue c.args.now) c.next_due-next.ensures.due c.if-next-now.true

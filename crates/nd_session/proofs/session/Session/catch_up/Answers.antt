@@ -1,0 +1,82 @@
+use Rattle.std.proofs.Common.{◌≡◌, List, [], ◌++◌, sym, ◌∙◌, ap, subst, arith}
+use Rattle.std.specs.Prelude.{OnOk, OnErr, reverse}
+use Rattle.nd_node.specs.Time.{Advances, Leads, Onward, Passes}
+use Rattle.nd_random.specs.Source.{stream_of_source}
+use Rattle.nd_session.specs.Ready.{IsReady}
+use Rattle.nd_session.specs.declared.session.Session.{Session}
+use Rattle.nd_session.proofs.Behind.{leads_behind_both, leads_same, on_err, on_ok}
+use Rattle.nd_session.proofs.Keeping.{due_alone, in_hand_at_nothing, nothing_left, ready_behind, ready_same, something_left}
+use Rattle.nd_session.proofs.session.Session.catch_up.Goals as goal
+
+pub returns-then-not-is_empty-clause-passes : goal.returns-then-not-is_empty-clause-passes
+returns-then-not-is_empty-clause-passes c =
+    let q = c.self.inside.0.1.0 in
+    subst
+    (λ (s : Session). OnOk c.settle_in.result (Leads stream_of_source s.node c.settle_in.new.self s.queue (reverse q.due.items ++ (reverse q.front.items ++ c.settle_in.new.outs.items)) (Passes c.args.now)))
+    c.self.view_is
+    (on_ok c.settle_in.result
+    (leads_behind_both stream_of_source c.self.inside.0.0 c.settle_in.new.self (reverse q.due.items) (reverse q.front.items) q.back.items c.settle_in.new.outs.items)
+    c.settle_in.ensures.passes)
+
+pub returns-then-not-is_empty-clause-advances : goal.returns-then-not-is_empty-clause-advances
+returns-then-not-is_empty-clause-advances c = λ ready empty.
+    let q = c.self.inside.0.1.0 in
+    absurd (something_left (reverse q.due.items ++ (reverse q.front.items ++ q.back.items)) (sym c.is_empty.ensures ∙ c.if-not-is_empty.true) (ap (λ (s : Session). s.queue) c.self.view_is ∙ empty))
+
+pub returns-then-not-is_empty-clause-ready : goal.returns-then-not-is_empty-clause-ready
+returns-then-not-is_empty-clause-ready c = λ ready.
+    let q = c.self.inside.0.1.0 in
+    ready_behind c.self.inside.0.0 c.settle_in.new.self c.self.inside.0.1.1.0 c.settle_in.new.room c.settle_in.ensures.longest (reverse q.due.items) (reverse q.front.items) q.back.items c.settle_in.new.outs.items
+    c.settle_in.ensures.room c.settle_in.ensures.grows (subst IsReady (sym c.self.view_is) ready)
+
+pub returns-clause-passes : goal.returns-clause-passes
+returns-clause-passes c =
+    let q = c.self.inside.0.1.0 in
+    let all = reverse q.due.items ++ (reverse q.front.items ++ q.back.items) in
+    let e : all ≡ [] = nothing_left all (sym c.is_empty.ensures ∙ c.if-not-is_empty.false) in
+    let outs = c.settle_in-settled.new.outs.items in
+    let after = reverse c.reverse.new.self.items ++ (reverse q.front.items ++ q.back.items) in
+    let is : after ≡ outs = ap (λ l. reverse l ++ (reverse q.front.items ++ q.back.items)) c.reverse.ensures.items ∙ due_alone q.due.items q.front.items q.back.items outs e in
+    subst
+    (λ (s : Session). OnOk c.settle_in-settled.result (Leads stream_of_source s.node c.settle_in-settled.new.self s.queue after (Passes c.args.now)))
+    c.self.view_is
+    (on_ok c.settle_in-settled.result
+    (leads_same stream_of_source c.self.inside.0.0 c.settle_in-settled.new.self c.clear.new.self.items outs all after (e ∙ sym c.clear.ensures.items) is)
+    c.settle_in-settled.ensures.passes)
+
+pub returns-clause-onward : goal.returns-clause-onward
+returns-clause-onward c =
+    let q = c.self.inside.0.1.0 in
+    let all = reverse q.due.items ++ (reverse q.front.items ++ q.back.items) in
+    let e : all ≡ [] = nothing_left all (sym c.is_empty.ensures ∙ c.if-not-is_empty.false) in
+    let outs = c.settle_in-settled.new.outs.items in
+    let after = reverse c.reverse.new.self.items ++ (reverse q.front.items ++ q.back.items) in
+    let is : after ≡ outs = ap (λ l. reverse l ++ (reverse q.front.items ++ q.back.items)) c.reverse.ensures.items ∙ due_alone q.due.items q.front.items q.back.items outs e in
+    subst (λ (s : Session). Leads stream_of_source s.node c.settle_in-settled.new.self s.queue after (Onward c.args.now)) c.self.view_is
+    (leads_same stream_of_source c.self.inside.0.0 c.settle_in-settled.new.self c.clear.new.self.items outs all after (e ∙ sym c.clear.ensures.items) is c.settle_in-settled.ensures.onward)
+
+pub returns-clause-advances : goal.returns-clause-advances
+returns-clause-advances c = λ ready empty.
+    let q = c.self.inside.0.1.0 in
+    let all = reverse q.due.items ++ (reverse q.front.items ++ q.back.items) in
+    let e : all ≡ [] = nothing_left all (sym c.is_empty.ensures ∙ c.if-not-is_empty.false) in
+    let outs = c.settle_in-settled.new.outs.items in
+    let after = reverse c.reverse.new.self.items ++ (reverse q.front.items ++ q.back.items) in
+    let is : after ≡ outs = ap (λ l. reverse l ++ (reverse q.front.items ++ q.back.items)) c.reverse.ensures.items ∙ due_alone q.due.items q.front.items q.back.items outs e in
+    subst
+    (λ (s : Session). OnErr c.settle_in-settled.result (Leads stream_of_source s.node c.settle_in-settled.new.self s.queue after (Advances c.args.now)))
+    c.self.view_is
+    (on_err c.settle_in-settled.result
+    (leads_same stream_of_source c.self.inside.0.0 c.settle_in-settled.new.self c.clear.new.self.items outs all after (e ∙ sym c.clear.ensures.items) is)
+    (c.settle_in-settled.ensures.advances (in_hand_at_nothing all e (subst IsReady (sym c.self.view_is) ready)) (omega (arith, c.self.invariant, c.clear.ensures.len, c.clear.ensures.capacity))))
+
+pub returns-clause-ready : goal.returns-clause-ready
+returns-clause-ready c = λ ready.
+    let q = c.self.inside.0.1.0 in
+    let all = reverse q.due.items ++ (reverse q.front.items ++ q.back.items) in
+    let e : all ≡ [] = nothing_left all (sym c.is_empty.ensures ∙ c.if-not-is_empty.false) in
+    let outs = c.settle_in-settled.new.outs.items in
+    let after = reverse c.reverse.new.self.items ++ (reverse q.front.items ++ q.back.items) in
+    let is : after ≡ outs = ap (λ l. reverse l ++ (reverse q.front.items ++ q.back.items)) c.reverse.ensures.items ∙ due_alone q.due.items q.front.items q.back.items outs e in
+    ready_same c.self.inside.0.0 c.settle_in-settled.new.self c.self.inside.0.1.1.0 c.settle_in-settled.new.room c.settle_in-settled.ensures.longest c.clear.new.self.items outs all after
+    (e ∙ sym c.clear.ensures.items) is c.settle_in-settled.ensures.room c.settle_in-settled.ensures.grows (subst IsReady (sym c.self.view_is) ready)
