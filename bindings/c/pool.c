@@ -6,7 +6,7 @@
 #include "nd.h"
 
 #ifndef ND_POOL_BYTES
-#define ND_POOL_BYTES 262144 /* nd_node_bytes says how many a node takes; each block takes 16 more */
+#define ND_POOL_BYTES 262144 /* nd_pool_bytes says how many are enough for a node */
 #endif
 
 /* What precedes a block. Lengths are in units of a head, which is 16 bytes long, and a block has one unit at least. */

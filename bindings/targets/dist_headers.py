@@ -27,6 +27,8 @@ SENTENCES = {
          "bindings/c/heap.c defines them over malloc, bindings/c/pool.c over a static array.",
          "nd.c does not call these three functions, and the program need not define them: the memory of nd.c is a static array of ND_MEMORY_BYTES bytes. "
          "An archive for one processor calls them."),
+        ("Returns how many bytes ND_POOL_BYTES of bindings/c/pool.c has to be for one node with these limits,",
+         "Returns how many bytes the pool in ND_MEMORY_BYTES has to have for one node with these limits,"),
         ("A closed node, as are 16 zero bytes.", "A closed node, as are zero bytes: 16, or 8 where pointers have 32 bits."),
         ("The archive of a node has it too.", "nd.c has it too."),
     ],

@@ -162,6 +162,15 @@ size_t nd_node_bytes(const nd_limits *limits)
     return (size_t)MODULE(nd_node_bytes)(&module, structure);
 }
 
+size_t nd_pool_bytes(const nd_limits *limits, size_t longest)
+{
+    uint64_t pool;
+    prepare();
+    put_fields(structure, limits, LIMITS);
+    pool = MODULE(nd_pool_bytes)(&module, structure, longest);
+    return pool < SIZE_MAX ? (size_t)pool : SIZE_MAX;
+}
+
 /* Puts the options into the module, 0 in place of what the caller's structure does not have. Returns false if a byte behind the others is not 0. */
 static bool put_options(const nd_options *options, size_t size)
 {

@@ -130,7 +130,8 @@ pub enum Outcome {
 /// Why a call did not take place.
 #[derive(Clone, Copy, Debug, PartialEq, Eq)]
 pub enum Error {
-    /// Memory was refused. Take the reports, and make the same call again.
+    /// Memory was refused. Take all reports, and make the same call again: for `turn` that ends, whatever memory there is. Another event may be
+    /// refused for what it adds itself, and is given up then.
     NoMemory,
     /// The node is not open.
     Closed,
@@ -185,6 +186,13 @@ pub fn version() -> (u32, u32, u32) {
 /// ```
 pub fn node_bytes(limits: &Limits) -> Option<usize> {
     let bytes = unsafe { raw::nd_node_bytes(limits) };
+    (bytes > 0).then_some(bytes)
+}
+
+/// Returns how many bytes a pool of `bindings/c/pool.c` needs for one node with these limits, if no frame is longer than `longest` bytes, all records
+/// are polled after each call, and no call's moment passes what is due by more than a millisecond. `None` if a limit is out of its range.
+pub fn pool_bytes(limits: &Limits, longest: usize) -> Option<usize> {
+    let bytes = unsafe { raw::nd_pool_bytes(limits, longest) };
     (bytes > 0).then_some(bytes)
 }
 

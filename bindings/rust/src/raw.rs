@@ -239,6 +239,7 @@ pub struct nd_heard {
 extern "C" {
     pub fn nd_version() -> u32;
     pub fn nd_node_bytes(limits: *const nd_limits) -> usize;
+    pub fn nd_pool_bytes(limits: *const nd_limits, longest: usize) -> usize;
     pub fn nd_open(node: *mut nd_node, options: *const nd_options, size: usize) -> i32;
     pub fn nd_close(node: *mut nd_node);
     pub fn nd_last_moment(node: *mut nd_node) -> u64;

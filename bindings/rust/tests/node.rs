@@ -217,4 +217,8 @@ fn the_version_and_the_bytes() {
     assert_eq!(node_bytes(&Limits::default()), node_bytes(&usual()));
     assert_eq!(node_bytes(&Limits { neighbours: 2049, ..usual() }), None);
     assert!(node_bytes(&Limits { neighbours: 16, routers: 1, ..usual() }) < node_bytes(&usual()));
+    assert_eq!(pool_bytes(&Limits::default(), 1514), pool_bytes(&usual(), 1514));
+    assert_eq!(pool_bytes(&Limits { waiting: 9, ..usual() }, 1514), None);
+    assert!(pool_bytes(&usual(), 590) < pool_bytes(&usual(), 1514));
+    assert_eq!(pool_bytes(&usual(), 65_589), pool_bytes(&usual(), usize::MAX));
 }

@@ -1,1 +1,2 @@
 pub mod Nth
+pub mod Products

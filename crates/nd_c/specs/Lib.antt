@@ -7,3 +7,4 @@ pub mod Open
 pub mod Rows
 pub mod NextHop
 pub mod Bytes
+pub mod PoolBytes

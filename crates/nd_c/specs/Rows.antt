@@ -125,9 +125,10 @@ pub record AdvertisingOf (s : Session) (row : Option Advertising) : Type 0 where
 pub record ParametersOf (s : Session) (row : Option ParametersRow) : Type 0 where
   pub each : InEach s (λ start c. (values : Values) × parameters.Stands values (parameter_history c) × (row ≡ Some (parameters_row values)))
 
--- the numbers of entries, and the limits
+-- the numbers of entries, and the limits, which are those of the start
 pub record CountsOf (s : Session) (row : Option CountsRow) : Type 0 where
-  pub each : InEach s (λ start c. (counts : Counts) × Counted s.node counts × (row ≡ Some (counts_row counts start.limits)))
+  pub each : (counts : Counts) × Counted s.node counts × (row ≡ Some (counts_row counts s.node.limits))
+  pub limits : InEach s (λ start c. s.node.limits ≡ start.limits)
 
 -- the next hop of a packet to a destination
 pub record HopTo (now : ℕ) (destination : Addr) (s : Session) (row : Option NextHopRow) : Type 0 where

@@ -8,14 +8,15 @@ use nd_c_types::Limits;
 use nd_node::Limits as NodeLimits;
 
 /// The bytes of a row of each table, as measured. That of a search name has room for the longest name, and those of an offer and of a route have their
-/// part of a hash table. A destination is one whose redirect is kept, or whose next hop is remembered.
-const NEIGHBOUR: usize = 80;
+/// part of a hash table; that of an offer has its part of the room in reserve too. A destination is one whose redirect is kept, or whose next hop is
+/// remembered.
+const NEIGHBOUR: usize = 72;
 
 const ROUTER: usize = 65;
 
 const PREFIX: usize = 40;
 
-const ADDRESS: usize = 72;
+const ADDRESS: usize = 64;
 
 const SERVER: usize = 32;
 
@@ -23,7 +24,7 @@ const NAME: usize = 295;
 
 const DESTINATION: usize = 64;
 
-const OFFER: usize = 55;
+const OFFER: usize = 87;
 
 const ROUTE: usize = 84;
 
@@ -33,7 +34,7 @@ const BLOCK: usize = 816;
 const ROWS: usize = 32;
 
 /// The bytes that a node takes besides, with one block of each schedule, as measured and rounded up.
-const FIXED: usize = 8_704;
+const FIXED: usize = 9_216;
 
 /// Returns the most bytes that the tables of a node take with these limits, 0 for the usual ones. Returns 0 if a limit is out of its range.
 #[unsafe(no_mangle)]
@@ -42,15 +43,21 @@ pub extern "C" fn nd_node_bytes(limits: &Limits) -> usize
     ensures none { (AreChosen limits.now → ⊥) → result ≡ 0 }
 {
     match limits.chosen() {
-        Some(limits) => {
-            let dates = dates_bytes(limits.neighbours())
-                + dates_bytes(limits.routers())
-                + 2 * dates_bytes(limits.addresses());
-            let indexes = index_bytes(limits.redirects()) + index_bytes(limits.destinations());
-            FIXED + rows_bytes(limits) + dates + indexes
-        }
+        Some(limits) => table_bytes(limits),
         None => 0,
     }
+}
+
+/// Returns the most bytes that the tables take.
+pub(crate) fn table_bytes(limits: NodeLimits) -> usize
+    ensures value { result ≡ node_bytes limits }
+    ensures few { result ≤ 1300000 }
+{
+    let dates = dates_bytes(limits.neighbours())
+        + dates_bytes(limits.routers())
+        + 2 * dates_bytes(limits.addresses());
+    let indexes = index_bytes(limits.redirects()) + index_bytes(limits.destinations());
+    FIXED + rows_bytes(limits) + dates + indexes
 }
 
 /// Returns the most bytes that the rows of all tables take.
@@ -78,7 +85,7 @@ fn dates_bytes(rows: usize) -> usize
     if rows < ROWS {
         0
     } else {
-        BLOCK * (2 * (rows / ROWS) + 1)
+        BLOCK * (2 * ((rows - 1) / ROWS) + 1)
     }
 }
 

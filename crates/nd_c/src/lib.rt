@@ -12,6 +12,7 @@ mod hear;
 mod next_hop;
 mod node;
 mod poll;
+mod pool_bytes;
 mod questions;
 mod router_events;
 mod rows;

@@ -43,6 +43,6 @@ fn poll(session: &mut Session, out: &mut Record, buffer: &mut [u8]) -> i32
         return NO_ROOM;
     }
     buffer[..bytes.len()].copy_from_slice(bytes);
-    let _taken = session.take();
+    let _had_back = session.remove_oldest();
     DONE
 }
