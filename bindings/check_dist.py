@@ -3,9 +3,11 @@ again, and has the same bytes. It compiles without a warning; the examples print
 have their texts."""
 import os
 import sys
+import time
 
+from check_hostile import SEED
 from check_programs import BINDINGS, TESTS, check_host, check_lines, check_router, check_traces
-from checking import TOP, WARNINGS, has, read, report_if, run, skip
+from checking import IS_FULL, TOP, WARNINGS, has, read, report, report_if, run, skip
 
 sys.path.insert(0, f"{BINDINGS}/targets")
 import build  # noqa: E402
@@ -13,6 +15,8 @@ import stamp  # noqa: E402
 
 DIST = f"{TOP}/dist"
 EXAMPLES = ("host", "router", "hear")
+# The memory of nd.c for `fuzz`: enough for two nodes with the greatest limits, so that ND_NO_MEMORY is never returned.
+FUZZ_MEMORY = 1 << 26
 
 
 def check_stamp():
@@ -64,9 +68,29 @@ def check_compiled(room, compiler):
     check_traces(f"{room}/trace", f"trace over {what}")
 
 
+def over_dist(room, name, *more):
+    """Builds a test over nd.c, and returns its path, or None if that fails."""
+    words = ["gcc", "-std=c11", "-D_POSIX_C_SOURCE=200809L", "-O1", *more, f"-I{DIST}"]
+    said = run([*words, f"{DIST}/nd.c", f"{TESTS}/{name}.c", f"{TESTS}/uncounted.c", "-lm", "-o", f"{room}/{name}_dist"])
+    return f"{room}/{name}_dist" if report(f"{name} over dist/nd.c is built", said) else None
+
+
+def check_much_and_little(room):
+    """Runs `fuzz` over nd.c, whose heap refuses nothing, and `exhausted` over one that packets fill."""
+    seconds, seed = (600, int(time.time())) if IS_FULL else (5, SEED)
+    fuzz = over_dist(room, "fuzz", f"-DND_MEMORY_BYTES={FUZZ_MEMORY}")
+    if fuzz:
+        report(f"fuzz over dist/nd.c: {seconds} seconds, from seed {seed}", run([fuzz, str(seconds), str(seed)]))
+    exhausted = over_dist(room, "exhausted", "-DND_MEMORY_BYTES=131072", "-DND_FRAME_BYTES=2048")
+    if exhausted:
+        report("exhausted over dist/nd.c: a memory that packets fill, and a day", run([exhausted]))
+
+
 def check_dist(room):
     kept = check_stamp()
     check_made(room, kept)
+    if has("gcc", "fuzz and exhausted over dist/nd.c"):
+        check_much_and_little(room)
     for compiler in ("gcc", "clang"):
         if has(compiler, f"dist/nd.c by {compiler}"):
             check_compiled(room, compiler)

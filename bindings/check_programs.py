@@ -191,6 +191,24 @@ def check_bytes(program):
         print(check_runs(f"bytes: {' '.join(map(str, limits))}", [program, *map(str, limits)], FULL, FULL), end="")
 
 
+def check_pool(program):
+    """Requires that a pool of nd_pool_bytes is enough for all that a node does, and that a part of it isn't: half of it where packets take most,
+    and a quarter where tables and lists do."""
+    many, greatest = [64] + [0] * 9 + [8], [int(number) for number in re.findall(r"RANGE\(\w+, \d+, (\d+)\)", read(f"{TESTS}/ranges.h"))]
+    choices_of = [([1] * len(SMALL), 250), (SMALL, 250), ([16] + [0] * 10, 250), (many, 500), ([0] * len(SMALL), 500), (greatest[:2] + [0] * 9, 500)]
+    wrong = []
+    for limits, part in choices_of:
+        for role, longest in (("0", 590), ("0", 1514), ("1", 590), ("1", 1514)):
+            for thousandths, status in ((1000, 0), (part, 3)):
+                said = run([program, role, "4861", str(longest), str(thousandths), *map(str, limits)], input=FULL)
+                if status == 0:
+                    print(f"  {' '.join(map(str, limits))}, {('host', 'router')[int(role)]}, {longest}: {said.stdout}", end="")
+                wrong += [f"{limits}, {longest}: {said.stdout}{said.stderr}"] if said.returncode != status else []
+    report_if(f"pooled: {len(choices_of)} choices of limits, in a pool of nd_pool_bytes, and in a part of it", not wrong, "\n".join(wrong))
+    for role in ("0", "1"):
+        check_runs(f"pooled: a small node, {('host', 'router')[int(role)]}", [program, role, "4861", "1514", "1000", *map(str, SMALL)], FULL, FULL)
+
+
 def check_loops(room, archive):
     """Runs the loop at the head of nd.h on a link with a frame that is longer than its buffer, and requires that README.md has the same loop."""
     header = re.search(r"^ \*     (nd_node node = .*?nd_close\(&node\);)$", read(f"{INCLUDE}/nd.h"), re.M | re.S)[1]
@@ -242,6 +260,9 @@ def check_tests(room, archive):
     size = build(room, "bytes", [f"{TESTS}/bytes.c", COUNTING, archive])
     if size:
         check_bytes(size)
+    pooled = build(room, "pooled", [f"{TESTS}/pooled.c", POOL, archive], "-DND_POOL_GIVEN")
+    if pooled:
+        check_pool(pooled)
     trace = build(room, "trace", [f"{TESTS}/trace.c", COUNTING, archive])
     if trace:
         check_traces(trace)
@@ -259,6 +280,11 @@ def check_bare(room, archive):
     pool = build(room, "pool", [f"{TESTS}/pool.c", POOL])
     if pool:
         report("pool: 300,000 requests", run([pool, "300000"]))
+    exhausted = build(room, "exhausted", [f"{TESTS}/exhausted.c", POOL, archive], "-DND_POOL_GIVEN")
+    if exhausted:
+        said = run([exhausted])
+        report("exhausted: pools that packets fill, and a day", said)
+        print(said.stdout, end="")
     bare = build(room, "bare", [f"{TESTS}/bare.c", POOL, archive], *more)
     if bare:
         said = run([bare])

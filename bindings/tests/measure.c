@@ -4,14 +4,16 @@
  * functions take. */
 #include "tested.h"
 
+enum { MOST_BYTES = 65600 };
+
 static struct frame frames[MOST_FRAMES];
 static uint64_t moments[MOST_FRAMES];
 static bool sends[MOST_FRAMES];
 
 static size_t read_moments(void)
 {
-    static char line[2 * LONGEST_FRAME + 32];
-    static uint8_t bytes[LONGEST_FRAME];
+    static char line[2 * MOST_BYTES + 32];
+    static uint8_t bytes[MOST_BYTES];
     size_t count = 0;
     while (count < MOST_FRAMES && fgets(line, sizeof line, stdin) != NULL) {
         char *digits;

@@ -130,6 +130,7 @@ static void refuse_limits(const char *what, const nd_limits *limits)
     for (options.role = ND_ROLE_HOST; options.role <= ND_ROLE_ROUTER; options.role++)
         is(what, open_with(&node, options), ND_INVALID);
     is("has no number of bytes", (int64_t)nd_node_bytes(limits), 0);
+    is("has no number of bytes of a pool", (int64_t)nd_pool_bytes(limits, ND_BUFFER_BYTES), 0);
 }
 
 static void try_limits(void)
@@ -142,6 +143,8 @@ static void try_limits(void)
         refuse_limits(ranges[i].name, &limits);
         *limit_in(&limits, i) = ranges[i].greatest;
         is("the greatest limit has a number of bytes", nd_node_bytes(&limits) > 0, true);
+        is("a longer frame needs no smaller pool", nd_pool_bytes(&limits, 0) <= nd_pool_bytes(&limits, ND_BUFFER_BYTES), true);
+        is("a frame beyond the longest one counts as that", nd_pool_bytes(&limits, SIZE_MAX) == nd_pool_bytes(&limits, 65589), true);
     }
     for (size_t i = 0; i < sizeof((nd_limits *)0)->reserved / sizeof(uint16_t); i++) {
         nd_limits limits = {0};

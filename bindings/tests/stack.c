@@ -53,6 +53,7 @@ static void look_below(uintptr_t top, const char *call)
 #define WRAP_AT(call, type) WRAP(int32_t, call, (nd_node * node, uint64_t now, size_t index, type *row), node, now, index, row)
 
 WRAP(size_t, nd_node_bytes, (const nd_limits *limits), limits)
+WRAP(size_t, nd_pool_bytes, (const nd_limits *limits, size_t longest), limits, longest)
 WRAP(int32_t, nd_open, (nd_node * node, const nd_options *options, size_t size), node, options, size)
 WRAP(uint64_t, nd_last_moment, (nd_node * node), node)
 WRAP(uint64_t, nd_next_due, (nd_node * node), node)
