@@ -60,6 +60,8 @@
  *   - A jump costs what is due in it, at least one redraw of ReachableTime every two hours: an idle
  *     host takes seconds to a moment of 2^46, and a day or more to 2^62. A caller that passes
  *     nanoseconds seems to hang.
+ *   - A frame costs what its bytes cost: of a Router Advertisement each name and each option is
+ *     compared with as many as its table may have, and not with those before it.
  *   - After a sleep of an hour a router reports all the advertisements of that hour at once.
  *     Compare `moment` with your clock before you send, or close the node before the sleep.
  *   - An event can make something due at its own moment; it is done by the next call. So
@@ -69,10 +71,11 @@
  * place. Below 0: it did not, and it has changed nothing, but for ND_NO_MEMORY. If several hold,
  * the first in this order is returned: ND_INVALID, ND_CLOSED, ND_PAST, ND_NO_MEMORY.
  *   ND_NO_MEMORY: the event has added nothing. A part of what was due may have been done, and is
- *   reported. Poll, and make the same call again: if memory is not refused then, the node is as if
- *   it had not been refused before. If nothing is left to poll and memory is refused still, waiting
- *   alone frees none: give the node more memory, or close it. A frame may also be given up, as if
- *   the link had lost it.
+ *   reported. Poll until ND_NOTHING, and make the same call again: if memory is not refused then,
+ *   the node is as if it had not been refused before. Time passes whatever memory there is: if
+ *   nothing was left to poll, nd_turn has done at least the first thing that was due, so polling
+ *   and calling it again ends. Another event may be refused memory for what it adds itself, however
+ *   often it is called; then give it up: a frame is as if the link had lost it.
  *
  * WHAT A NODE REPORTS. Each event appends records to the node's queue, in the order in which things
  * happened; nd_poll takes the oldest. Poll until ND_NOTHING after each call: records take memory,
@@ -139,7 +142,8 @@
  *     nd_poll that of the record that it takes.
  *   - nd_poll, the questions (nd_.._at, nd_.._of), nd_last_moment and nd_next_due ask for no
  *     memory.
- *   - ND_BUFFER_BYTES and nd_node_bytes are enough, and a row costs what its index is.
+ *   - ND_BUFFER_BYTES, nd_node_bytes and nd_pool_bytes are enough, and a row costs what its index
+ *     is.
  * TRUSTED: the duties above, enough stack, the toolchain, and what nd.c is made by, which README.md
  * names. bindings/check compares this header with the library's source.
  */
@@ -221,6 +225,17 @@ typedef struct nd_limits {
  * call that runs. */
 size_t nd_node_bytes(const nd_limits *limits);
 
+/* Returns how many bytes the pool in ND_MEMORY_BYTES has to have for one node with these limits, so
+ * that no call returns ND_NO_MEMORY: for tables, packets that wait, the queue and the frames of one
+ * call, with the heads of the blocks and the holes between them. Its premise: all records are
+ * polled after each call; no frame that is received is longer than `longest` bytes, and no payload
+ * of nd_send than `longest` - 54; and no call's moment passes what is due by more than a
+ * millisecond, since a jump of time reports all of that time. A `longest` below 86 counts as 86,
+ * and one above 65,589 as that: what a longer frame has besides is padding, which is not kept.
+ * Returns 0 if a limit is out of its range. It is measured and tested, not proved. Several nodes in
+ * one pool need the sum. */
+size_t nd_pool_bytes(const nd_limits *limits, size_t longest);
+
 /* ---- a node ---------------------------------------------------------------------------------- */
 
 typedef struct nd_node {
@@ -282,15 +297,16 @@ uint64_t nd_next_due(nd_node *node);
 /* Lets time pass up to `now`, and does all that is due (RFC 4861, 6.2.4, 6.2.6, 6.3.5, 6.3.7,
  * 7.2.2, 7.3.3; RFC 4862, 5.4 and 5.5.4).
  *   ND_DONE        nd_last_moment is `now`, and nd_next_due is above it.
- *   ND_NO_MEMORY   A part of what is due may have been done. Call again.
+ *   ND_NO_MEMORY   A part of what is due may have been done, and at least the first thing if the
+ *                  queue was empty. Poll until ND_NOTHING, and call again.
  *   ND_INVALID (a moment of ND_MOMENT_LIMIT or above), ND_CLOSED, ND_PAST   Nothing has changed. */
 int32_t nd_turn(nd_node *node, uint64_t now);
 
 /* ---- events ---------------------------------------------------------------------------------- */
 
 /* Each event first does what nd_turn does, and then what it says. All of them return
- *   ND_NO_MEMORY   The event has added nothing; a part of what is due may have been done. Call
- *                  again.
+ *   ND_NO_MEMORY   The event has added nothing; a part of what is due may have been done. Poll
+ *                  until ND_NOTHING, and call again, or give the event up.
  *   ND_INVALID (a moment of ND_MOMENT_LIMIT or above), ND_CLOSED, ND_PAST   Nothing has changed. */
 
 /* Receives a frame (RFC 4861, 6.1, 6.2.6, 6.3.4, 7.1, 7.2.3 to 7.2.5, 8; RFC 4862, 5.4 and 5.5.3;
