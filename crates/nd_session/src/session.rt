@@ -1,6 +1,6 @@
 //! A session: its start, its events, and its queue.
 
-ghost use Rattle.std.specs.Prelude.{◌≡◌, ℕ, ◌<◌, ◌≤◌, ◌+◌, ◌↔◌, List, [], None, true, IfOk, IsSomeAnd, IsTrue, OnOk, OnErr, drop, max, vec_capacity, option_copied, slice_get};
+ghost use Rattle.std.specs.Prelude.{◌≡◌, ℕ, ◌<◌, ◌≤◌, ◌+◌, ◌↔◌, List, [], None, true, false, IfOk, IsSomeAnd, IsTrue, OnOk, OnErr, drop, max, vec_capacity, option_copied, slice_get};
 ghost use Rattle.nd_table.specs.Moment.{IsMoment};
 ghost use Rattle.nd_addr.specs.Frame.{headers_length};
 ghost use Rattle.nd_compose.specs.Frames.{longest_message};
@@ -194,13 +194,38 @@ impl Session {
     }
 
     /// Removes the oldest report from the queue and returns it, with its moment in milliseconds. A frame that was written into the room in reserve takes
-    /// it along: `remove_oldest` gets it back.
-    pub fn take(&mut self) -> Option<(u64, Out<Global>)>
-        ensures taken { result ≡ slice_get self.old.queue 0 }
-        ensures rest { self.new.queue ≡ drop 1 self.old.queue }
+    /// it along, so another room is made before a frame is taken, if it is missing. Returns an error if out of memory; nothing has changed then.
+    pub fn take(&mut self) -> Result<Option<(u64, Out<Global>)>, AllocError>
+        ensures taken { IfOk result (λ report. report ≡ slice_get self.old.queue 0) }
+        ensures rest { OnOk result (self.new.queue ≡ drop 1 self.old.queue) }
         ensures node { self.new.node ≡ self.old.node }
+        ensures ready { OnOk result (IsReady self.old → IsReady self.new) }
+        ensures same { OnErr result (self.new ≡ self.old) }
     {
-        self.queue.pop_first()
+        let Some((_, report)) = self.queue.first() else {
+            return Ok(None);
+        };
+        if is_frame(report) {
+            self.make_room()?;
+            return Ok(self.queue.pop_first());
+        }
+        Ok(self.queue.pop_first())
+    }
+
+    /// Makes the room in reserve, if it is missing. Returns an error if out of memory; nothing has changed then.
+    fn make_room(&mut self) -> Result<(), AllocError>
+        ensures in_hand { OnOk result (IsInHand self.new.node self.new.room) }
+        ensures node { self.new.node ≡ self.old.node }
+        ensures queue { self.new.queue ≡ self.old.queue }
+        ensures same { OnErr result (self.new ≡ self.old) }
+    {
+        let longest = self.node.longest_due();
+        if has_room_for(&self.room, longest) {
+            return Ok(());
+        }
+        let alloc = *self.queue.back.allocator();
+        self.room = Some(FrameRoom::with_room(alloc, longest)?);
+        Ok(())
     }
 
     /// Removes the oldest report from the queue, once the caller has copied what it needs of it. If the room in reserve is missing, the block of a frame
@@ -239,6 +264,13 @@ impl Session {
         self.room = Some(room);
         true
     }
+}
+
+/// Returns true if a report is a frame.
+fn is_frame(report: &Out<Global>) -> bool
+    ensures { result ≡ false → (frame : List ℕ) → happening report.now ≡ Sent frame → ⊥ }
+{
+    matches!(report, Out::Frame(_))
 }
 
 /// Returns the block of a report that is a frame.

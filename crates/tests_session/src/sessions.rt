@@ -42,7 +42,7 @@ fn host_in_slot(rt: &(impl Abort + AllocGlobal)) -> Slot {
 
 /// Takes the oldest report and returns its moment.
 fn next_moment(session: &mut Session) -> Option<u64> {
-    let (moment, _report) = session.take()?;
+    let (moment, _report) = session.take().ok()??;
     Some(moment)
 }
 
