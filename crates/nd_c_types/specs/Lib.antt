@@ -8,6 +8,7 @@ pub mod NextHop
 pub mod Numbers
 pub mod Offer
 pub mod Options
+pub mod OwnAddress
 pub mod Parameters
 pub mod Prefix
 pub mod Record

@@ -50,6 +50,7 @@ nothing = record { moment = 0; length = 0; kind = 0; code = 0; limit = 0; reserv
 abbrev pub of_refusal : Refusal → Record
 of_refusal refusals.WrongRole = record nothing { kind = 11; code = 1 }
 of_refusal refusals.Disabled = record nothing { kind = 11; code = 2 }
+of_refusal refusals.Tentative = record nothing { kind = 11; code = 8 }
 of_refusal (refusals.NotOurs source) = record nothing { kind = 11; code = 3; address = source.0 }
 of_refusal refusals.TooLong = record nothing { kind = 11; code = 4 }
 of_refusal (refusals.Full full) = record nothing { kind = 11; code = 5; limit = limit_number full }

@@ -5,7 +5,7 @@ ghost use Rattle.nd_c_types.specs.Address.{address_row, state_number};
 
 use crate::header::{STATE_DEPRECATED, STATE_DUPLICATE, STATE_PREFERRED, STATE_TENTATIVE};
 use crate::numbers::left_number;
-use nd_slaac::{OwnAddress, State};
+use nd_slaac::{ShownAddress, State};
 
 /// One of the node's own addresses: `nd_address_row` of the header.
 #[repr(C)]
@@ -18,12 +18,14 @@ pub struct AddressRow {
     pub address: [u8; 16],
     /// ND_STATE_TENTATIVE to ND_STATE_DUPLICATE.
     pub state: u32,
-    pub reserved: u32,
+    /// 1 if it was given by hand, else 0.
+    pub by_hand: u8,
+    pub reserved: [u8; 3],
 }
 
 impl AddressRow {
     /// Returns the row of an address.
-    pub fn of(own: &OwnAddress) -> AddressRow
+    pub fn of(own: &ShownAddress) -> AddressRow
         ensures { result ≡ address_row own.now }
     {
         AddressRow {
@@ -31,7 +33,8 @@ impl AddressRow {
             valid_left: left_number(own.valid_left),
             address: own.addr.0,
             state: state_number(own.state),
-            reserved: 0,
+            by_hand: u8::from(own.by_hand),
+            reserved: [0; 3],
         }
     }
 }

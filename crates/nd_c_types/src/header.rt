@@ -67,6 +67,8 @@ pub const REFUSAL_TOO_LONG: u32 = 4;
 
 pub const REFUSAL_FULL: u32 = 5;
 
+pub const REFUSAL_TENTATIVE: u32 = 8;
+
 // The tables that have a limit: `enum nd_limit`.
 pub const LIMIT_NEIGHBOURS: u32 = 1;
 

@@ -8,7 +8,8 @@ use crate::header::{
     LIMIT_SERVERS, LIMIT_STATIC_ROUTES, LOSS_FORGOTTEN, LOSS_HOP_LIMIT, LOSS_NO_ROUTE,
     LOSS_REPLACED, LOSS_UNREACHABLE, OUT_ASSIGNED, OUT_DROPPED, OUT_DUPLICATE, OUT_ENDED_ADDRESS,
     OUT_ENDED_ROUTER, OUT_FAILED, OUT_FRAME, OUT_HEARD, OUT_LOST, OUT_REFUSED, OUT_UP,
-    REFUSAL_DISABLED, REFUSAL_FULL, REFUSAL_NOT_OURS, REFUSAL_TOO_LONG, REFUSAL_WRONG_ROLE,
+    REFUSAL_DISABLED, REFUSAL_FULL, REFUSAL_NOT_OURS, REFUSAL_TENTATIVE, REFUSAL_TOO_LONG,
+    REFUSAL_WRONG_ROLE,
 };
 use nd_addr::{Addr, ETHERNET_HEADER_LENGTH};
 use nd_out::{Limit, Loss, Out, Refusal};
@@ -88,6 +89,7 @@ impl Record {
         match why {
             Refusal::WrongRole => Record::with_code(OUT_REFUSED, REFUSAL_WRONG_ROLE),
             Refusal::Disabled => Record::with_code(OUT_REFUSED, REFUSAL_DISABLED),
+            Refusal::Tentative => Record::with_code(OUT_REFUSED, REFUSAL_TENTATIVE),
             Refusal::NotOurs(source) => Record {
                 code: REFUSAL_NOT_OURS,
                 ..Record::about(OUT_REFUSED, *source)

@@ -1,6 +1,6 @@
 -- An event adds one thing, and a history has one chronicle.
 use Rattle.std.proofs.Common.{◌≡◌, ℕ, Bool, true, false, List, [], ◌∷◌, ◌++◌, Option, Some, None, sym, ◌∙◌, ap, subst}
-use Rattle.std.specs.Prelude.{MatchBool, map, bytes_eq, nat_lt}
+use Rattle.std.specs.Prelude.{MatchBool, map, bytes_eq, nat_lt, ◌==◌}
 use Rattle.std.specs.Option.{option_map}
 use Rattle.nd_addr.specs.declared.addr.Addr.{Addr}
 use Rattle.nd_addr.specs.Kind.{multicast_prefix, unspecified_address}
@@ -10,7 +10,6 @@ use Rattle.nd_addr.specs.declared.role.Role.{Role}
 use Rattle.nd_addr.specs.declared.role.Role.TheVariants.{Host, Router}
 use Rattle.nd_addr.specs.Same.{same_addr, addrs_tell, same_prefix, prefixes_tell, bytes_tell}
 use Rattle.nd_forwarding.specs.Forward.{Fate, lost_no_route, lost_hop_limit, sent, fate}
-use Rattle.nd_forwarding.specs.Redirect.{last_redirect, redirect}
 use Rattle.nd_forwarding.specs.Routes.{routes}
 use Rattle.nd_decode.specs.Message.{Parts}
 use Rattle.nd_decode.specs.declared.body.Body.{Body}
@@ -23,22 +22,25 @@ use Rattle.nd_neighbour.proofs.Unique as neighbour_proofs
 use Rattle.nd_nexthop.specs.NextHop.{NextHop, direct, via, no_route}
 use Rattle.nd_slaac.specs.Shown as addresses
 use Rattle.nd_slaac.specs.PrefixOption.{prefixes_in}
-use Rattle.nd_slaac.proofs.Unique.{one_fit}
+use Rattle.nd_slaac.specs.History.{Lifetimes}
+use Rattle.nd_slaac.specs.State.{is_known}
+use Rattle.nd_slaac.proofs.Unique.{one_fit, one_room}
 use Rattle.nd_dns.specs.AnnouncedNames.{same_name}
-use Rattle.nd_chronicle.specs.Start.{Start}
+use Rattle.nd_chronicle.specs.Start.{Start, link_local_key}
 use Rattle.nd_chronicle.specs.Happening.{Chronicle, Heard, ClearedRedirects, RedirectMade, Shown, Limit, Refusal, Full, Passed, TooLate, last_moment}
 use Rattle.nd_chronicle.specs.Histories.{neighbour_history, prefix_history, address_history, server_history, name_history, route_history, router_history}
 use Rattle.nd_chronicle.specs.Message.{said, PlaceFor, releasing}
-use Rattle.nd_chronicle.specs.RouterAdvertisement.{then_advertised}
+use Rattle.nd_chronicle.specs.RouterAdvertisement.{forming, then_advertised}
+use Rattle.nd_chronicle.specs.ByHand.{FormsByHand, no_room, refusal_of_address, setting}
 use Rattle.nd_chronicle.specs.NeighborSolicitation as asked
 use Rattle.nd_chronicle.specs.NeighborSolicitation.{is_router}
 use Rattle.nd_compose.specs.Frames.{answer_frame}
-use Rattle.nd_chronicle.specs.OwnAddress.{is_own}
+use Rattle.nd_chronicle.specs.OwnAddress.{is_own, story_of}
 use Rattle.nd_chronicle.specs.Packet.{no_place, Goes, GoesIfPlaced}
 use Rattle.nd_chronicle.specs.Refused.{UnlessRefused, AtRouter}
 use Rattle.nd_chronicle.specs.Hearing.{Verdict, hears, goes_up, goes_on, drops}
 use Rattle.nd_chronicle.specs.Advertising.{planning, wants_answer, full_of_offers, full_of_routes}
-use Rattle.nd_chronicle.specs.Forwarding.{better_hop_frame, frame_sent_on, Redirects, SendsOn, FateAdds}
+use Rattle.nd_chronicle.specs.Forwarding.{better_hop_frame, frame_sent_on, Redirects, SendsOn, FateAdds, redirect_to}
 use Rattle.nd_chronicle.specs.NeighborAdvertisement.{then_neighbor_advertised}
 use Rattle.nd_chronicle.specs.Full.{needs, Placed, Fills}
 use Rattle.nd_chronicle.specs.Shown as tables
@@ -140,7 +142,7 @@ module _ (start : Start) (c : Chronicle) (now : ℕ) where
     one_fate : (f : Fate) (d e : Chronicle) → FateAdds start now f packet bytes c d → FateAdds start now f packet bytes c e → d ≡ e
     one_fate lost_no_route d e h k = h ∙ sym k
     one_fate lost_hop_limit d e h k = h ∙ sym k
-    one_fate (sent next) d e h k = one_sends_on (redirect (is_own c) (routes (route_history c)) (last_redirect (route_history c)) now packet.header) _ d e h k
+    one_fate (sent next) d e h k = one_sends_on (redirect_to start now packet c) _ d e h k
 
   one_verdict : (frame : List ℕ) (v : Verdict) (d e : Chronicle) → VerdictAdds start now frame v c d → VerdictAdds start now frame v c e → d ≡ e
   one_verdict frame (drops why) d e h k = h ∙ sym k
@@ -192,6 +194,16 @@ module _ (start : Start) (c : Chronicle) (now : ℕ) where
   one_rows tables.AdvertiseTable a b h k = h ∙ sym k
   one_rows tables.RouteTable a b h k = h ∙ sym k
 
+  one_set : (own known : Bool) (key : ℕ) (lifetimes : Lifetimes) (d e : Chronicle)
+      → MatchBool own (d ≡ c) (MatchBool known (d ≡ setting start now key lifetimes c) (FormsByHand start now key lifetimes c d))
+      → MatchBool own (e ≡ c) (MatchBool known (e ≡ setting start now key lifetimes c) (FormsByHand start now key lifetimes c e)) → d ≡ e
+  one_set true known key lifetimes d e h k = h ∙ sym k
+  one_set false true key lifetimes d e h k = h ∙ sym k
+  one_set false false key lifetimes d e h k =
+      let same : h.0 ≡ k.0 = one_room start.limits.addresses (address_history c) h.0 k.0 h.1 k.1 in
+      unless_refused (option_map Full (no_room k.0)) _ d e (λ x y. x ∙ sym y)
+      (subst (λ (room : Bool). UnlessRefused now (option_map Full (no_room room)) (λ x. x ≡ setting start now key lifetimes (forming start now false key lifetimes c)) c d) same h.2) k.2
+
   pub one_event : (event : Event) (d e : Chronicle) → EventAdds start now event c d → EventAdds start now event c e → d ≡ e
   one_event events.Passes d e h k = h ∙ sym k
   one_event (events.Receives frame) d e h k = one_frame frame d e h k
@@ -206,6 +218,10 @@ module _ (start : Start) (c : Chronicle) (now : ℕ) where
   one_event (events.Routes prefix route) d e h k =
       at_router start.role _ d e (λ x y. unless_refused (option_map Full (full_of_routes start prefix c)) _ d e (λ u v. u ∙ sym v) x y) h k
   one_event events.Stops d e h k = at_router start.role _ d e (λ x y. x ∙ sym y) h k
+  one_event (events.Sets own) d e h k =
+      unless_refused (refusal_of_address start now c) _ d e
+      (one_set (number_of own.address.0 == link_local_key start) (is_known (story_of c (number_of own.address.0))) (number_of own.address.0) own.lifetimes d e) h k
+  one_event (events.Withdraws address) d e h k = h ∙ sym k
 
 module _ (start : Start) where
   one_walked : (c : Chronicle) (now : ℕ) (event : Event) (d e : Chronicle)

@@ -11,9 +11,9 @@ use Rattle.nd_table.specs.History.{Past}
 use Rattle.nd_table.proofs.Pasts.{past_self, past_below, all_before}
 use Rattle.nd_slaac.specs.Due.{Falls, Ends, Solicits, Assigns, FirstDue, due_row}
 use Rattle.nd_slaac.specs.Ends.{valid_end}
-use Rattle.nd_slaac.specs.History.{Row, RowKind, Story, story, is_end, Formed, Announced, Solicited, Conflict, Assigned, Ended}
+use Rattle.nd_slaac.specs.History.{Row, RowKind, Story, story, is_end, Formed, SetByHand, Announced, Solicited, Conflict, Assigned, Ended}
 use Rattle.nd_slaac.specs.PrefixOption.{is_taken, named_by, lifetimes_of, prefixes_in}
-use Rattle.nd_slaac.specs.State.{is_known, has_conflict, was_assigned, is_tentative, is_assigned}
+use Rattle.nd_slaac.specs.State.{is_by_hand, is_known, has_conflict, was_assigned, is_tentative, is_assigned}
 use Rattle.nd_slaac.proofs.Dues.{tentative_parts}
 use Rattle.nd_slaac.proofs.Steps.{other_story, same_story, ended_story}
 use Rattle.nd_chronicle.specs.Start.{Start, link_local_key}
@@ -27,7 +27,7 @@ use Rattle.nd_chronicle.specs.History.{Walk, over, adds, passes, Runs, beginning
 use Rattle.nd_chronicle.proofs.Named.{names_another, heard_fit}
 use Rattle.nd_chronicle.proofs.Growth.{runs_grows}
 use Rattle.nd_chronicle.proofs.Pasts.{history_past}
-use Rattle.nd_chronicle.proofs.OwnRows.{Brings, Nothing, Conflicts, Announces, BringsDue, NoRow, ItsRow, delay_same, event_brings, comes_brings}
+use Rattle.nd_chronicle.proofs.OwnRows.{Brings, Nothing, Conflicts, Announces, SetsKnown, FormsSet, EndsKnown, BringsDue, NoRow, ItsRow, delay_same, event_brings, comes_brings}
 
 -- The own address never ends, and any other is known only where it is assigned.
 record Grounded (own : ℕ) (history : List Row) : Type 0 where
@@ -134,15 +134,16 @@ module _ (start : Start) where
     up_if true c d s r = s
     up_if false c d s r = r
 
-    up_naming : (known : Bool) (info : PrefixInfo) (c : Chronicle) → named_by start.mac info ≢ link_local_key start → StandsUp (address_history c) → StandsUp (address_history (naming start now to_all known info c))
-    up_naming true info c not s = up_row (named_by start.mac info) (Announced (lifetimes_of info)) (address_history c) not s
-    up_naming false info c not s =
+    up_naming : (hand known : Bool) (info : PrefixInfo) (c : Chronicle) → named_by start.mac info ≢ link_local_key start → StandsUp (address_history c) → StandsUp (address_history (naming start now to_all hand known info c))
+    up_naming true known info c not s = s
+    up_naming false true info c not s = up_row (named_by start.mac info) (Announced (lifetimes_of info)) (address_history c) not s
+    up_naming false false info c not s =
         up_if (info.valid_lifetime == 0) c (forming start now to_all (named_by start.mac info) (lifetimes_of info) c) s
         (up_row (named_by start.mac info) _ (address_history (with_delay start now to_all c)) not (subst StandsUp (sym (delay_same now start to_all c)) s))
 
     up_option : (taken : Bool) (info : PrefixInfo) (c : Chronicle) → is_taken info ≡ taken → FitsPrefix info → StandsUp (address_history c)
-        → StandsUp (address_history (cond taken (naming start now to_all (is_known (story_of c (named_by start.mac info))) info c) c))
-    up_option true info c taken f s = up_naming (is_known (story_of c (named_by start.mac info))) info c (names_another start.mac info f.prefix_is.address_is taken) s
+        → StandsUp (address_history (cond taken (naming start now to_all (is_by_hand (story_of c (named_by start.mac info))) (is_known (story_of c (named_by start.mac info))) info c) c))
+    up_option true info c taken f s = up_naming (is_by_hand (story_of c (named_by start.mac info))) (is_known (story_of c (named_by start.mac info))) info c (names_another start.mac info f.prefix_is.address_is taken) s
     up_option false info c taken f s = s
 
     up_options : (infos : List PrefixInfo) (c : Chronicle) → AllByRecursion FitsPrefix infos → StandsUp (address_history c) → StandsUp (address_history (then_options start now to_all infos c))
@@ -164,9 +165,21 @@ module _ (start : Start) where
   stands_event bytes (Nothing same) s = subst Stands (sym same) s
   stands_event {now = now} {c = c} bytes (Conflicts key tentative is) s =
       subst Stands (sym is) (of_tentative (link_local_key start) now key Conflict (address_history c) (ground (link_local_key start) (address_history c) s) refl (λ s. refl) tentative, s)
+  stands_event {now = now} {c = c} bytes (SetsKnown key lifetimes not known is) s =
+      let own = link_local_key start in
+      let g = ground own (address_history c) s in
+      subst Stands (sym is) (beside own now key (SetByHand lifetimes) (address_history c) g (ne_eqb key own not) (λ known'. g.first key not known), s)
+  stands_event {now = now} {c = c} bytes (EndsKnown key not known is) s =
+      let own = link_local_key start in
+      let g = ground own (address_history c) s in
+      subst Stands (sym is) (beside own now key Ended (address_history c) g (ne_eqb key own not) (λ known'. g.first key not known), s)
+  stands_event {now = now} {c = c} bytes (FormsSet own set not unknown up is) s =
+      let key = number_of own.address.0 in
+      let formed : StandsUp ((now, key, Formed 0 (retrans_timer c) (Some own.lifetimes)) ∷ address_history c) = up_row now false key _ (address_history c) not (s, up) in
+      subst (λ (x : Chronicle). Stands (address_history x)) (sym is) (up_row now false key (SetByHand own.lifetimes) _ not formed).0
   stands_event {now = now} bytes (Announces frame message to_all e received spelled up same is) s =
       subst (λ (x : Chronicle). Stands (address_history x)) (sym is)
-      (up_options now to_all (prefixes_in message.options) e (heard_fit frame message (bytes frame received) spelled) (subst StandsUp (sym same) (s, up))).0
+      (up_options now to_all (prefixes_in message.options) e (heard_fit frame message (bytes.frame frame received) spelled) (subst StandsUp (sym same) (s, up))).0
 
   stands_follows : (t : Bool) (c : Chronicle) (now last : ℕ) (event : Event) (d : Chronicle) → ComesAsBytes event → Stands (address_history c)
       → MatchBool t (d ≡ (now, TooLate last) ∷ c) ((e : Chronicle) × Walk start c (last_moment start.at c) now e × EventAdds start now event ((now, Passed) ∷ e) d) → Stands (address_history d)

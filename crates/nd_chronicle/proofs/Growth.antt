@@ -107,7 +107,9 @@ event_grows start now c event d h = event_keeps start now (GrowsAt now c) (plain
     (λ key delay lifetimes e g. grows_by (Address key (addresses.Formed delay (retrans_timer e) (Some lifetimes))) refl g) (λ key lifetimes e g. grows_by (Address key (addresses.Announced lifetimes)) refl g)
     (λ source destination message e none g. grows_by (Heard source destination message) refl g)
     (λ source destination target message e targets g. grows_by (Address (number_of target.0) addresses.Conflict) refl (grows_by (Heard source destination message) refl g))
-    c (GrowsAt now c) (λ e g. g) (λ r. grows_by (Refused r) refl (stays now c)) event d (λ settings is. grows_by (Configured settings) refl (stays now c)) h (stays now c)
+    c (GrowsAt now c) (λ e g. g) (λ r. grows_by (Refused r) refl (stays now c))
+    (λ key lifetimes e g. grows_by (Address key (addresses.SetByHand lifetimes)) refl g) (λ key e g. grows_by (Address key addresses.Ended) refl g)
+    event d (λ settings is. grows_by (Configured settings) refl (stays now c)) h (stays now c)
 
 module _ (start : Start) where
   walk_grows : {c d : Chronicle} {m n : ℕ} → Walk start c m n d → Grows c d

@@ -14,7 +14,6 @@ use Rattle.nd_advertiser.specs.Advertising.{tells_its_end}
 use Rattle.nd_advertiser.specs.Config.{Settings}
 use Rattle.nd_advertiser.specs.Contents.{last_contents_of}
 use Rattle.nd_forwarding.specs.Forward.{Fate, lost_no_route, lost_hop_limit, sent, fate}
-use Rattle.nd_forwarding.specs.Redirect.{last_redirect, redirect}
 use Rattle.nd_forwarding.specs.Routes.{routes}
 use Rattle.nd_decode.specs.Message.{Parts}
 use Rattle.nd_decode.specs.declared.body.Body.{Body}
@@ -35,21 +34,22 @@ use Rattle.nd_slaac.specs.History as addresses
 use Rattle.nd_slaac.specs.History.{Lifetimes, Story}
 use Rattle.nd_slaac.specs.PrefixOption.{is_taken, prefixes_in, named_by, lifetimes_of}
 use Rattle.nd_slaac.specs.State as states
-use Rattle.nd_chronicle.specs.Start.{Start}
-use Rattle.nd_chronicle.specs.Happening.{Chronicle, Happening, Address, Heard, Neighbour, Sent, Refused, Configured, Ceased, RedirectMade, Forgotten, Loss, Refusal, WrongRole, Full}
+use Rattle.nd_chronicle.specs.Start.{Start, link_local_key}
+use Rattle.nd_chronicle.specs.Happening.{Chronicle, Happening, Address, Heard, Neighbour, Sent, Refused, Configured, Ceased, RedirectMade, Forgotten, Loss, Refusal, WrongRole, Disabled, Tentative, Full}
 use Rattle.nd_chronicle.specs.Histories.{neighbour_history, advertising_history, route_history}
 use Rattle.nd_chronicle.specs.InForce.{base_reachable_time, retrans_timer}
-use Rattle.nd_chronicle.specs.OwnAddress.{story_of, is_assigned, is_own, is_tentative}
+use Rattle.nd_chronicle.specs.OwnAddress.{story_of, is_assigned, is_disabled, is_own, is_tentative, is_up}
 use Rattle.nd_chronicle.specs.Packet.{losing, sending, with_pushed, MakesPlace, then_packet, Goes, GoesIfPlaced}
 use Rattle.nd_chronicle.specs.Refused.{UnlessRefused, AtRouter}
 use Rattle.nd_chronicle.specs.Hearing.{Verdict, hears, goes_up, goes_on, drops, conflicts_with}
 use Rattle.nd_chronicle.specs.Advertising.{advertising_by, planning, telling_end, wants_answer, full_of_offers, full_of_routes}
-use Rattle.nd_chronicle.specs.Forwarding.{Redirects, SendsOn, FateAdds}
+use Rattle.nd_chronicle.specs.Forwarding.{Redirects, SendsOn, FateAdds, redirect_to}
 use Rattle.nd_chronicle.specs.Message.{said, PlaceFor, sending_if_known, releasing, leaving}
 use Rattle.nd_chronicle.specs.RouterAdvertisement.{redrawing, with_delay, forming, naming, then_option, then_options, times_out, then_advertised}
 use Rattle.nd_chronicle.specs.NeighborSolicitation as asked
 use Rattle.nd_chronicle.specs.NeighborSolicitation.{then_tried}
 use Rattle.nd_chronicle.specs.NeighborAdvertisement.{conflicting, ends_in_list}
+use Rattle.nd_chronicle.specs.ByHand.{FormsByHand, no_room, setting}
 use Rattle.nd_chronicle.specs.Event as events
 use Rattle.nd_chronicle.specs.Event.{Event, Clearable, packet_bytes, MessageAdds, VerdictAdds, PacketAdds, SendAdds, refusal_of_packet, ClearAdds, clearing, all_leaving, EventAdds}
 use Rattle.nd_chronicle.specs.Due.{then_neighbour}
@@ -187,15 +187,16 @@ module _ (start : Start) (at : ℕ) (Kept : Chronicle → Type 0) (plain : (what
     if_keeps true c d k l = k
     if_keeps false c d k l = l
 
-    naming_keeps : (to_all known : Bool) (info : PrefixInfo) (c : Chronicle) → Kept c → Kept (naming start at to_all known info c)
-    naming_keeps to_all true info c k = renews (named_by start.mac info) (lifetimes_of info) c k
-    naming_keeps to_all false info c k = if_keeps (info.valid_lifetime == 0) c _ k (forming_keeps to_all _ _ c k)
+    naming_keeps : (to_all hand known : Bool) (info : PrefixInfo) (c : Chronicle) → Kept c → Kept (naming start at to_all hand known info c)
+    naming_keeps to_all true known info c k = k
+    naming_keeps to_all false true info c k = renews (named_by start.mac info) (lifetimes_of info) c k
+    naming_keeps to_all false false info c k = if_keeps (info.valid_lifetime == 0) c _ k (forming_keeps to_all _ _ c k)
 
     options_keep : (to_all : Bool) (infos : List PrefixInfo) (c : Chronicle) → Kept c → Kept (then_options start at to_all infos c)
     options_keep to_all [] c k = k
     options_keep to_all (info ∷ infos) c k =
         options_keep to_all infos (then_option start at to_all info c)
-        (if_keeps (is_taken info) _ c (naming_keeps to_all (states.is_known (story_of c (named_by start.mac info))) info c k) k)
+        (if_keeps (is_taken info) _ c (naming_keeps to_all (states.is_by_hand (story_of c (named_by start.mac info))) (states.is_known (story_of c (named_by start.mac info))) info c k) k)
 
     -- ---- a message is heard
 
@@ -268,7 +269,9 @@ module _ (start : Start) (at : ℕ) (Kept : Chronicle → Type 0) (plain : (what
 
     -- ---- any event: an end is where its rows are kept, or its refusal comes alone
 
-    module _ (c : Chronicle) (End : Chronicle → Type 0) (ends : (d : Chronicle) → Kept d → End d) (refused : (r : Refusal) → End ((at, Refused r) ∷ c)) where
+    module _ (c : Chronicle) (End : Chronicle → Type 0) (ends : (d : Chronicle) → Kept d → End d) (refused : (r : Refusal) → End ((at, Refused r) ∷ c))
+        (sets : (key : ℕ) (lifetimes : Lifetimes) (c : Chronicle) → Kept c → Kept ((at, Address key (addresses.SetByHand lifetimes)) ∷ c))
+        (withdraws : (key : ℕ) (c : Chronicle) → Kept c → Kept ((at, Address key addresses.Ended) ∷ c)) where
       end_at : {d e : Chronicle} → d ≡ e → Kept e → End d
       end_at {d = d} same k = ends d (kept_to same k)
 
@@ -298,7 +301,7 @@ module _ (start : Start) (at : ℕ) (Kept : Chronicle → Type 0) (plain : (what
       fate_keeps : (fate : Fate) (packet : PacketParts) (bytes : List ℕ) (d : Chronicle) → FateAdds start at fate packet bytes c d → Kept c → End d
       fate_keeps lost_no_route packet bytes d h k = end_at h (plain _ c refl k)
       fate_keeps lost_hop_limit packet bytes d h k = end_at h (plain _ c refl k)
-      fate_keeps (sent next) packet bytes d h k = sends_on_keeps (redirect (is_own c) (routes (route_history c)) (last_redirect (route_history c)) at packet.header) packet bytes _ d h k
+      fate_keeps (sent next) packet bytes d h k = sends_on_keeps (redirect_to start at packet c) packet bytes _ d h k
 
       verdict_keeps : (frame : List ℕ) (v : Verdict) (d : Chronicle) → VerdictAdds start at frame v c d → Kept c → End d
       verdict_keeps frame (drops why) d h k = end_at h (plain _ c refl k)
@@ -329,6 +332,20 @@ module _ (start : Start) (at : ℕ) (Kept : Chronicle → Type 0) (plain : (what
       clear_keeps events.ClearRedirects d h k = end_at h (plain _ c refl k)
       clear_keeps events.ClearDns d h k = end_at h (plain _ c refl k)
 
+      set_keeps : (disabled up own known : Bool) (key : ℕ) (lifetimes : Lifetimes) (d : Chronicle)
+          → UnlessRefused at (cond disabled (Some Disabled) (cond up None (Some Tentative)))
+          (λ e. MatchBool own (e ≡ c) (MatchBool known (e ≡ setting start at key lifetimes c) (FormsByHand start at key lifetimes c e))) c d → Kept c → End d
+      set_keeps true up own known key lifetimes d h k = refused_at Disabled h
+      set_keeps false false own known key lifetimes d h k = refused_at Tentative h
+      set_keeps false true true known key lifetimes d h k = end_at h k
+      set_keeps false true false true key lifetimes d h k = end_at h (sets key lifetimes c k)
+      set_keeps false true false false key lifetimes d h k =
+          refused_keeps (option_map Full (no_room h.0)) _ d (λ x. end_at x (sets key lifetimes _ (forms key 0 lifetimes c k))) h.2
+
+      withdrawing_keeps : (t : Bool) (key : ℕ) (d : Chronicle) → d ≡ cond t ((at, Address key addresses.Ended) ∷ c) c → Kept c → End d
+      withdrawing_keeps true key d h k = end_at h (withdraws key c k)
+      withdrawing_keeps false key d h k = end_at h k
+
       pub event_keeps : (event : Event) (d : Chronicle) → ((settings : Settings) → event ≡ events.Advertises settings → Kept ((at, Configured settings) ∷ c)) → EventAdds start at event c d → Kept c → End d
       event_keeps events.Passes d settles h k = end_at h k
       event_keeps (events.Receives frame) d settles h k = verdict_keeps frame h.verdict d h.adds k
@@ -346,3 +363,7 @@ module _ (start : Start) (at : ℕ) (Kept : Chronicle → Type 0) (plain : (what
           at_router_keeps start.role _ d (λ x. refused_keeps (option_map Full (full_of_routes start prefix c)) _ d (λ y. end_at y (plain _ c refl k)) x) h
       event_keeps events.Stops d settles h k =
           at_router_keeps start.role _ d (λ x. end_at x (telling_keeps (tells_its_end (advertising_history start c)) (last_contents_of start.mac (advertising_history start c)) _ (plain Ceased c refl k))) h
+      event_keeps (events.Sets own) d settles h k =
+          set_keeps (is_disabled start c) (is_up start c) (number_of own.address.0 == link_local_key start) (states.is_known (story_of c (number_of own.address.0))) (number_of own.address.0) own.lifetimes d h k
+      event_keeps (events.Withdraws address) d settles h k =
+          withdrawing_keeps (states.is_known (story_of c (number_of address.0)) && not (number_of address.0 == link_local_key start)) (number_of address.0) d h k

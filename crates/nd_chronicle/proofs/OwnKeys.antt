@@ -21,9 +21,10 @@ use Rattle.nd_message.specs.Fitting.{FitsPrefix}
 use Rattle.nd_table.specs.History.{Past}
 use Rattle.nd_table.proofs.Pasts.{all_before}
 use Rattle.nd_slaac.specs.Due.{Ends, Solicits, Assigns}
-use Rattle.nd_slaac.specs.History.{Row, RowKind, story, Formed, Announced, Solicited, Conflict, Assigned, Ended}
+use Rattle.nd_slaac.specs.History.{Row, RowKind, story, Formed, SetByHand, Announced, Solicited, Conflict, Assigned, Ended}
 use Rattle.nd_slaac.specs.PrefixOption.{is_taken, named_by, link_local_of, prefixes_in}
-use Rattle.nd_slaac.specs.State.{is_known}
+use Rattle.nd_slaac.specs.ByHand.{AddressByHand, IsOwnAddress}
+use Rattle.nd_slaac.specs.State.{is_by_hand, is_known}
 use Rattle.nd_slaac.proofs.Steps.{other_story, same_story, ended_story}
 use Rattle.nd_chronicle.specs.Start.{Start}
 use Rattle.nd_chronicle.specs.Happening.{Chronicle, Passed, TooLate, last_moment}
@@ -34,7 +35,7 @@ use Rattle.nd_chronicle.specs.Event.{ComeAsBytes, ComesAsBytes, Event, EventAdds
 use Rattle.nd_chronicle.specs.History.{Walk, over, adds, passes, Runs, beginning}
 use Rattle.nd_chronicle.proofs.Named.{heard_fit}
 use Rattle.nd_chronicle.proofs.Pasts.{history_past}
-use Rattle.nd_chronicle.proofs.OwnRows.{Brings, Nothing, Conflicts, Announces, BringsDue, NoRow, ItsRow, delay_same, event_brings, comes_brings}
+use Rattle.nd_chronicle.proofs.OwnRows.{Brings, Nothing, Conflicts, Announces, SetsKnown, FormsSet, EndsKnown, BringsDue, NoRow, ItsRow, delay_same, event_brings, comes_brings}
 
 pub record IsUsable (key : ℕ) : Type 0 where
   pub number : number_of (addr_at key).0 ≡ key
@@ -86,6 +87,14 @@ named_usable mac info m p taken =
     formed_usable info.prefix.address.0 mac.0 p m
     (not_multicast info.autonomous (holds multicast_prefix info.prefix.address.0) (holds link_local_prefix info.prefix.address.0) _ _ taken)
 
+-- an address that is given by hand
+is_unicast : (multicast unspecified loopback endless lives : Bool) → (not multicast && not unspecified && not loopback && not endless && lives) ≡ true → multicast ≡ false
+is_unicast false unspecified loopback endless lives h = refl
+is_unicast true unspecified loopback endless lives h = absurd (let no : ⊥ = cc in no)
+
+given_usable : (own : AddressByHand) → IsOwnAddress own → IsUsable (number_of own.address.0)
+given_usable own is = usable own.address.0 is.bytes (is_unicast (holds multicast_prefix own.address.0) _ _ _ _ is.may)
+
 link_local_bytes : AreBytes 16 link_local_address
 link_local_bytes = record {
   len_is = refl;
@@ -134,6 +143,7 @@ own_row : (key at : ℕ) (kind : RowKind) (history : List Row) → FormsUsable (
     → is_known (story key ((at, key, kind) ∷ history)) ≡ true → IsUsable key
 own_row key at (Formed delay retrans lifetimes) history u more known = u
 own_row key at Ended history u more known = absurd (true≢false (sym known ∙ ap is_known (ended_story key at history)))
+own_row key at (SetByHand lifetimes) history u more known = more (sym (ap is_known (same_story key at (SetByHand lifetimes) history refl)) ∙ known)
 own_row key at (Announced lifetimes) history u more known = more (sym (ap is_known (same_story key at (Announced lifetimes) history refl)) ∙ known)
 own_row key at Solicited history u more known = more (sym (ap is_known (same_story key at Solicited history refl)) ∙ known)
 own_row key at Conflict history u more known = more (sym (ap is_known (same_story key at Conflict history refl)) ∙ known)
@@ -156,15 +166,16 @@ module _ (start : Start) (mac : AreBytes 6 start.mac.0) where
     usable_if true c d u v = u
     usable_if false c d u v = v
 
-    usable_naming : (known : Bool) (info : PrefixInfo) (c : Chronicle) → IsUsable (named_by start.mac info) → AllUsable (address_history c)
-        → AllUsable (address_history (naming start now to_all known info c))
-    usable_naming true info c key u = (tt, u)
-    usable_naming false info c key u =
+    usable_naming : (hand known : Bool) (info : PrefixInfo) (c : Chronicle) → IsUsable (named_by start.mac info) → AllUsable (address_history c)
+        → AllUsable (address_history (naming start now to_all hand known info c))
+    usable_naming true known info c key u = u
+    usable_naming false true info c key u = (tt, u)
+    usable_naming false false info c key u =
         usable_if (info.valid_lifetime == 0) c (forming start now to_all (named_by start.mac info) _ c) u (key, subst AllUsable (sym (delay_same now start to_all c)) u)
 
     usable_option : (taken : Bool) (info : PrefixInfo) (c : Chronicle) → is_taken info ≡ taken → FitsPrefix info → AllUsable (address_history c)
-        → AllUsable (address_history (cond taken (naming start now to_all (is_known (story_of c (named_by start.mac info))) info c) c))
-    usable_option true info c taken f u = usable_naming (is_known (story_of c (named_by start.mac info))) info c (named_usable start.mac info mac f.prefix_is.address_is taken) u
+        → AllUsable (address_history (cond taken (naming start now to_all (is_by_hand (story_of c (named_by start.mac info))) (is_known (story_of c (named_by start.mac info))) info c) c))
+    usable_option true info c taken f u = usable_naming (is_by_hand (story_of c (named_by start.mac info))) (is_known (story_of c (named_by start.mac info))) info c (named_usable start.mac info mac f.prefix_is.address_is taken) u
     usable_option false info c taken f u = u
 
     usable_options : (infos : List PrefixInfo) (c : Chronicle) → AllByRecursion FitsPrefix infos → AllUsable (address_history c)
@@ -186,9 +197,13 @@ module _ (start : Start) (mac : AreBytes 6 start.mac.0) where
   usable_event : {now : ℕ} {event : Event} {c d : Chronicle} → ComesAsBytes event → Brings start now event c d → AllUsable (address_history c) → AllUsable (address_history d)
   usable_event bytes (Nothing same) u = subst AllUsable (sym same) u
   usable_event bytes (Conflicts key tentative is) u = subst AllUsable (sym is) (tt, u)
+  usable_event bytes (SetsKnown key lifetimes not known is) u = subst AllUsable (sym is) (tt, u)
+  usable_event bytes (EndsKnown key not known is) u = subst AllUsable (sym is) (tt, u)
+  usable_event bytes (FormsSet own set not unknown up is) u =
+      subst (λ (x : Chronicle). AllUsable (address_history x)) (sym is) (tt, (given_usable own (bytes.own own set), u))
   usable_event {now = now} bytes (Announces frame message to_all e received spelled up same is) u =
       subst (λ (x : Chronicle). AllUsable (address_history x)) (sym is)
-      (usable_options now to_all (prefixes_in message.options) e (heard_fit frame message (bytes frame received) spelled) (subst AllUsable (sym same) u))
+      (usable_options now to_all (prefixes_in message.options) e (heard_fit frame message (bytes.frame frame received) spelled) (subst AllUsable (sym same) u))
 
   usable_follows : (t : Bool) (c : Chronicle) (now last : ℕ) (event : Event) (d : Chronicle) → ComesAsBytes event → AllUsable (address_history c)
       → MatchBool t (d ≡ (now, TooLate last) ∷ c) ((e : Chronicle) × Walk start c (last_moment start.at c) now e × EventAdds start now event ((now, Passed) ∷ e) d)

@@ -1,6 +1,7 @@
 -- What happens to the own addresses: what comes, and what falls due, brings them few rows, and most of it none.
-use Rattle.std.proofs.Common.{◌≡◌, ℕ, Bool, true, false, cond, List, [], ◌∷◌, Option, Some, None, refl, ◌∙◌, ap, subst}
-use Rattle.std.specs.Prelude.{MatchBool, bytes_eq, ◌||◌, ◌&&◌}
+use Rattle.std.proofs.Common.{◌≡◌, ℕ, Bool, true, false, cond, List, [], ◌∷◌, Option, Some, None, refl, sym, ◌∙◌, ap, subst}
+use Rattle.std.specs.Prelude.{MatchBool, bytes_eq, ◌||◌, ◌&&◌, ◌==◌, ◌≢◌, not}
+use Rattle.std.proofs.lemmas.Bool.{eq-eqb, true≢false}
 use Rattle.std.specs.Option.{option_map, option_to_list}
 use Rattle.nd_addr.specs.declared.addr.Addr.{Addr}
 use Rattle.nd_addr.specs.Kind.{multicast_prefix, unspecified_address}
@@ -13,7 +14,6 @@ use Rattle.nd_advertiser.specs.Advertising.{advertised_by, tells_its_end}
 use Rattle.nd_advertiser.specs.Config.{Settings}
 use Rattle.nd_advertiser.specs.Contents.{last_contents_of}
 use Rattle.nd_forwarding.specs.Forward.{Fate, lost_no_route, lost_hop_limit, sent, fate}
-use Rattle.nd_forwarding.specs.Redirect.{last_redirect, redirect}
 use Rattle.nd_forwarding.specs.Routes.{routes}
 use Rattle.nd_decode.specs.Message.{Parts, Spells}
 use Rattle.nd_decode.specs.declared.body.Body.{Body}
@@ -33,23 +33,26 @@ use Rattle.nd_nexthop.specs.NextHop.{NextHop, direct, via, no_route}
 use Rattle.nd_slaac.specs.Due as addresses_due
 use Rattle.nd_slaac.specs.Due.{Falls, Ends, Solicits, Assigns, due_row}
 use Rattle.nd_slaac.specs.History as addresses
+use Rattle.nd_slaac.specs.ByHand.{AddressByHand}
+use Rattle.nd_slaac.specs.History.{Lifetimes}
 use Rattle.nd_slaac.specs.PrefixOption.{prefixes_in}
 use Rattle.nd_slaac.specs.State as states
-use Rattle.nd_chronicle.specs.Start.{Start, link_local}
-use Rattle.nd_chronicle.specs.Happening.{Chronicle, Address, Sent, Heard, Lost, Neighbour, Ceased, RedirectMade, Forgotten, Loss, Refusal, Full}
+use Rattle.nd_chronicle.specs.Start.{Start, link_local, link_local_key}
+use Rattle.nd_chronicle.specs.Happening.{Chronicle, Address, Sent, Heard, Lost, Neighbour, Ceased, RedirectMade, Forgotten, Loss, Refusal, Disabled, Tentative, Full}
 use Rattle.nd_chronicle.specs.Histories.{address_history, neighbour_history, advertising_history, route_history}
 use Rattle.nd_chronicle.specs.InForce.{base_reachable_time}
-use Rattle.nd_chronicle.specs.OwnAddress.{story_of, is_assigned, is_own, is_tentative, is_up}
+use Rattle.nd_chronicle.specs.OwnAddress.{story_of, is_assigned, is_disabled, is_own, is_tentative, is_up}
 use Rattle.nd_chronicle.specs.Packet.{losing, sending, with_pushed, MakesPlace, then_packet, Goes, GoesIfPlaced}
 use Rattle.nd_chronicle.specs.Refused.{UnlessRefused, AtRouter}
 use Rattle.nd_chronicle.specs.Advertising.{advertising_by, planning, telling_end, wants_answer, full_of_offers, full_of_routes}
-use Rattle.nd_chronicle.specs.Forwarding.{Redirects, SendsOn, FateAdds}
+use Rattle.nd_chronicle.specs.Forwarding.{Redirects, SendsOn, FateAdds, redirect_to}
 use Rattle.nd_chronicle.specs.Hearing.{Verdict, hears, goes_up, goes_on, drops, IsForUs, Judges, IsTaken, takes_target, is_awake}
 use Rattle.nd_chronicle.specs.Message.{said, PlaceFor, sending_if_known, releasing, leaving}
-use Rattle.nd_chronicle.specs.RouterAdvertisement.{redrawing, with_delay, then_options, times_out, then_advertised}
+use Rattle.nd_chronicle.specs.RouterAdvertisement.{forming, redrawing, with_delay, then_options, times_out, then_advertised}
 use Rattle.nd_chronicle.specs.NeighborSolicitation as asked
 use Rattle.nd_chronicle.specs.NeighborSolicitation.{then_tried}
 use Rattle.nd_chronicle.specs.NeighborAdvertisement.{conflicting, ends_in_list, then_neighbor_advertised}
+use Rattle.nd_chronicle.specs.ByHand.{FormsByHand, no_room, setting}
 use Rattle.nd_chronicle.specs.Event as events
 use Rattle.nd_chronicle.specs.Event.{Event, Clearable, packet_bytes, MessageAdds, VerdictAdds, PacketAdds, refusal_of_packet, ClearAdds, clearing, all_leaving, EventAdds}
 use Rattle.nd_chronicle.specs.Due.{What, RouterEnds, AddressFalls, NeighbourFalls, RoutersSolicited, RouterAdvertises, Redraws, Due, then_address, then_neighbour, comes}
@@ -146,6 +149,17 @@ pub data Brings (start : Start) (now : ℕ) (event : Event) (c d : Chronicle) : 
   -- what the prefix options of a Router Advertisement name, which is heard only where the link-local address is assigned
   Announces : (frame : List ℕ) (message : Parts) (to_all : Bool) (e : Chronicle) → event ≡ events.Receives frame → Spells (payload_in frame) message → is_up start c ≡ true
       → Same c e → d ≡ then_options start now to_all (prefixes_in message.options) e → Brings start now event c d
+  -- lifetimes of a known one other than the link-local one, set by hand
+  SetsKnown : (key : ℕ) (lifetimes : Lifetimes) → key ≢ link_local_key start → states.is_known (story_of c key) ≡ true
+      → address_history d ≡ (now, key, addresses.SetByHand lifetimes) ∷ address_history c → Brings start now event c d
+  -- one that wasn't known, given by hand where the link-local address is assigned
+  FormsSet : (own : AddressByHand) → event ≡ events.Sets own → number_of own.address.0 ≢ link_local_key start → states.is_known (story_of c (number_of own.address.0)) ≡ false → is_up start c ≡ true
+      → d ≡ setting start now (number_of own.address.0) own.lifetimes (forming start now false (number_of own.address.0) own.lifetimes c) → Brings start now event c d
+  -- the end of a known one other than the link-local one
+  EndsKnown : (key : ℕ) → key ≢ link_local_key start → states.is_known (story_of c key) ≡ true → address_history d ≡ (now, key, addresses.Ended) ∷ address_history c → Brings start now event c d
+
+differs : {a b : ℕ} → (a == b) ≡ false → a ≢ b
+differs {a = a} {b = b} e same = true≢false (sym (eq-eqb a b same) ∙ e)
 
 module _ (start : Start) (now : ℕ) (event : Event) (c : Chronicle) where
   brings_refused : (r : Option Refusal) (A : Chronicle → Type 0) (d : Chronicle) → (A d → Brings start now event c d) → UnlessRefused now r A c d → Brings start now event c d
@@ -254,7 +268,7 @@ module _ (start : Start) (now : ℕ) (event : Event) (c : Chronicle) where
   brings_fate : (fate : Fate) (packet : PacketParts) (bytes : List ℕ) (d : Chronicle) → FateAdds start now fate packet bytes c d → Brings start now event c d
   brings_fate lost_no_route packet bytes d h = Nothing (ap address_history h)
   brings_fate lost_hop_limit packet bytes d h = Nothing (ap address_history h)
-  brings_fate (sent next) packet bytes d h = brings_sends_on (redirect (is_own c) (routes (route_history c)) (last_redirect (route_history c)) now packet.header) packet bytes _ d h
+  brings_fate (sent next) packet bytes d h = brings_sends_on (redirect_to start now packet c) packet bytes _ d h
 
   brings_verdict : (frame : List ℕ) → event ≡ events.Receives frame → (outcome : Outcome) (v : Verdict) (d : Chronicle) → Hears frame start.role outcome → Judges start c now outcome v
       → VerdictAdds start now frame v c d → Brings start now event c d
@@ -288,6 +302,28 @@ module _ (start : Start) (now : ℕ) (event : Event) (c : Chronicle) where
   brings_clear events.ClearRedirects d h = Nothing (ap address_history h)
   brings_clear events.ClearDns d h = Nothing (ap address_history h)
 
+  -- ---- an address is given by hand, or withdrawn
+
+  brings_set : (own : AddressByHand) → event ≡ events.Sets own → (disabled up itself known : Bool) → is_up start c ≡ up → (number_of own.address.0 == link_local_key start) ≡ itself
+      → states.is_known (story_of c (number_of own.address.0)) ≡ known → (d : Chronicle)
+      → UnlessRefused now (cond disabled (Some Disabled) (cond up None (Some Tentative)))
+      (λ e. MatchBool itself (e ≡ c) (MatchBool known (e ≡ setting start now (number_of own.address.0) own.lifetimes c) (FormsByHand start now (number_of own.address.0) own.lifetimes c e))) c d
+      → Brings start now event c d
+  brings_set own is true up itself known up_is own_is known_is d h = Nothing (ap address_history h)
+  brings_set own is false false itself known up_is own_is known_is d h = Nothing (ap address_history h)
+  brings_set own is false true true known up_is own_is known_is d h = Nothing (ap address_history h)
+  brings_set own is false true false true up_is own_is known_is d h =
+      SetsKnown (number_of own.address.0) own.lifetimes (differs own_is) known_is (ap address_history h)
+  brings_set own is false true false false up_is own_is known_is d h =
+      brings_refused (option_map Full (no_room h.0)) _ d (λ x. FormsSet own is (differs own_is) known_is up_is x) h.2
+
+  brings_withdrawn : (key : ℕ) (itself known : Bool) → (key == link_local_key start) ≡ itself → states.is_known (story_of c key) ≡ known → (d : Chronicle)
+      → d ≡ cond (known && not itself) ((now, Address key addresses.Ended) ∷ c) c → Brings start now event c d
+  brings_withdrawn key true true own_is known_is d h = Nothing (ap address_history h)
+  brings_withdrawn key true false own_is known_is d h = Nothing (ap address_history h)
+  brings_withdrawn key false true own_is known_is d h = EndsKnown key (differs own_is) known_is (ap address_history h)
+  brings_withdrawn key false false own_is known_is d h = Nothing (ap address_history h)
+
 pub event_brings : (start : Start) (now : ℕ) (event : Event) (c d : Chronicle) → EventAdds start now event c d → Brings start now event c d
 event_brings start now events.Passes c d h = Nothing (ap address_history h)
 event_brings start now (events.Receives frame) c d h = brings_verdict start now (events.Receives frame) c frame refl h.heard.outcome h.verdict d h.heard.by_frame h.heard.by_node h.adds
@@ -306,6 +342,10 @@ event_brings start now (events.Routes prefix route) c d h =
     brings_at_router start now (events.Routes prefix route) c start.role _ d (λ x. brings_refused start now (events.Routes prefix route) c (option_map Full (full_of_routes start prefix c)) _ d (λ y. Nothing (ap address_history y)) x) h
 event_brings start now events.Stops c d h =
     brings_at_router start now events.Stops c start.role _ d (λ x. Nothing (ap address_history x ∙ telling_same now start (tells_its_end (advertising_history start c)) (last_contents_of start.mac (advertising_history start c)) ((now, Ceased) ∷ c))) h
+event_brings start now (events.Sets own) c d h =
+    brings_set start now (events.Sets own) c own refl (is_disabled start c) (is_up start c) (number_of own.address.0 == link_local_key start) (states.is_known (story_of c (number_of own.address.0))) refl refl refl d h
+event_brings start now (events.Withdraws address) c d h =
+    brings_withdrawn start now (events.Withdraws address) c (number_of address.0) (number_of address.0 == link_local_key start) (states.is_known (story_of c (number_of address.0))) refl refl d h
 
 -- ---- what falls due
 

@@ -14,6 +14,8 @@ use Rattle.nd_slaac.specs.PrefixOption.{is_taken, prefixes_in, named_by, lifetim
 use Rattle.nd_slaac.specs.State as states
 use Rattle.nd_slaac.proofs.Histories.{held}
 use Rattle.nd_slaac.proofs.Overdue.{still_none}
+use Rattle.nd_slaac.proofs.Steps.{same_story}
+use Rattle.nd_addr.specs.Number.{number_of}
 use Rattle.nd_chronicle.specs.Start.{Start, link_local_key}
 use Rattle.nd_chronicle.specs.Happening.{Chronicle, Address, Passed, TooLate, last_moment}
 use Rattle.nd_chronicle.specs.Histories.{address_history, parameter_history}
@@ -24,7 +26,7 @@ use Rattle.nd_chronicle.specs.Event.{Event, EventAdds}
 use Rattle.nd_chronicle.specs.Due.{Due}
 use Rattle.nd_chronicle.specs.History.{Walk, over, adds, passes, Runs, beginning}
 use Rattle.nd_chronicle.proofs.Growth.{AllAt, event_grows}
-use Rattle.nd_chronicle.proofs.OwnRows.{Brings, Nothing, Conflicts, Announces, BringsDue, NoRow, ItsRow, Same, delay_same, event_brings, comes_brings}
+use Rattle.nd_chronicle.proofs.OwnRows.{Brings, Nothing, Conflicts, Announces, SetsKnown, FormsSet, EndsKnown, BringsDue, NoRow, ItsRow, Same, delay_same, event_brings, comes_brings}
 
 -- ---- RetransTimer is above 0
 
@@ -57,7 +59,7 @@ module _ (transmits : ℕ) where
 
   -- what falls due came at its turn
   fine_turn : (c : Chronicle) (m : ℕ) (falls : Falls) → addresses_due.FirstDue transmits (address_history c) m (Some falls) → Fine c m → MayCome transmits (due_row m falls) (address_history c)
-  fine_turn c m (Ends key) first f = record { first = first; none_before = f.none.none }
+  fine_turn c m (Ends key) first f = first.due.0
   fine_turn c m (Solicits key) first f = record { first = first; none_before = f.none.none }
   fine_turn c m (Assigns key) first f = record { first = first; none_before = f.none.none }
 
@@ -92,19 +94,30 @@ module _ (start : Start) where
         (ap (λ (h : List addresses.Row). states.is_known (addresses.story key h)) (delay_same now start to_all c) ∙ unknown, retrans_positive (parameter_history c))
         (fine_same start.transmits (delay_same now start to_all c) f)
 
-    fine_naming : (to_all known : Bool) (info : PrefixInfo) (c : Chronicle) → states.is_known (story_of c (named_by start.mac info)) ≡ known → Fine start.transmits c now → Fine start.transmits (naming start now to_all known info c) now
-    fine_naming to_all true info c known f = fine_row start.transmits (named_by start.mac info) (addresses.Announced (lifetimes_of info)) known f
-    fine_naming to_all false info c unknown f = fine_if (info.valid_lifetime == 0) c _ f (fine_forming to_all (named_by start.mac info) (lifetimes_of info) c unknown f)
+    fine_naming : (to_all hand known : Bool) (info : PrefixInfo) (c : Chronicle) → states.is_by_hand (story_of c (named_by start.mac info)) ≡ hand → states.is_known (story_of c (named_by start.mac info)) ≡ known
+        → Fine start.transmits c now → Fine start.transmits (naming start now to_all hand known info c) now
+    fine_naming to_all true known info c by_hand is f = f
+    fine_naming to_all false true info c by_hand known f = fine_row start.transmits (named_by start.mac info) (addresses.Announced (lifetimes_of info)) (known, by_hand) f
+    fine_naming to_all false false info c by_hand unknown f = fine_if (info.valid_lifetime == 0) c _ f (fine_forming to_all (named_by start.mac info) (lifetimes_of info) c unknown f)
 
     fine_options : (to_all : Bool) (infos : List PrefixInfo) (c : Chronicle) → Fine start.transmits c now → Fine start.transmits (then_options start now to_all infos c) now
     fine_options to_all [] c f = f
     fine_options to_all (info ∷ infos) c f =
         fine_options to_all infos (then_option start now to_all info c)
-        (fine_if (is_taken info) _ c (fine_naming to_all (states.is_known (story_of c (named_by start.mac info))) info c refl f) f)
+        (fine_if (is_taken info) _ c (fine_naming to_all (states.is_by_hand (story_of c (named_by start.mac info))) (states.is_known (story_of c (named_by start.mac info))) info c refl refl f) f)
 
     fine_event : (event : Event) (c d : Chronicle) → Brings start now event c d → Fine start.transmits c now → Fine start.transmits d now
     fine_event event c d (Nothing same) f = fine_same start.transmits same f
     fine_event event c d (Conflicts key tentative is) f = fine_same start.transmits {c = (now, Address key addresses.Conflict) ∷ c} is (fine_row start.transmits key addresses.Conflict tentative f)
+    fine_event event c d (SetsKnown key lifetimes not known is) f =
+        fine_same start.transmits {c = (now, Address key (addresses.SetByHand lifetimes)) ∷ c} is (fine_row start.transmits key (addresses.SetByHand lifetimes) known f)
+    fine_event event c d (EndsKnown key not known is) f = fine_same start.transmits {c = (now, Address key addresses.Ended) ∷ c} is (fine_row start.transmits key addresses.Ended known f)
+    fine_event event c d (FormsSet own set not unknown up is) f =
+        let key = number_of own.address.0 in
+        let formed = forming start now false key own.lifetimes c in
+        subst (λ (x : Chronicle). Fine start.transmits x now) (sym is)
+        (fine_row start.transmits key (addresses.SetByHand own.lifetimes) (ap states.is_known (same_story key now (addresses.Formed 0 (retrans_timer c) (Some own.lifetimes)) (address_history c) refl))
+        (fine_forming false key own.lifetimes c unknown f))
     fine_event event c d (Announces frame message to_all e received spelled up same is) f =
         subst (λ (x : Chronicle). Fine start.transmits x now) (sym is) (fine_options to_all (prefixes_in message.options) e (fine_same start.transmits same f))
 

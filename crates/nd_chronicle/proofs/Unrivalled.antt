@@ -49,6 +49,7 @@ forms_none _ = true
 
 in_force_none : (what : Happening) (c : Chronicle) → forms_none what ≡ true → InForce what c
 in_force_none (Address key (addresses.Formed delay retrans lifetimes)) c is = absurd (let e : ⊥ = cc in e)
+in_force_none (Address key (addresses.SetByHand lifetimes)) c is = tt
 in_force_none (Address key (addresses.Announced lifetimes)) c is = tt
 in_force_none (Address key addresses.Solicited) c is = tt
 in_force_none (Address key addresses.Conflict) c is = tt
@@ -93,7 +94,9 @@ module _ (start : Start) where
   settled_event : (now : ℕ) (event : Event) (c d : Chronicle) → EventAdds start now event c d → Settled c → Settled d
   settled_event now event c d h s = event_keeps start now Settled (settled_plain now)
       (λ key delay lifetimes c s. settled_forms now key delay (Some lifetimes) c s) (λ key lifetimes c s. settled_by now (Address key (addresses.Announced lifetimes)) c refl s)
-      (settled_listens now) (settled_yields now) c Settled (λ e k. k) (λ r. settled_by now (Refused r) c refl s) event d (λ settings is. settled_by now (Configured settings) c refl s) h s
+      (settled_listens now) (settled_yields now) c Settled (λ e k. k) (λ r. settled_by now (Refused r) c refl s)
+      (λ key lifetimes c s. settled_by now (Address key (addresses.SetByHand lifetimes)) c refl s) (λ key c s. settled_by now (Address key addresses.Ended) c refl s)
+      event d (λ settings is. settled_by now (Configured settings) c refl s) h s
 
   settled_comes : (at : ℕ) (what : What) (c : Chronicle) → Settled c → Settled (comes start at what c)
   settled_comes at (RouterEnds key) c s = settled_plain at _ c refl s

@@ -23,6 +23,7 @@ use Rattle.nd_neighbour.specs.History.{story}
 use Rattle.nd_neighbour.specs.Story.{waits_of}
 use Rattle.nd_neighbour.specs.TableKept as cache
 use Rattle.nd_nexthop.specs.NextHop.{NextHop, direct, via, no_route}
+use Rattle.nd_slaac.specs.ByHand.{AddressByHand, IsOwnAddress}
 use Rattle.nd_routers.specs.History.{announcements}
 use Rattle.nd_routers.specs.Routers.{same}
 use Rattle.nd_forwarding.specs.declared.route.Route.{Route}
@@ -37,6 +38,7 @@ use Rattle.nd_chronicle.specs.NextHop.{IsHopOf}
 use Rattle.nd_chronicle.specs.Hearing.{Verdict, hears, goes_up, goes_on, drops, IsHeard}
 use Rattle.nd_chronicle.specs.Message.{said, PlaceFor, releasing}
 use Rattle.nd_chronicle.specs.RouterAdvertisement.{then_advertised}
+use Rattle.nd_chronicle.specs.ByHand.{SetAdds, withdrawing}
 use Rattle.nd_chronicle.specs.NeighborSolicitation.{ThenSolicited}
 use Rattle.nd_chronicle.specs.NeighborAdvertisement.{then_neighbor_advertised}
 use Rattle.nd_chronicle.specs.Full.{Fills}
@@ -73,10 +75,14 @@ pub data Event : Type 0 where
   Routes : (prefix : PrefixValue) (route : Route) → Event
   -- a router is to cease advertising (section 6.2.5)
   Stops : Event
+  -- the node is to have an address (RFC 4862, section 5.4), and to have it no more
+  Sets : (own : AddressByHand) → Event
+  Withdraws : (address : Addr) → Event
 
--- a received frame is bytes
-abbrev pub ComesAsBytes : Event → Type 0
-ComesAsBytes event = (frame : List ℕ) → event ≡ Receives frame → IsBytes frame
+-- a received frame is bytes, and so is an address that is given by hand, which an interface may have
+pub record ComesAsBytes (event : Event) : Type 0 where
+  pub frame : (frame : List ℕ) → event ≡ Receives frame → IsBytes frame
+  pub own : (own : AddressByHand) → event ≡ Sets own → IsOwnAddress own
 
 -- the same of events with their moments
 abbrev pub ComeAsBytes : List (ℕ × Event) → Type 0
@@ -188,3 +194,5 @@ module _ (start : Start) (now : ℕ) where
   EventAdds (Offers info) c d = AtRouter now start.role (λ e. UnlessFull now (full_of_offers start info.prefix c) (λ x. x ≡ (now, Offered info) ∷ c) c e) c d
   EventAdds (Routes prefix route) c d = AtRouter now start.role (λ e. UnlessFull now (full_of_routes start prefix c) (λ x. x ≡ (now, RoutePut prefix route) ∷ c) c e) c d
   EventAdds Stops c d = AtRouter now start.role (λ e. e ≡ ceasing start now c) c d
+  EventAdds (Sets own) c d = SetAdds start now own c d
+  EventAdds (Withdraws address) c d = d ≡ withdrawing start now (number_of address.0) c

@@ -1,5 +1,5 @@
 -- A router forwards a packet, and sends its sender a Redirect to a better first hop (RFC 8200, section 3; RFC 4861, section 8.2).
-use Rattle.std.specs.Prelude.{◌≡◌, ℕ, ◌-◌, Bool, List, ◌∷◌, Option, Some, None}
+use Rattle.std.specs.Prelude.{◌≡◌, ℕ, ◌-◌, Bool, if◌then◌else◌, List, ◌∷◌, Option, Some, None}
 use Rattle.std.specs.Option.{option_map}
 use Rattle.nd_addr.specs.declared.addr.Addr.{Addr}
 use Rattle.nd_addr.specs.declared.mac.Mac.{Mac}
@@ -60,11 +60,16 @@ module _ (start : Start) (now : ℕ) where
       (place : Bool) × HavePlace start c now (number_of packet.header.source.0) key place
       × UnlessFull now (no_place place) (Redirects target packet bytes key c) c d
 
+  -- "The Source Address field of the packet identifies a neighbor" (RFC 4861, section 8.2): it is no address of the router's own
+  abbrev pub redirect_to : PacketParts → Chronicle → Option Addr
+  redirect_to packet c =
+      if is_own c packet.header.source.0 then None
+      else redirect (is_own c) (routes (route_history c)) (last_redirect (route_history c)) now packet.header
+
   abbrev pub FateAdds : Fate → PacketParts → List ℕ → Chronicle → Chronicle → Type 0
   FateAdds lost_no_route packet bytes c d = d ≡ (now, Lost NoRoute (frame_as_it_came packet)) ∷ c
   FateAdds lost_hop_limit packet bytes c d = d ≡ (now, Lost HopLimit (frame_as_it_came packet)) ∷ c
-  FateAdds (sent next) packet bytes c d =
-      SendsOn (redirect (is_own c) (routes (route_history c)) (last_redirect (route_history c)) now packet.header) packet bytes (key_of next packet.header.destination) c d
+  FateAdds (sent next) packet bytes c d = SendsOn (redirect_to packet c) packet bytes (key_of next packet.header.destination) c d
 
   -- what a packet adds that is in transit, of these bytes
   abbrev pub ForwardAdds : PacketParts → List ℕ → Chronicle → Chronicle → Type 0

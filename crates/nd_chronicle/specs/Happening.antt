@@ -39,11 +39,12 @@ pub data Limit : Type 0 where
   Offers : Limit
   StaticRoutes : Limit
 
--- why an event is refused: it is a router's command at a host; the link-local address is a duplicate; the source is no assigned address;
--- the packet is longer than the MTU of the link; a table would pass its limit
+-- why an event is refused: it is a router's command at a host; the link-local address is a duplicate, or is tentative still; the source is no
+-- assigned address; the packet is longer than the MTU of the link; a table would pass its limit
 pub data Refusal : Type 0 where
   WrongRole : Refusal
   Disabled : Refusal
+  Tentative : Refusal
   NotOurs : (source : Addr) → Refusal
   TooLong : Refusal
   Full : (limit : Limit) → Refusal

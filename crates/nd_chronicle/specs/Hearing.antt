@@ -64,11 +64,12 @@ pub record IsPacketForUs (start : Start) (c : Chronicle) (packet : PacketParts) 
   pub destination_is : IsOurs start (is_assigned c) packet.header.destination
   pub up : is_up start c ≡ true
 
--- the packet is to be sent on: it isn't for this node, a router whose link-local address is assigned, and neither its source nor its
--- destination keeps it on its link (RFC 4291, section 2.5.6)
+-- the packet is to be sent on: it isn't for this node, a router whose link-local address is assigned, nor for an address of its own that is
+-- tentative still, and neither its source nor its destination keeps it on its link (RFC 4291, section 2.5.6)
 pub record IsInTransit (start : Start) (c : Chronicle) (packet : PacketParts) : Type 0 where
   pub role : start.role ≡ Router
   pub not_ours : IsPacketForUs start c packet → ⊥
+  pub not_own : is_own c packet.header.destination.0 ≡ false
   pub may : may_be_forwarded packet.header ≡ true
   pub up : is_up start c ≡ true
 

@@ -11,6 +11,7 @@ pub mod NextHop
 pub mod Hearing
 pub mod Message
 pub mod RouterAdvertisement
+pub mod ByHand
 pub mod NeighborSolicitation
 pub mod NeighborAdvertisement
 pub mod Full

@@ -14,7 +14,7 @@ use Rattle.nd_routers.specs.Routers.{same}
 use Rattle.nd_slaac.specs.History as addresses
 use Rattle.nd_slaac.specs.History.{Lifetimes}
 use Rattle.nd_slaac.specs.PrefixOption.{is_taken, named_by, lifetimes_of, prefixes_in}
-use Rattle.nd_slaac.specs.State.{is_known}
+use Rattle.nd_slaac.specs.State.{is_by_hand, is_known}
 use Rattle.nd_chronicle.specs.Start.{Start}
 use Rattle.nd_chronicle.specs.Happening.{Chronicle, Drew, ForReachableTime, ForDelay, Address, Heard}
 use Rattle.nd_chronicle.specs.Histories.{neighbour_history, router_history}
@@ -43,14 +43,16 @@ module _ (start : Start) (at : ℕ) where
   forming to_all key lifetimes c =
       (at, Address key (addresses.Formed (delay_for to_all c) (retrans_timer c) (Some lifetimes))) ∷ with_delay to_all c
 
-  -- a prefix option that is taken renews the address that it names, or forms it unless its valid lifetime is 0
-  abbrev pub naming : Bool → Bool → PrefixInfo → Chronicle → Chronicle
-  naming to_all true info c = (at, Address (named_by start.mac info) (addresses.Announced (lifetimes_of info))) ∷ c
-  naming to_all false info c = if info.valid_lifetime == 0 then c else forming to_all (named_by start.mac info) (lifetimes_of info) c
+  -- A prefix option that is taken renews the address that it names, or forms it unless its valid lifetime is 0. It passes over one that was given
+  -- by hand: an advertisement renews addresses "configured by stateless autoconfiguration" (RFC 4862, section 5.5.3 e).
+  abbrev pub naming : Bool → Bool → Bool → PrefixInfo → Chronicle → Chronicle
+  naming to_all true known info c = c
+  naming to_all false true info c = (at, Address (named_by start.mac info) (addresses.Announced (lifetimes_of info))) ∷ c
+  naming to_all false false info c = if info.valid_lifetime == 0 then c else forming to_all (named_by start.mac info) (lifetimes_of info) c
 
   abbrev pub then_option : Bool → PrefixInfo → Chronicle → Chronicle
   then_option to_all info c =
-      if is_taken info then naming to_all (is_known (story_of c (named_by start.mac info))) info c else c
+      if is_taken info then naming to_all (is_by_hand (story_of c (named_by start.mac info))) (is_known (story_of c (named_by start.mac info))) info c else c
 
   -- the options in their order
   abbrev pub then_options : Bool → List PrefixInfo → Chronicle → Chronicle

@@ -13,7 +13,7 @@ use Rattle.nd_decode.specs.declared.body.Body.TheVariants as bodies
 use Rattle.nd_text.specs.Digits.{hex_text}
 use Rattle.nd_neighbour.specs.History as neighbours
 use Rattle.nd_slaac.specs.History as addresses
-use Rattle.nd_chronicle.specs.Happening.{Happening, Passed, Drew, Heard, Dropped, Up, Neighbour, Address, LeftRouter, ClearedPrefixes, ClearedRedirects, ClearedDns, SolicitedRouters, Configured, Offered, Ceased, Advertised, Planned, RoutePut, RedirectMade, Sent, Lost, Refused, Shown, TooLate, Chronicle, Loss, Unreachable, Replaced, Forgotten, NoRoute, HopLimit, Limit, Neighbours, Routers, Prefixes, Addresses, Servers, Names, Offers, StaticRoutes, Refusal, WrongRole, Disabled, NotOurs, TooLong, Full}
+use Rattle.nd_chronicle.specs.Happening.{Happening, Passed, Drew, Heard, Dropped, Up, Neighbour, Address, LeftRouter, ClearedPrefixes, ClearedRedirects, ClearedDns, SolicitedRouters, Configured, Offered, Ceased, Advertised, Planned, RoutePut, RedirectMade, Sent, Lost, Refused, Shown, TooLate, Chronicle, Loss, Unreachable, Replaced, Forgotten, NoRoute, HopLimit, Limit, Neighbours, Routers, Prefixes, Addresses, Servers, Names, Offers, StaticRoutes, Refusal, WrongRole, Disabled, Tentative, NotOurs, TooLong, Full}
 use Rattle.nd_chronicle.specs.Shown.{key_text}
 
 abbrev pub kind_text : Body → List ℕ
@@ -43,6 +43,7 @@ limit_text StaticRoutes = codes "routes"
 abbrev pub refusal_text : Refusal → List ℕ
 refusal_text WrongRole = codes "wrong-role"
 refusal_text Disabled = codes "disabled"
+refusal_text Tentative = codes "tentative"
 refusal_text (NotOurs source) = codes "not-ours " ++ address_text source.0
 refusal_text TooLong = codes "too-long"
 refusal_text (Full limit) = codes "full " ++ limit_text limit

@@ -1,6 +1,6 @@
 -- Each event adds something.
 use Rattle.std.proofs.Common.{◌≡◌, ℕ, Bool, true, false, cond, eqb, List, [], ◌∷◌, ◌++◌, Option, Some, None, refl, sym, ◌∙◌, ap, subst}
-use Rattle.std.specs.Prelude.{MatchBool, map, bytes_eq}
+use Rattle.std.specs.Prelude.{MatchBool, map, bytes_eq, length, nat_lt, ◌==◌}
 use Rattle.std.proofs.lemmas.Bool.Decides.{eqb_tells}
 use Rattle.std.proofs.lemmas.Bool.{cond-true, cond-false, eq-eqb, true≢false}
 use Rattle.nd_addr.specs.declared.addr.Addr.{Addr}
@@ -34,30 +34,33 @@ use Rattle.nd_routers.specs.Shown as shown_routers
 use Rattle.nd_routers.specs.OnLinkPrefixes.{prefixes_in}
 use Rattle.nd_routers.specs.Routers.{same}
 use Rattle.nd_forwarding.specs.Forward.{Fate, lost_no_route, lost_hop_limit, sent, fate}
-use Rattle.nd_forwarding.specs.Redirect.{last_redirect, redirect}
 use Rattle.nd_forwarding.specs.Routes.{routes}
+use Rattle.nd_slaac.specs.ByHand.{AddressByHand}
+use Rattle.nd_slaac.specs.History.{Lifetimes}
 use Rattle.nd_slaac.specs.PrefixOption as own_prefixes
-use Rattle.nd_slaac.specs.Room.{fits_in}
+use Rattle.nd_slaac.specs.Room.{HasRoomBy, fits_in}
 use Rattle.nd_slaac.specs.ShownKept as shown_addresses
+use Rattle.nd_slaac.specs.State.{is_known}
 use Rattle.nd_slaac.specs.TableKept.{key_of}
 use Rattle.nd_slaac.proofs.Showing as showing
-use Rattle.nd_chronicle.specs.Start.{Start}
+use Rattle.nd_chronicle.specs.Start.{Start, link_local_key}
 use Rattle.nd_chronicle.specs.Happening.{Chronicle, Heard, Dropped, Up, Neighbour, Configured, Offered, RoutePut, ClearedPrefixes, ClearedRedirects, ClearedDns, Sent, Lost, NoRoute, HopLimit, RedirectMade, Shown, Refused, Refusal, WrongRole, Full, Limit, Neighbours}
 use Rattle.nd_chronicle.specs.Histories.{neighbour_history, router_history, prefix_history, address_history, server_history, name_history, route_history, given_or_marked, then_neighbour}
 use Rattle.nd_chronicle.specs.LinkLayerAddress.{first_slla}
 use Rattle.nd_chronicle.specs.InForce.{reachable_time}
-use Rattle.nd_chronicle.specs.OwnAddress.{is_own}
+use Rattle.nd_chronicle.specs.OwnAddress.{is_own, story_of}
 use Rattle.nd_chronicle.specs.Packet.{sending, Goes, GoesIfPlaced, HavePlace}
 use Rattle.nd_chronicle.specs.NextHop.{IsHopOf}
 use Rattle.nd_chronicle.specs.Message.{said, lets_enter, PlaceFor, sending_if_known, releasing}
-use Rattle.nd_chronicle.specs.RouterAdvertisement.{then_advertised}
+use Rattle.nd_chronicle.specs.RouterAdvertisement.{forming, then_advertised}
+use Rattle.nd_chronicle.specs.ByHand.{no_room, refusal_of_address, setting, FormsByHand, AddressAdds, SetAdds, withdrawing}
 use Rattle.nd_chronicle.specs.NeighborSolicitation as asked
 use Rattle.nd_chronicle.specs.NeighborSolicitation.{is_router, then_tried}
 use Rattle.nd_chronicle.specs.NeighborAdvertisement.{then_neighbor_advertised}
 use Rattle.nd_chronicle.specs.Full.{entering, asking, Placed, first_full, AdvertisementFills, MessageFills, Fills}
 use Rattle.nd_chronicle.specs.Refused.{UnlessRefused, UnlessFull, AtRouter}
 use Rattle.nd_chronicle.specs.Advertising.{planning, wants_answer, ceasing, full_of_offers, full_of_routes}
-use Rattle.nd_chronicle.specs.Forwarding.{key_of as hop_key, better_hop_frame, frame_as_it_came, frame_sent_on, SendsOn, FateAdds}
+use Rattle.nd_chronicle.specs.Forwarding.{key_of as hop_key, better_hop_frame, frame_as_it_came, frame_sent_on, SendsOn, redirect_to, FateAdds}
 use Rattle.nd_chronicle.specs.Hearing.{Verdict, hears, goes_up, goes_on, drops}
 use Rattle.nd_chronicle.specs.Shown as tables
 use Rattle.nd_chronicle.specs.Shown.{Table, AreRows, neighbour_row, router_row, prefix_row, address_row, server_row, search_row, redirect_row, parameter_row, advertise_rows, route_rows}
@@ -249,8 +252,7 @@ module _ (start : Start) (c : Chronicle) (now : ℕ) where
   fate_adds : (f : Fate) (packet : PacketParts) (bytes : List ℕ) → (d : Chronicle) × FateAdds start now f packet bytes c d
   fate_adds lost_no_route packet bytes = ((now, Lost NoRoute (frame_as_it_came start now packet)) ∷ c, refl)
   fate_adds lost_hop_limit packet bytes = ((now, Lost HopLimit (frame_as_it_came start now packet)) ∷ c, refl)
-  fate_adds (sent next) packet bytes =
-      sends_on (redirect (is_own c) (routes (route_history c)) (last_redirect (route_history c)) now packet.header) packet bytes (hop_key next packet.header.destination)
+  fate_adds (sent next) packet bytes = sends_on (redirect_to start now packet c) packet bytes (hop_key next packet.header.destination)
 
   -- ---- a frame
 
@@ -291,6 +293,33 @@ module _ (start : Start) (c : Chronicle) (now : ℕ) where
         unless_refused (refusal_of_packet start now source payload c)
         (λ e. (next : NextHop) × IsHopOf start start.role c now destination next × PacketAdds start now next source destination next_header payload c e)
         (d.0, (next.0, next.1, d.1))
+
+  -- ---- an address is given by hand
+
+  -- there is room for one more, or there isn't
+  room_told : (room : Bool) × HasRoomBy start.limits.addresses (address_history c) room
+  room_told =
+      let known = addresses_of (address_history c) in
+      (nat_lt (length known) start.limits.addresses, record { known = known; those = addresses_stand (address_history c); room_is = refl })
+
+  forms_by_hand : (key : ℕ) (lifetimes : Lifetimes) → (d : Chronicle) × FormsByHand start now key lifetimes c d
+  forms_by_hand key lifetimes =
+      let formed = setting start now key lifetimes (forming start now false key lifetimes c) in
+      let room = room_told in
+      let d = unless_full now (no_room room.0) (λ e. e ≡ formed) c (λ none. (formed, refl)) in
+      (d.0, (room.0, room.1, d.1))
+
+  address_adds : (own known : Bool) (key : ℕ) (lifetimes : Lifetimes)
+      → (d : Chronicle) × MatchBool own (d ≡ c) (MatchBool known (d ≡ setting start now key lifetimes c) (FormsByHand start now key lifetimes c d))
+  address_adds true known key lifetimes = (c, refl)
+  address_adds false true key lifetimes = (setting start now key lifetimes c, refl)
+  address_adds false false key lifetimes = forms_by_hand key lifetimes
+
+  set_adds : (own : AddressByHand) → (d : Chronicle) × SetAdds start now own c d
+  set_adds own =
+      let key = number_of own.address.0 in
+      unless_refused (refusal_of_address start now c) (λ e. AddressAdds start now key own.lifetimes c e)
+      (address_adds (key == link_local_key start) (is_known (story_of c key)) key own.lifetimes)
 
   -- ---- commands
 
@@ -354,3 +383,5 @@ module _ (start : Start) (c : Chronicle) (now : ℕ) where
       at_router start.role (λ e. UnlessFull now (full_of_routes start prefix c) (λ x. x ≡ (now, RoutePut prefix route) ∷ c) c e)
       (unless_full now (full_of_routes start prefix c) (λ x. x ≡ (now, RoutePut prefix route) ∷ c) c (λ none. ((now, RoutePut prefix route) ∷ c, refl)))
   event_adds events.Stops = at_router start.role (λ e. e ≡ ceasing start now c) (ceasing start now c, refl)
+  event_adds (events.Sets own) = set_adds own
+  event_adds (events.Withdraws address) = (withdrawing start now (number_of address.0) c, refl)

@@ -12,13 +12,15 @@ use Rattle.nd_advertiser.specs.Config.{Settings, config_fault}
 use Rattle.nd_advertiser.specs.Offer.{offer_fault}
 use Rattle.nd_forwarding.specs.declared.route.Route as routes
 use Rattle.nd_forwarding.specs.declared.route.Route.TheVariants.{Direct, Via}
+use Rattle.nd_slaac.specs.ByHand.{AddressByHand, may_be_own}
 use Rattle.nd_chronicle.specs.Event.{Clearable, ClearNeighbours, ClearRouters, ClearPrefixes, ClearRedirects, ClearDns}
 use Rattle.nd_chronicle.specs.Shown.{Table, NeighbourTable, RouterTable, PrefixTable, AddressTable, DnsTable, RedirectTable, ParameterTable, AdvertiseTable, RouteTable}
-use Rattle.nd_existence.proofs.Deciding.{Decided, option_cases, same_or}
+use Rattle.nd_existence.proofs.Deciding.{Decided, option_cases, same_or, true_or}
 use Rattle.ndpctl_run.specs.Address.{IsAddressWord}
 use Rattle.ndpctl_run.specs.Bytes.{IsBytesWord}
 use Rattle.ndpctl_run.specs.Number.{IsNumberOr}
 use Rattle.ndpctl_run.specs.Offer.{default_valid_lifetime, default_preferred_lifetime, SpellOffer, IsOffer}
+use Rattle.ndpctl_run.specs.OwnAddress.{endless_lifetime, SpellOwnAddress, AreOwnAddressWords}
 use Rattle.ndpctl_run.specs.Packet.{IsNextHeaderWord, IsPacket}
 use Rattle.ndpctl_run.specs.Route.{IsWay, SpellRoute, IsRoute}
 use Rattle.ndpctl_run.specs.Settings.{default_max_interval, default_lifetime, SpellSettings, AreSettings}
@@ -26,6 +28,7 @@ use Rattle.ndpctl_run.specs.Table.{table_word, clearable_word}
 use Rattle.ndpctl_run.specs.Words.{Parts, words_of}
 use Rattle.ndpctl_run.proofs.NumberWords.{one_number_or}
 use Rattle.ndpctl_run.proofs.OfferWords as offers
+use Rattle.ndpctl_run.proofs.OwnAddressWords as own_addresses
 use Rattle.ndpctl_run.proofs.Partings.{parts_at, no_parts}
 use Rattle.ndpctl_run.proofs.SettingsWords as settings
 use Rattle.nd_existence.proofs.Words.{parted_or, number_or, number_or_default, bytes_or, address_or, prefix_or}
@@ -253,6 +256,33 @@ route_by _ = inr (λ p. p.1.1)
 
 pub route_or : (text : List ℕ) → Decided ((prefix : PrefixValue) × ((route : routes.Route) × IsRoute text prefix route))
 route_or text = route_by (words_of text)
+
+-- ---- addresses that are given by hand
+
+own_address_by : (words : List (List ℕ)) → Decided ((own : AddressByHand) × SpellOwnAddress words own)
+own_address_by (address ∷ valid ∷ preferred ∷ []) =
+    elim (address_or address) [
+      | inr none ↦ inr (λ p. none (p.0.address, p.1.0))
+      | inl a ↦ elim (number_or_default endless_lifetime (2 ^ 32) valid) [
+        | inr none ↦ inr (λ p. none (p.0.lifetimes.valid, p.1.1))
+        | inl b ↦ elim (number_or_default endless_lifetime (2 ^ 32) preferred) [
+          | inr none ↦ inr (λ p. none (p.0.lifetimes.preferred, p.1.2))
+          | inl c ↦ inl (record { address = a.0; lifetimes = record { valid = b.0; preferred = c.0 } }, (a.1, b.1, c.1))
+        ]
+      ]
+    ]
+own_address_by _ = inr (λ p. p.1)
+
+pub own_address_or : (text : List ℕ) → Decided ((own : AddressByHand) × AreOwnAddressWords text own)
+own_address_or text = elim (own_address_by (words_of text)) [
+  | inr none ↦ inr (λ p. none (p.0, p.1.spelled))
+  | inl s ↦ elim (true_or (may_be_own s.0)) [
+    | inl right ↦ inl (s.0, record { spelled = s.1; right = right })
+    | inr fault ↦ inr (λ p.
+        let same : p.0 ≡ s.0 = own_addresses.one_spelled (words_of text) p.0 s.0 p.1.spelled s.1 in
+        fault (sym (ap may_be_own same) ∙ p.1.right))
+  ]
+]
 
 -- ---- packets
 

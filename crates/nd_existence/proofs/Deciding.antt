@@ -47,6 +47,10 @@ true_or false = inr (λ e. true≢false (sym' e))
 pub same_or : (a b : List ℕ) → Decided (a ≡ b)
 same_or a b = elim (bytes_tell a b) [ inl e ↦ inl e.1 | inr d ↦ inr d.1 ]
 
+pub false_or : (b : Bool) → Decided (b ≡ false)
+false_or false = inl refl
+false_or true = inr (λ e. true≢false e)
+
 -- a number below a bound has the property, or none has
 module _ (P : ℕ → Type 0) (decided : (k : ℕ) → Decided (P k)) where
   pub some_below : (bound : ℕ) → ((k : ℕ) × P k) ⊎ ((k : ℕ) → k < bound → P k → ⊥)

@@ -30,7 +30,7 @@ use Rattle.nd_chronicle.specs.Histories.{router_history, prefix_history, redirec
 use Rattle.nd_chronicle.specs.NextHop.{candidate, IsNextHop, routed_hop, IsHopOf}
 use Rattle.nd_chronicle.specs.OwnAddress.{story_of, is_assigned, is_own, is_up}
 use Rattle.nd_chronicle.specs.Hearing.{IsCounted, IsOurs, takes_target, is_awake, IsForUs, IsPacketForUs, IsInTransit, FromFirstHop, NotFromFirstHop, Verdict, Judges, IsDropped, IsTaken, IsStrange, IsMisdirected, IsPacket, IsPassing, IsStrangePacket, IsHeard}
-use Rattle.nd_existence.proofs.Deciding.{either_or, both_or, true_or, same_or, some_below}
+use Rattle.nd_existence.proofs.Deciding.{either_or, both_or, true_or, false_or, same_or, some_below}
 use Rattle.nd_existence.proofs.Tables.{address_bound, nothing_of_address}
 use Rattle.nd_existence.proofs.Listings.{listed}
 use Rattle.nd_existence.proofs.Failed.{failed_in, failures}
@@ -132,9 +132,9 @@ module _ (start : Start) (c : Chronicle) where
 
   in_transit_or : (packet : PacketParts) → (IsPacketForUs start c packet → ⊥) → IsInTransit start c packet ⊎ (IsInTransit start c packet → ⊥)
   in_transit_or packet not_ours =
-      elim (both_or (router_or start.role) (both_or (true_or (may_be_forwarded packet.header)) (true_or (is_up start c)))) [
-        | inl p ↦ inl (record { role = p.0; not_ours = not_ours; may = p.1.0; up = p.1.1 })
-        | inr none ↦ inr (λ is. none (is.role, (is.may, is.up)))
+      elim (both_or (router_or start.role) (both_or (false_or (is_own c packet.header.destination.0)) (both_or (true_or (may_be_forwarded packet.header)) (true_or (is_up start c))))) [
+        | inl p ↦ inl (record { role = p.0; not_ours = not_ours; not_own = p.1.0; may = p.1.1.0; up = p.1.1.1 })
+        | inr none ↦ inr (λ is. none (is.role, (is.not_own, (is.may, is.up))))
       ]
 
 -- ---- what is heard

@@ -5,7 +5,7 @@ use Rattle.std.specs.List.{AllByRecursion}
 use Rattle.nd_lines.specs.Lines.{longest_line}
 use Rattle.nd_advertiser.specs.Config.{Settings, config_fault}
 use Rattle.nd_chronicle.specs.Start.{Start}
-use Rattle.nd_chronicle.specs.Event.{Event, Passes, Receives, Sends, Confirms, Forgets, Clears, Shows, Advertises, Offers, Routes, Stops}
+use Rattle.nd_chronicle.specs.Event.{Event, Passes, Receives, Sends, Confirms, Forgets, Clears, Shows, Advertises, Offers, Routes, Stops, Sets, Withdraws}
 use Rattle.nd_chronicle.specs.History.{beginning}
 use Rattle.nd_chronicle.specs.Told.{text}
 use Rattle.nd_existence.specs.Intervals.{LeavesTime}
@@ -13,7 +13,7 @@ use Rattle.nd_existence.proofs.Deciding.{Decided, same_or}
 use Rattle.nd_existence.proofs.Running.{run}
 use Rattle.nd_existence.proofs.Timed.{faultless}
 use Rattle.ndpctl_run.specs.declared.command.Command.{Command}
-use Rattle.ndpctl_run.specs.declared.command.Command.TheVariants.{Rx, Send, Confirm, Forget, Clear, Show, Advertise, Prefix, Route}
+use Rattle.ndpctl_run.specs.declared.command.Command.TheVariants.{Rx, Send, Confirm, Forget, Clear, Show, Advertise, Prefix, Route, Address, Withdraw}
 use Rattle.ndpctl_run.specs.Command.{command_word, AreArguments, IsWholeCommand, IsCommand}
 use Rattle.ndpctl_run.specs.Line.{IsLine}
 use Rattle.ndpctl_run.specs.Number.{IsNumberWord}
@@ -23,7 +23,7 @@ use Rattle.ndpctl_run.proofs.CommandWords.{arguments_of, no_command, whole_comma
 use Rattle.ndpctl_run.proofs.Lines.{moment_in, is_line}
 use Rattle.ndpctl_run.proofs.Partings.{parts_at, no_parts}
 use Rattle.nd_existence.proofs.Words.{parted_or, number_or, most_or, bytes_or, address_or}
-use Rattle.nd_existence.proofs.Arguments.{clearable_or, table_or, settings_or, offer_or, route_or, packet_or}
+use Rattle.nd_existence.proofs.Arguments.{clearable_or, table_or, settings_or, offer_or, route_or, own_address_or, packet_or}
 
 -- ---- commands
 
@@ -46,7 +46,13 @@ some_command P decided = elim (decided Rx) [
                 | inl p ↦ inl (Prefix, p)
                 | inr h ↦ elim (decided Route) [
                   | inl p ↦ inl (Route, p)
-                  | inr i ↦ inr (λ p. none p.0 a b c d e f g h i p.1)
+                  | inr i ↦ elim (decided Address) [
+                    | inl p ↦ inl (Address, p)
+                    | inr j ↦ elim (decided Withdraw) [
+                      | inl p ↦ inl (Withdraw, p)
+                      | inr k ↦ inr (λ p. none p.0 a b c d e f g h i j k p.1)
+                    ]
+                  ]
                 ]
               ]
             ]
@@ -57,16 +63,19 @@ some_command P decided = elim (decided Rx) [
   ]
 ]
   where
-    none : (t : Command) → (P Rx → ⊥) → (P Send → ⊥) → (P Confirm → ⊥) → (P Forget → ⊥) → (P Clear → ⊥) → (P Show → ⊥) → (P Advertise → ⊥) → (P Prefix → ⊥) → (P Route → ⊥) → P t → ⊥
-    none Rx a b c d e f g h i p = a p
-    none Send a b c d e f g h i p = b p
-    none Confirm a b c d e f g h i p = c p
-    none Forget a b c d e f g h i p = d p
-    none Clear a b c d e f g h i p = e p
-    none Show a b c d e f g h i p = f p
-    none Advertise a b c d e f g h i p = g p
-    none Prefix a b c d e f g h i p = h p
-    none Route a b c d e f g h i p = i p
+    none : (t : Command) → (P Rx → ⊥) → (P Send → ⊥) → (P Confirm → ⊥) → (P Forget → ⊥) → (P Clear → ⊥) → (P Show → ⊥) → (P Advertise → ⊥) → (P Prefix → ⊥) → (P Route → ⊥)
+        → (P Address → ⊥) → (P Withdraw → ⊥) → P t → ⊥
+    none Rx a b c d e f g h i j k p = a p
+    none Send a b c d e f g h i j k p = b p
+    none Confirm a b c d e f g h i j k p = c p
+    none Forget a b c d e f g h i j k p = d p
+    none Clear a b c d e f g h i j k p = e p
+    none Show a b c d e f g h i j k p = f p
+    none Advertise a b c d e f g h i j k p = g p
+    none Prefix a b c d e f g h i j k p = h p
+    none Route a b c d e f g h i j k p = i p
+    none Address a b c d e f g h i j k p = j p
+    none Withdraw a b c d e f g h i j k p = k p
 
 arguments_or : (command : Command) (words : List ℕ) → Decided ((event : Event) × AreArguments command words event)
 arguments_or Rx words = elim (bytes_or words) [ inl p ↦ inl (Receives p.0, (p.0, refl, p.1)) | inr none ↦ inr (λ p. none (p.1.0, p.1.2)) ]
@@ -81,6 +90,8 @@ arguments_or Show words = elim (table_or words) [ inl p ↦ inl (Shows p.0, (p.0
 arguments_or Advertise words = elim (settings_or words) [ inl p ↦ inl (Advertises p.0, (p.0, refl, p.1)) | inr none ↦ inr (λ p. none (p.1.0, p.1.2)) ]
 arguments_or Prefix words = elim (offer_or words) [ inl p ↦ inl (Offers p.0, (p.0, refl, p.1)) | inr none ↦ inr (λ p. none (p.1.0, p.1.2)) ]
 arguments_or Route words = elim (route_or words) [ inl p ↦ inl (Routes p.0 p.1.0, (p.0, p.1.0, refl, p.1.1)) | inr none ↦ inr (λ p. none (p.1.0, (p.1.1, p.1.3))) ]
+arguments_or Address words = elim (own_address_or words) [ inl p ↦ inl (Sets p.0, (p.0, refl, p.1)) | inr none ↦ inr (λ p. none (p.1.0, p.1.2)) ]
+arguments_or Withdraw words = elim (address_or words) [ inl p ↦ inl (Withdraws p.0, (p.0, refl, p.1)) | inr none ↦ inr (λ p. none (p.1.0, p.1.2)) ]
 
 whole_or : (bytes : List ℕ) → Decided ((event : Event) × IsWholeCommand bytes event)
 whole_or bytes = elim (same_or bytes (codes "at")) [
@@ -162,6 +173,8 @@ arguments_leave Clear words event a = λ t e. let f : Clears a.0 ≡ Advertises 
 arguments_leave Show words event a = λ t e. let f : Shows a.0 ≡ Advertises t = sym a.1 ∙ e in absurd (let no : ⊥ = cc in no)
 arguments_leave Prefix words event a = λ t e. let f : Offers a.0 ≡ Advertises t = sym a.1 ∙ e in absurd (let no : ⊥ = cc in no)
 arguments_leave Route words event a = λ t e. let f : Routes a.0 a.1 ≡ Advertises t = sym a.2 ∙ e in absurd (let no : ⊥ = cc in no)
+arguments_leave Address words event a = λ t e. let f : Sets a.0 ≡ Advertises t = sym a.1 ∙ e in absurd (let no : ⊥ = cc in no)
+arguments_leave Withdraw words event a = λ t e. let f : Withdraws a.0 ≡ Advertises t = sym a.1 ∙ e in absurd (let no : ⊥ = cc in no)
 
 pub command_leaves : (bytes : List ℕ) (event : Event) → IsCommand bytes event → LeavesTime event
 command_leaves bytes event (inl (inl e)) = λ t f. let g : Passes ≡ Advertises t = sym e.1 ∙ f in absurd (let no : ⊥ = cc in no)

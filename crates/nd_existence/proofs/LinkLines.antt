@@ -41,6 +41,8 @@ hears_or (nodes.Advertises settings) = inl (λ frame e. let no : ⊥ = cc in no)
 hears_or (nodes.Offers info) = inl (λ frame e. let no : ⊥ = cc in no)
 hears_or (nodes.Routes prefix route) = inl (λ frame e. let no : ⊥ = cc in no)
 hears_or nodes.Stops = inl (λ frame e. let no : ⊥ = cc in no)
+hears_or (nodes.Sets own) = inl (λ frame e. let no : ⊥ = cc in no)
+hears_or (nodes.Withdraws address) = inl (λ frame e. let no : ⊥ = cc in no)
 
 own_or : (bytes : List ℕ) → Decided ((event : nodes.Event) × IsOwnCommand bytes event)
 own_or bytes = elim (command_or bytes) [

@@ -20,6 +20,7 @@ use Rattle.nd_existence.specs.Intervals.{AreTimed}
 assigned_settings : (own at key : ℕ) (kind : addresses.RowKind) (h : List advertising.Row) → settings_of (then_assigned own at key kind h) ≡ settings_of h
 assigned_settings own at key addresses.Assigned h = cond_both (eqb key own) (advertising.Assigned at ∷ h) h (λ rows. settings_of rows ≡ settings_of h) (λ _. refl) (λ _. refl)
 assigned_settings own at key (addresses.Formed delay retrans lifetimes) h = refl
+assigned_settings own at key (addresses.SetByHand lifetimes) h = refl
 assigned_settings own at key (addresses.Announced lifetimes) h = refl
 assigned_settings own at key addresses.Solicited h = refl
 assigned_settings own at key addresses.Conflict h = refl

@@ -18,7 +18,7 @@ quiet at _ c is t = t
 pub event_timed : (start : Start) (at : ℕ) (c : Chronicle) (event : Event) (d : Chronicle) → LeavesTime event → EventAdds start at event c d → AreTimed c → AreTimed d
 event_timed start at c event d fits h t = event_keeps start at AreTimed (quiet at)
     (λ key delay lifetimes e k. k) (λ key lifetimes e k. k) (λ source destination message e none k. k) (λ source destination target message e targets k. k)
-    c AreTimed (λ e k. k) (λ refusal. t) event d (λ settings is. (fits settings is, t)) h t
+    c AreTimed (λ e k. k) (λ refusal. t) (λ key lifetimes e k. k) (λ key e k. k) event d (λ settings is. (fits settings is, t)) h t
 
 -- and so does what is due
 pub comes_timed : (start : Start) (at : ℕ) (what : What) (c : Chronicle) → AreTimed c → AreTimed (comes start at what c)

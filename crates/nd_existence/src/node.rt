@@ -12,7 +12,7 @@ ghost use Rattle.nd_chronicle.specs.History.{IsChronicle, Runs, Walk};
 ghost use Rattle.nd_existence.specs.Intervals.{AreTimed, LeaveTime};
 
 /// Each history has a chronicle: for each start, and all events with their moments, in order or not, there is a chronicle of them. By
-/// `nd_chronicle::laws::one_chronicle` there is no other. Any frame may be received, and any packet be sent.
+/// `nd_chronicle::laws::one_chronicle` there is no other. Any frame may be received, any packet be sent, and any address be given by hand.
 ///
 /// The one premise is that a router is given no MinRtrAdvInterval of 0 (RFC 4861, section 6.2.1: it "MUST be no less than 3 seconds");
 /// `no_end_without_an_interval` says why.

@@ -41,8 +41,8 @@ pub enum LinkEvent<R, A: Allocator> {
     Delivers(u64, u64),
 }
 
-/// Gives as a clause what the types of an event's parts say: addresses and frames are of bytes, and a node sends at least one solicitation for
-/// an address.
+/// Gives as a clause what the types of an event's parts say: addresses and frames are of bytes, a node sends at least one solicitation for an
+/// address, and an address that is given by hand is one that an interface may have.
 fn known<R: Rng + Drop, A: Allocator>(event: &LinkEvent<R, A>)
     ensures { IsOfBytes (link_event R.stream event.now) }
 {
@@ -52,6 +52,9 @@ fn known<R: Rng + Drop, A: Allocator>(event: &LinkEvent<R, A>)
             transmits.number();
         }
         LinkEvent::Comes(_, Event::Receives(frame)) => known_frame(frame),
+        LinkEvent::Comes(_, Event::Sets(own)) => {
+            own.addr();
+        }
         LinkEvent::Passes | LinkEvent::Comes(..) | LinkEvent::Delivers(..) => {}
     }
 }

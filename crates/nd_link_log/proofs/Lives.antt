@@ -94,4 +94,4 @@ module _ (Bytes : Type 0) (start : Start) (c : Chronicle) (now : ℕ) (r : Reach
       }
 
   pub lives_on : Lives Bytes start c now
-  lives_on = lives_then nodes.Passes c (λ b frame e. absurd (let no : ⊥ = cc in no)) refl
+  lives_on = lives_then nodes.Passes c (λ b. record { frame = λ frame e. absurd (let no : ⊥ = cc in no); own = λ own e. absurd (let no : ⊥ = cc in no) }) refl

@@ -3,7 +3,7 @@ use Rattle.std.proofs.Common.{◌≡◌, inl, inr, ℕ, ◌≤◌, Bool, true, f
 use Rattle.std.specs.Prelude.{◌&&◌, not}
 use Rattle.std.proofs.lemmas.Bool.{eqb-true, true≢false, cases_Bool}
 use Rattle.nd_table.specs.History.{Past}
-use Rattle.nd_slaac.specs.History.{Row, RowKind, story, Formed, Announced, Solicited, Conflict, Assigned, Ended}
+use Rattle.nd_slaac.specs.History.{Row, RowKind, story, Formed, SetByHand, Announced, Solicited, Conflict, Assigned, Ended}
 use Rattle.nd_slaac.specs.State.{has_conflict, is_known, was_assigned}
 use Rattle.nd_slaac.proofs.Steps.{ended_story, other_story, same_story}
 use Rattle.nd_chronicle.specs.Happening.{Address}
@@ -52,6 +52,7 @@ module _ (key : ℕ) where
   own_row at Assigned history before was = (at, history, inl refl)
   own_row at Ended history before was = absurd (true≢false (sym was ∙ ap was_assigned (ended_story key at history)))
   own_row at (Formed delay retrans lifetimes) history before was = absurd (true≢false (sym was ∙ ap was_assigned (same_story key at (Formed delay retrans lifetimes) history refl)))
+  own_row at (SetByHand lifetimes) history before was = further _ history (before (sym (ap was_assigned (same_story key at (SetByHand lifetimes) history refl)) ∙ was))
   own_row at (Announced lifetimes) history before was = further _ history (before (sym (ap was_assigned (same_story key at (Announced lifetimes) history refl)) ∙ was))
   own_row at Solicited history before was = further _ history (before (sym (ap was_assigned (same_story key at Solicited history refl)) ∙ was))
   own_row at Conflict history before was = further _ history (before (sym (ap was_assigned (same_story key at Conflict history refl)) ∙ was))

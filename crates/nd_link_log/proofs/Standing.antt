@@ -179,4 +179,4 @@ module _ (Bytes : Type 0) (now : ℕ) (log : Log) (r : Reaching Bytes log now) w
       subst (Stands Bytes) (sym same)
       (stands_at Bytes (adding at rows carrying) now (moment_with now at rows carrying each refl)
       (record { rises = rises_with now at rows carrying each rises; numbered = numbered_with at rows carrying g.numbered; there = there_with at rows carrying (ap is_some is) g.there; bring = all })
-      (lives_after at (nodes.Receives frame) start rows is (λ b f e. let one : frame ≡ f = cc in subst IsBytes one (bytes b)) gained carrying (λ i. refl) (λ i. refl)))
+      (lives_after at (nodes.Receives frame) start rows is (λ b. record { frame = λ f e. let one : frame ≡ f = cc in subst IsBytes one (bytes b); own = λ own e. absurd (let no : ⊥ = cc in no) }) gained carrying (λ i. refl) (λ i. refl)))

@@ -1,4 +1,4 @@
--- What is handed to a link is bytes, and so is what its nodes send.
+-- What is handed to a link is bytes, and so is what its nodes send. An address that is given to a node by hand is one that an interface may have.
 use Rattle.std.specs.Prelude.{ℕ, ◌<◌, List, ◌∷◌}
 use Rattle.std.specs.List.{All}
 use Rattle.nd_addr.specs.Bytes.{IsBytes, AreBytes}
@@ -8,7 +8,8 @@ use Rattle.nd_chronicle.specs.Event.{ComesAsBytes}
 use Rattle.nd_link_log.specs.Log.{Log, Adds}
 use Rattle.nd_link_log.specs.Event.{Event, Passes, Starts, Comes, Delivers}
 
--- the link-layer address of a node that starts is six bytes, it solicits once or more often for an address, and a received frame is bytes
+-- the link-layer address of a node that starts is six bytes, and it solicits once or more often for an address; a received frame is bytes, and an
+-- address that is given by hand is bytes and one that an interface may have
 abbrev pub IsOfBytes : Event → Type 0
 IsOfBytes Passes = Unit {0}
 IsOfBytes (Starts role mac transmits stream) = AreBytes 6 mac.0 × (0 < transmits)

@@ -76,7 +76,8 @@ pub fn links_are_sound()
 {}
 
 /// On a timely link, at each place of its log, no address is preferred or deprecated at two nodes (RFC 4862, section 5.4). This follows from what
-/// the nodes and the link owe alone: how a node gets an address, and the effect of a carried frame. So it holds on each link.
+/// the nodes and the link owe alone: how a node gets an address, and the effect of a carried frame. So it holds on each link. It is the same for each
+/// address, whether an advertisement formed it or it was given by hand.
 pub fn one_holder()
     ensures where_sound { (log : Log) (within : ℕ) → IsSound log → IsTimely within log → HasOneHolder log }
     ensures on_links { (limits : Limits) (events : List (ℕ × Event)) (log : Log) (within : ℕ) → AreOfBytes events → SendsBytes log → IsLog limits events log

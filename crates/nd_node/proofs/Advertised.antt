@@ -37,7 +37,7 @@ use Rattle.nd_slaac.specs.Due as address_due
 use Rattle.nd_slaac.specs.Dates as address_dates
 use Rattle.nd_slaac.specs.AddressKept.{Address}
 use Rattle.nd_slaac.specs.TableKept as addresses
-use Rattle.nd_slaac.specs.State.{is_known}
+use Rattle.nd_slaac.specs.State.{is_by_hand, is_known}
 use Rattle.nd_slaac.specs.PrefixOption.{is_taken, named_by, lifetimes_of, prefixes_in}
 use Rattle.nd_dns.specs.DnsKept as known
 use Rattle.nd_dns.specs.AnnouncedNames.{names_told}
@@ -202,14 +202,15 @@ module _ (transmits now : ℕ) (still : AddressesStill) where
     either_beside true c d e x y = x
     either_beside false c d e x y = y
 
-    naming_beside : (known : Bool) (info : PrefixInfo) (c : Chronicle) → Beside c (naming start now to_all known info c)
-    naming_beside true info c = announced_beside (named_by start.mac info) (lifetimes_of info) c
-    naming_beside false info c = either_beside (info.valid_lifetime == 0) c c _ (beside_same c) (forming_beside (named_by start.mac info) (lifetimes_of info) c)
+    naming_beside : (hand known : Bool) (info : PrefixInfo) (c : Chronicle) → Beside c (naming start now to_all hand known info c)
+    naming_beside true known info c = beside_same c
+    naming_beside false true info c = announced_beside (named_by start.mac info) (lifetimes_of info) c
+    naming_beside false false info c = either_beside (info.valid_lifetime == 0) c c _ (beside_same c) (forming_beside (named_by start.mac info) (lifetimes_of info) c)
 
     options_beside : (infos : List PrefixInfo) (c : Chronicle) → Beside c (then_options start now to_all infos c)
     options_beside [] c = beside_same c
     options_beside (info ∷ infos) c =
-        let one : Beside c (then_option start now to_all info c) = either_beside (is_taken info) c _ c (naming_beside (is_known (story_of c (named_by start.mac info))) info c) (beside_same c) in
+        let one : Beside c (then_option start now to_all info c) = either_beside (is_taken info) c _ c (naming_beside (is_by_hand (story_of c (named_by start.mac info))) (is_known (story_of c (named_by start.mac info))) info c) (beside_same c) in
         beside_then one (options_beside infos (then_option start now to_all info c))
 
 -- ---- the message itself, and the redraw above it

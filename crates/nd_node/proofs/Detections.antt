@@ -44,10 +44,10 @@ use Rattle.nd_node.proofs.Turns.{addresses_before}
 
 -- ---- what the addresses' laws say
 
-abbrev Still : Type 0
+abbrev pub Still : Type 0
 Still = (transmits : ℕ) (history : List rows.Row) (now key : ℕ) (kind : rows.RowKind) → NoneOverdue transmits history now → NoneOverdue transmits ((now, key, kind) ∷ history) now
 
-abbrev ByTable : Type 0
+abbrev pub ByTable : Type 0
 ByTable = (transmits : ℕ) (those : List own.Address) (history : List rows.Row) (now : ℕ) → addresses.Stands those history → NoneBefore those now ↔ NoneOverdue transmits history now
 
 -- ---- the rows

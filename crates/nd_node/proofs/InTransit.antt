@@ -2,8 +2,10 @@
 use Rattle.std.proofs.Common.{◌≡◌, ◌↔◌, ℕ, ◌+◌, ◌-◌, ◌<◌, ◌≤◌, Bool, true, false, List, [], ◌∷◌, append-nil, length, take, Option, Some, None, refl, sym, ◌∙◌, ap, subst, arith}
 use Rattle.std.specs.Prelude.{if◌then◌else◌, is_some, ◌||◌}
 use Rattle.std.specs.Cmp.{first_so}
+use Rattle.std.proofs.lemmas.Bool.{cond-false}
 use Rattle.rand_core.specs.Stream.{Stream}
 use Rattle.nd_addr.specs.declared.addr.Addr.{Addr}
+use Rattle.nd_addr.specs.declared.ip6.Ip6.{Ip6}
 use Rattle.nd_addr.specs.declared.mac.Mac.{Mac}
 use Rattle.nd_addr.specs.Frame.{written_frame}
 use Rattle.nd_addr.specs.Bytes.{IsBytes}
@@ -30,7 +32,7 @@ use Rattle.nd_chronicle.specs.Happening.{Chronicle, Full, Loss, Lost, Neighbours
 use Rattle.nd_chronicle.specs.Histories.{neighbour_history, route_history}
 use Rattle.nd_chronicle.specs.OwnAddress.{is_own}
 use Rattle.nd_chronicle.specs.Event.{packet_bytes}
-use Rattle.nd_chronicle.specs.Forwarding.{FateAdds, SendsOn, better_hop_frame, frame_as_it_came, key_of}
+use Rattle.nd_chronicle.specs.Forwarding.{FateAdds, SendsOn, better_hop_frame, frame_as_it_came, key_of, redirect_to}
 use Rattle.nd_chronicle.specs.Packet.{Goes, GoesIfPlaced}
 use Rattle.nd_out.specs.declared.out.Out.{Out}
 use Rattle.nd_steps.specs.Outputs.{Tells, happenings}
@@ -166,13 +168,29 @@ module _ {R A : Type 0} (stream : R → Stream) (old mid made sent new : Node R 
         );
   }
 
+-- ---- to whom a Redirect goes
+
+none_either : (b : Bool) (x : Option Addr) → x ≡ None → (if b then None else x) ≡ None
+none_either true x is = refl
+none_either false x is = is
+
+module _ (start : Start) (now : ℕ) (packet : PacketParts) (header : Ip6) (header_is : packet.header ≡ header) (c : Chronicle) where
+  abbrev by_routes : Ip6 → Option Addr
+  by_routes h = redirect (is_own c) (routes (route_history c)) (last_redirect (route_history c)) now h
+
+  pub redirects_none : None ≡ by_routes header → None ≡ redirect_to start now packet c
+  redirects_none says = sym (none_either (is_own c packet.header.source.0) (by_routes packet.header) (sym (says ∙ ap by_routes (sym header_is))))
+
+  pub redirects_another : (target : Addr) → false ≡ is_own c header.source.0 → Some target ≡ by_routes header → Some target ≡ redirect_to start now packet c
+  redirects_another target another says =
+      says ∙ (ap by_routes (sym header_is) ∙ sym (cond-false (is_own c packet.header.source.0) None (by_routes packet.header) (ap (λ (h : Ip6). is_own c h.source.0) header_is ∙ sym another)))
+
 -- ---- by its fate
 
 module _ {R A : Type 0} (stream : R → Stream) (old new : Node R A) (x y : List (ℕ × Out A)) (now : ℕ) (packet : PacketParts) (bytes : List ℕ) (own : Bool) where
-  -- what the routes say of a Redirect
+  -- what the node says of a Redirect
   abbrev pub SaysRedirect : Option Addr → Type 0
-  SaysRedirect target = (is_mine : List ℕ → Bool) → is_mine packet.header.destination.0 ≡ own → (history : List route_rows.Row) → route_tables.Stands old.router.routes history
-      → target ≡ redirect is_mine (routes history) (last_redirect history) now packet.header
+  SaysRedirect target = (start : Start) (c : Chronicle) → Stands stream start old c → is_own c packet.header.destination.0 ≡ own → target ≡ redirect_to start now packet c
 
   pub onward : (key : ℕ) (target : Option Addr) {answer : answers.Answer} → SaysRedirect target → AddsSentOn stream old new x y now key target packet bytes answer → AddsOnward stream old new x y now key own packet bytes answer
   onward key target {answer} says adds = record {
@@ -180,14 +198,14 @@ module _ {R A : Type 0} (stream : R → Stream) (old new : Node R A) (x y : List
         let a = adds.each start c s le in
         let later : Chronicle = (now, Passed) ∷ c in (
           a.0,
-          subst (λ (t : Option Addr). SendsOn start now t packet bytes key later a.0) (says (is_own c) mine (route_history c) s.router.routes) a.1,
+          subst (λ (t : Option Addr). SendsOn start now t packet bytes key later a.0) (says start c s mine) a.1,
           a.2,
           a.3,
           a.4,
         );
   }
 
-  -- what they say of its fate, and the addresses of its destination
+  -- what the routes say of its fate, and the addresses of its destination
   abbrev pub SaysFate : Fate → Type 0
   SaysFate f = (is_mine : List ℕ → Bool) → is_mine packet.header.destination.0 ≡ own → (history : List route_rows.Row) → route_tables.Stands old.router.routes history
       → f ≡ fate is_mine (routes history) packet.header
@@ -225,7 +243,7 @@ module _ {R A : Type 0} (stream : R → Stream) (old new : Node R A) (x y : List
       let a = adds.each start c s le mine in
       let later : Chronicle = (now, Passed) ∷ c in (
         a.0,
-        subst (λ (b : List ℕ). SendsOn start now (redirect (is_own c) (routes (route_history c)) (last_redirect (route_history c)) now packet.header) packet b (key_of next packet.header.destination) later a.0) is a.1,
+        subst (λ (b : List ℕ). SendsOn start now (redirect_to start now packet c) packet b (key_of next packet.header.destination) later a.0) is a.1,
         a.2,
         a.3,
         a.4,

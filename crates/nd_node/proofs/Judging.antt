@@ -210,10 +210,10 @@ module _ {R A : Type 0} (stream : R → Stream) (old mid new : Node R A) (x y : 
 
 -- whether a packet is in transit is the same once time has passed
 pub in_transit_later : (start : Start) (c : Chronicle) (now : ℕ) (packet : PacketParts) → IsInTransit start c packet → IsInTransit start ((now, Passed) ∷ c) packet
-in_transit_later start c now packet t = record { role = t.role; not_ours = λ f. t.not_ours (record { destination_is = f.destination_is; up = f.up }); may = t.may; up = t.up }
+in_transit_later start c now packet t = record { role = t.role; not_ours = λ f. t.not_ours (record { destination_is = f.destination_is; up = f.up }); not_own = t.not_own; may = t.may; up = t.up }
 
 in_transit_before : (start : Start) (c : Chronicle) (now : ℕ) (packet : PacketParts) → IsInTransit start ((now, Passed) ∷ c) packet → IsInTransit start c packet
-in_transit_before start c now packet t = record { role = t.role; not_ours = λ f. t.not_ours (record { destination_is = f.destination_is; up = f.up }); may = t.may; up = t.up }
+in_transit_before start c now packet t = record { role = t.role; not_ours = λ f. t.not_ours (record { destination_is = f.destination_is; up = f.up }); not_own = t.not_own; may = t.may; up = t.up }
 
 pub is_not : (answer : Bool) (P : Type 0) → answer ≡ true ↔ P → answer ≡ false → P → ⊥
 is_not answer P says is p = let yes' = says.1 p in let never : ⊥ = cc in never

@@ -30,3 +30,4 @@ pub mod RouterCommands
 pub mod InTransit
 pub mod Refusals
 pub mod Growing
+pub mod ByHand

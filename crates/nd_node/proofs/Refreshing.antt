@@ -20,7 +20,7 @@ use Rattle.nd_slaac.specs.History as address_rows
 use Rattle.nd_slaac.specs.History.{story}
 use Rattle.nd_slaac.specs.PrefixOption.{is_forming, is_taken, lifetimes_of, named_by}
 use Rattle.nd_slaac.specs.Room.{is_among, would_form}
-use Rattle.nd_slaac.specs.State.{Forming, forming_of, is_known}
+use Rattle.nd_slaac.specs.State.{is_by_hand, Forming, forming_of, is_known}
 use Rattle.nd_slaac.specs.declared.destination.Counted.TheVariants.{Own}
 use Rattle.nd_slaac.specs.Destination.{counts}
 use Rattle.nd_slaac.specs.TableKept as addresses
@@ -62,7 +62,7 @@ module _ (start : Start) (now : ℕ) (to_all : Bool) (c : Chronicle) where
   option_same : (info : PrefixInfo) (d : Chronicle) → SameOwn c d → (is_forming info && not (is_known (story (named_by start.mac info) (address_history c)))) ≡ false → SameOwn c (then_option start now to_all info d)
   option_same info d same none = by_taken (is_taken info) refl
     where
-      renewed : SameOwn c (naming start now to_all true info d)
+      renewed : SameOwn c (naming start now to_all false true info d)
       renewed =
           let key = named_by start.mac info in
           let kind = address_rows.Announced (lifetimes_of info) in record {
@@ -70,17 +70,19 @@ module _ (start : Start) (now : ℕ) (to_all : Bool) (c : Chronicle) where
             own = λ k. own_row now key kind (address_history d) refl (λ s. refl) (λ s. refl) k ∙ same.own k;
           }
 
-      by_zero : (z : Bool) → info.valid_lifetime == 0 ≡ z → is_taken info ≡ true → is_known (story (named_by start.mac info) (address_history c)) ≡ false → SameOwn c (naming start now to_all false info d)
+      by_zero : (z : Bool) → info.valid_lifetime == 0 ≡ z → is_taken info ≡ true → is_known (story (named_by start.mac info) (address_history c)) ≡ false → SameOwn c (naming start now to_all false false info d)
       by_zero true e taken unknown = subst (λ (x : Chronicle). SameOwn c x) (sym (cond-true (info.valid_lifetime == 0) d _ e)) same
       by_zero false e taken unknown = let never : true ≡ false = sym (rw (taken, e, unknown) refl) ∙ none in let no : ⊥ = cc in absurd no
 
-      by_known : (k : Bool) → is_known (story_of d (named_by start.mac info)) ≡ k → is_taken info ≡ true → SameOwn c (naming start now to_all k info d)
-      by_known true e taken = renewed
-      by_known false e taken = by_zero (info.valid_lifetime == 0) refl taken (sym (same.known (named_by start.mac info)) ∙ e)
+      by_known : (hand k : Bool) → is_known (story_of d (named_by start.mac info)) ≡ k → is_taken info ≡ true → SameOwn c (naming start now to_all hand k info d)
+      by_known true k e taken = same
+      by_known false true e taken = renewed
+      by_known false false e taken = by_zero (info.valid_lifetime == 0) refl taken (sym (same.known (named_by start.mac info)) ∙ e)
 
       by_taken : (t : Bool) → is_taken info ≡ t → SameOwn c (then_option start now to_all info d)
       by_taken false e = subst (λ (x : Chronicle). SameOwn c x) (sym (cond-false (is_taken info) _ d e)) same
-      by_taken true e = subst (λ (x : Chronicle). SameOwn c x) (sym (cond-true (is_taken info) (naming start now to_all (is_known (story_of d (named_by start.mac info))) info d) d e)) (by_known (is_known (story_of d (named_by start.mac info))) refl e)
+      by_taken true e = subst (λ (x : Chronicle). SameOwn c x) (sym (cond-true (is_taken info) (naming start now to_all (is_by_hand (story_of d (named_by start.mac info))) (is_known (story_of d (named_by start.mac info))) info d) d e))
+          (by_known (is_by_hand (story_of d (named_by start.mac info))) (is_known (story_of d (named_by start.mac info))) refl e)
 
   -- what is known, by what is kept
   module _ (mac : Mac) (mac_is : mac ≡ start.mac) (keys : List ℕ) (known : (key : ℕ) → is_among key keys ≡ is_known (story key (address_history c))) where

@@ -19,7 +19,7 @@ use Rattle.nd_neighbour.specs.RoomKept.{has_room}
 use Rattle.nd_neighbour.specs.Sending.{Sending, Sends, Queues, sending_of_story}
 use Rattle.nd_neighbour.specs.Story.{mac_of, waits_of}
 use Rattle.nd_slaac.specs.PrefixOption.{is_taken, lifetimes_of, named_by, prefixes_in}
-use Rattle.nd_slaac.specs.State.{is_known}
+use Rattle.nd_slaac.specs.State.{is_by_hand, is_known}
 use Rattle.nd_nexthop.specs.NextHop.{NextHop, direct}
 use Rattle.nd_chronicle.specs.Start.{Start}
 use Rattle.nd_chronicle.specs.Happening.{Chronicle, Heard, Limit, Loss, Lost, Passed, Refusal, Refused, Forgotten, Neighbour}
@@ -46,9 +46,8 @@ use Rattle.nd_decode.specs.declared.neighbor_solicitation.NeighborSolicitation.{
 use Rattle.nd_decode.specs.declared.router_advertisement.RouterAdvertisement.{RouterAdvertisement}
 use Rattle.nd_validity.specs.Hearing.{valid, Hears, Outcome, other}
 use Rattle.nd_forwarding.specs.Forward.{Fate, fate}
-use Rattle.nd_forwarding.specs.Redirect.{last_redirect, redirect}
 use Rattle.nd_forwarding.specs.Routes.{routes}
-use Rattle.nd_chronicle.specs.Forwarding.{FateAdds, ForwardAdds, Redirects, SendsOn}
+use Rattle.nd_chronicle.specs.Forwarding.{FateAdds, ForwardAdds, Redirects, SendsOn, redirect_to}
 use Rattle.nd_chronicle.specs.Full.{AdvertisementFills, Fills, MessageFills, Placed}
 use Rattle.nd_chronicle.specs.Hearing.{IsMisdirected, IsStrange, IsTaken, Judges, Verdict, IsPacket, IsPacketForUs, IsPassing, IsStrangePacket}
 use Rattle.nd_node.proofs.InTransit.{SaysRoom}
@@ -107,12 +106,13 @@ module _ (at : ℕ) where
     redrawing_adds base true c h = refl
     redrawing_adds base false c h = h
 
-    naming_adds : (to_all known : Bool) (info : PrefixInfo) (c : Chronicle) → is_refusal c ≡ false → is_refusal (naming start at to_all known info c) ≡ false
-    naming_adds to_all true info c h = refl
-    naming_adds to_all false info c h = either _ c (forming start at to_all (named_by start.mac info) (lifetimes_of info) c) h refl
+    naming_adds : (to_all hand known : Bool) (info : PrefixInfo) (c : Chronicle) → is_refusal c ≡ false → is_refusal (naming start at to_all hand known info c) ≡ false
+    naming_adds to_all true known info c h = h
+    naming_adds to_all false true info c h = refl
+    naming_adds to_all false false info c h = either _ c (forming start at to_all (named_by start.mac info) (lifetimes_of info) c) h refl
 
     option_adds : (to_all : Bool) (info : PrefixInfo) (c : Chronicle) → is_refusal c ≡ false → is_refusal (then_option start at to_all info c) ≡ false
-    option_adds to_all info c h = either (is_taken info) _ c (naming_adds to_all (is_known (story_of c (named_by start.mac info))) info c h) h
+    option_adds to_all info c h = either (is_taken info) _ c (naming_adds to_all (is_by_hand (story_of c (named_by start.mac info))) (is_known (story_of c (named_by start.mac info))) info c h) h
 
     options_add : (to_all : Bool) (infos : List PrefixInfo) (c : Chronicle) → is_refusal c ≡ false → is_refusal (then_options start at to_all infos c) ≡ false
     options_add to_all [] c h = h
@@ -223,8 +223,8 @@ module _ (start : Start) (now : ℕ) (packet : PacketParts) (came : List ℕ) (c
   fate_refused f is adds = (adds.0, subst (λ (f' : Fate). FateAdds start now f' packet came ((now, Passed) ∷ c) ((now, Refused adds.0) ∷ (now, Passed) ∷ c)) (sym is) adds.1)
 
   -- the target of its Redirect is this, or there is none
-  pub onward_refused : (target : Option Addr) (key : ℕ) → target ≡ redirect (is_own c) (routes (route_history c)) (last_redirect (route_history c)) now packet.header
-      → AddsRefusal now c (SendsOn start now (redirect (is_own c) (routes (route_history c)) (last_redirect (route_history c)) now packet.header) packet came key)
+  pub onward_refused : (target : Option Addr) (key : ℕ) → target ≡ redirect_to start now packet c
+      → AddsRefusal now c (SendsOn start now (redirect_to start now packet c) packet came key)
       → AddsRefusal now c (SendsOn start now target packet came key)
   onward_refused target key is adds = (adds.0, subst (λ (t : Option Addr). SendsOn start now t packet came key ((now, Passed) ∷ c) ((now, Refused adds.0) ∷ (now, Passed) ∷ c)) (sym is) adds.1)
 

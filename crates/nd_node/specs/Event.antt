@@ -12,7 +12,7 @@ use Rattle.nd_node.specs.declared.clearing.Clearable.TheVariants as clearables
 use Rattle.nd_node.specs.declared.event.Table.{Table}
 use Rattle.nd_node.specs.declared.event.Table.TheVariants.{Neighbours, Routers, Prefixes, Addresses, Dns, Redirects, Params, Advertise, Routes}
 use Rattle.nd_node.specs.declared.event.Event.{Event}
-use Rattle.nd_node.specs.declared.event.Event.TheVariants.{Passes, Receives, Sends, Confirms, Forgets, Clears, Shows, Advertises, Offers, PutsRoute, Stops}
+use Rattle.nd_node.specs.declared.event.Event.TheVariants.{Passes, Receives, Sends, Confirms, Forgets, Clears, Shows, Advertises, Offers, PutsRoute, Stops, Sets, Withdraws}
 use Rattle.nd_node.specs.Time.{Onward}
 
 abbrev pub table_of : Table → shown.Table
@@ -45,6 +45,8 @@ event_of (Advertises config) = events.Advertises config
 event_of (Offers offer) = events.Offers offer
 event_of (PutsRoute route) = events.Routes route.prefix route.route
 event_of Stops = events.Stops
+event_of (Sets own) = events.Sets own
+event_of (Withdraws addr) = events.Withdraws addr
 
 -- the same of events with their moments
 abbrev pub events_of : {A : Type 0} → List (ℕ × Event A) → List (ℕ × events.Event)

@@ -2,15 +2,12 @@
 use Rattle.std.specs.Prelude.{◌≡◌, ℕ, Bool, false, List, ◌∷◌, ◌≤◌, Option}
 use Rattle.rand_core.specs.Stream.{Stream}
 use Rattle.nd_addr.specs.Ip6.{PacketParts}
-use Rattle.nd_forwarding.specs.Redirect.{last_redirect, redirect}
-use Rattle.nd_forwarding.specs.Routes.{routes}
 use Rattle.nd_addr.specs.declared.addr.Addr.{Addr}
 use Rattle.nd_chronicle.specs.Start.{Start}
 use Rattle.nd_chronicle.specs.Happening.{Chronicle, Loss, Lost, Passed, last_moment}
-use Rattle.nd_chronicle.specs.Histories.{route_history}
 use Rattle.nd_chronicle.specs.OwnAddress.{is_own}
 use Rattle.nd_chronicle.specs.Answer.{Answer, answer_after}
-use Rattle.nd_chronicle.specs.Forwarding.{ForwardAdds, SendsOn, frame_as_it_came}
+use Rattle.nd_chronicle.specs.Forwarding.{ForwardAdds, SendsOn, frame_as_it_came, redirect_to}
 use Rattle.nd_out.specs.declared.out.Out.{Out}
 use Rattle.nd_steps.specs.Outputs.{Tells}
 use Rattle.nd_node.specs.declared.node.Node.{Node}
@@ -33,8 +30,8 @@ pub record AddsSentOn {R A : Type 0} (stream : R → Stream) (old new : Node R A
   pub each : (start : Start) (c : Chronicle) → Stands stream start old c → last_moment start.at c ≤ now
       → (d : Chronicle) × SendsOn start now target packet bytes key ((now, Passed) ∷ c) d × Stands stream start new d × Tells c d before after × (answer ≡ answer_after d false)
 
--- the same with or without a destination among the node's own addresses, which decides on the Redirect with the routes
+-- the same with or without a destination among the node's own addresses, which decides on the Redirect with the source and the routes
 pub record AddsOnward {R A : Type 0} (stream : R → Stream) (old new : Node R A) (before after : List (ℕ × Out A)) (now key : ℕ) (own : Bool) (packet : PacketParts) (bytes : List ℕ) (answer : Answer) : Type 0 where
   pub each : (start : Start) (c : Chronicle) → Stands stream start old c → last_moment start.at c ≤ now → is_own c packet.header.destination.0 ≡ own
-      → (d : Chronicle) × SendsOn start now (redirect (is_own c) (routes (route_history c)) (last_redirect (route_history c)) now packet.header) packet bytes key ((now, Passed) ∷ c) d
+      → (d : Chronicle) × SendsOn start now (redirect_to start now packet c) packet bytes key ((now, Passed) ∷ c) d
       × Stands stream start new d × Tells c d before after × (answer ≡ answer_after d false)

@@ -50,6 +50,8 @@ AsksForNone start c node now places (events.Receives frame) = IsDropped start c 
 AsksForNone start c node now places (events.Confirms neighbour) = Unit {0}
 AsksForNone start c node now places (events.Forgets neighbour) = length (waiting_at (entry_in (number_of neighbour.0) node.neighbours.entries)) ≤ places
 AsksForNone start c node now places (events.Clears table) = TellsNothing table
+AsksForNone start c node now places (events.Sets own) = 1 ≤ places
+AsksForNone start c node now places (events.Withdraws address) = 1 ≤ places
 AsksForNone start c node now places _ = ⊥
 
 -- what adds to a chronicle, once time has passed, adds a refusal alone

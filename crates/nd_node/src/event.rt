@@ -20,6 +20,7 @@ use nd_addr::Addr;
 use nd_advertiser::{Config, Offer};
 use nd_forwarding::KeptRoute;
 use nd_out::{Out, Refusal};
+use nd_slaac::OwnAddress;
 use nd_steps::OutgoingPacket;
 use rand_core::Rng;
 use std::alloc::{AllocError, Allocator};
@@ -64,7 +65,7 @@ pub enum Event<A: Allocator> {
     Clears(Clearable),
     /// A command shows a table.
     Shows(Table),
-    /// A command configures a router to advertise (RFC 4861, section 6.2.1). A host refuses it, and all that follow.
+    /// A command configures a router to advertise (RFC 4861, section 6.2.1). A host refuses it, and the three that follow.
     Advertises(Config),
     /// A command adds a prefix to those that a router advertises (RFC 4861, section 6.2.1).
     Offers(Offer),
@@ -72,6 +73,10 @@ pub enum Event<A: Allocator> {
     PutsRoute(KeptRoute),
     /// A command ceases a router's advertising (RFC 4861, section 6.2.5).
     Stops,
+    /// A command gives the node an address, or other lifetimes to a known one (RFC 4862, section 5.4).
+    Sets(OwnAddress),
+    /// A command removes one of the node's own addresses, but not the link-local one.
+    Withdraws(Addr),
 }
 
 impl<R: Rng + Drop, A: Allocator + Clone> Node<R, A> {
@@ -242,6 +247,8 @@ impl<R: Rng + Drop, A: Allocator + Clone> Node<R, A> {
             Event::Offers(offer) => self.offer(now, *offer, outs),
             Event::PutsRoute(kept) => self.put_route(now, *kept, outs),
             Event::Stops => self.cease(now, outs),
+            Event::Sets(own) => self.set_address(now, own, outs),
+            Event::Withdraws(addr) => self.withdraw_address(now, *addr, outs),
         }
     }
 }

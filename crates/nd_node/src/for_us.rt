@@ -67,8 +67,9 @@ impl<R: Rng + Drop, A: Allocator + Clone> Node<R, A> {
         self.is_ours(Counted::Assigned, destination)
     }
 
-    /// Returns true if a packet that isn't for this node is to be sent on: the node is a router whose link-local address is assigned, and neither
-    /// the source nor the destination keeps the packet on its link (RFC 4291, section 2.5.6).
+    /// Returns true if a packet that isn't for this node is to be sent on: the node is a router whose link-local address is assigned, the
+    /// destination is no address of its own that is tentative still, and neither it nor the source keeps the packet on its link (RFC 4291, section
+    /// 2.5.6).
     pub(crate) fn is_in_transit(&self, header: &Ip6) -> bool
         ensures { (start : Start) (c : Chronicle) (packet : PacketParts) → Stands R.stream start self.now c → packet.header ≡ header.now → (IsPacketForUs start c packet → ⊥) → result ≡ true ↔ IsInTransit start c packet }
     {
@@ -78,6 +79,6 @@ impl<R: Rng + Drop, A: Allocator + Clone> Node<R, A> {
         if !self.is_up() {
             return false;
         }
-        may_be_forwarded(header)
+        may_be_forwarded(header) && !self.addresses.counts(Counted::Own, header.destination)
     }
 }

@@ -1,27 +1,24 @@
 //! A packet in transit, which a router sends on (RFC 8200, section 3; RFC 4861, section 8.2).
 
 ghost use Rattle.std.specs.Prelude.{◌≡◌, ◌<◌, ◌≤◌, ℕ, List, None, IsOk, OnErr, OnOk, Some, length, vec_capacity, vec_len, IfOk};
-ghost use Rattle.nd_addr.specs.Ip6.{packet_parts};
+ghost use Rattle.nd_addr.specs.Ip6.{PacketParts, packet_parts};
 ghost use Rattle.nd_addr.specs.Number.{number_of};
 ghost use Rattle.nd_table.specs.Moment.{IsMoment};
 ghost use Rattle.nd_chronicle.specs.Event.{packet_bytes};
-ghost use Rattle.nd_chronicle.specs.Forwarding.{ForwardAdds, SendsOn};
+ghost use Rattle.nd_chronicle.specs.Forwarding.{ForwardAdds, SendsOn, redirect_to};
 ghost use Rattle.nd_chronicle.specs.Happening.{Chronicle};
-ghost use Rattle.nd_chronicle.specs.Histories.{route_history};
 ghost use Rattle.nd_chronicle.specs.OwnAddress.{is_own};
 ghost use Rattle.nd_chronicle.specs.Start.{Start};
 ghost use Rattle.nd_node.specs.Forwarding.{AddsForwarded, AddsLostInTransit, AddsOnward, AddsSentOn};
 ghost use Rattle.nd_node.specs.Hearing.{Keeps};
 ghost use Rattle.nd_node.specs.Memory.{AddsRefusal};
 ghost use Rattle.nd_out.specs.Out.{loss_of};
-ghost use Rattle.nd_forwarding.specs.Redirect.{last_redirect, redirect};
-ghost use Rattle.nd_forwarding.specs.Routes.{routes};
 ghost use Rattle.nd_validity.specs.Hearing.{Hears, other};
 ghost use Rattle.nd_node.specs.Answer.{answer_of};
 
 use crate::answer::Answer;
 use crate::node::Node;
-use nd_addr::{Addr, Ip6Ref};
+use nd_addr::{Addr, Ip6, Ip6Ref};
 use nd_forwarding::Fate;
 use nd_out::{Limit, Loss, Out, Refusal};
 use nd_slaac::Counted;
@@ -84,6 +81,18 @@ impl<R: Rng + Drop, A: Allocator + Clone> Node<R, A> {
         Ok(Answer::Done)
     }
 
+    /// Returns the target of the Redirect that is sent at `now`, in milliseconds, before a packet is forwarded, if one is (RFC 4861, section 8.2):
+    /// none if the packet's source is one of the node's own addresses. `own`: its destination is one of them.
+    fn redirect_target(&self, now: u64, header: &Ip6, own: bool) -> Option<Addr>
+        ensures { (start : Start) (c : Chronicle) (packet : PacketParts) → Stands R.stream start self.now c → packet.header ≡ header.now → is_own c header.now.destination.0 ≡ own → result ≡ redirect_to start now packet c }
+    {
+        let target = self.router.routes.redirect_for(now, header, own)?;
+        if self.addresses.counts(Counted::Own, header.source) {
+            return None;
+        }
+        Some(target)
+    }
+
     /// Forwards a packet to `hop`, preceded by a Redirect if the sender has a better first hop (RFC 4861, section 8.2). `own`: its destination is
     /// one of the node's own addresses; `bytes` is the packet as received, from its IPv6 header on. Room for the neighbours is asked before a
     /// frame is made. Returns an error if out of memory; nothing has changed then.
@@ -102,9 +111,9 @@ impl<R: Rng + Drop, A: Allocator + Clone> Node<R, A> {
         ensures adds { IfOk result (λ answer. AddsOnward R.stream self.old self.new outs.old.items outs.new.items now (number_of hop.0) own (packet_parts packet.now) bytes.now (answer_of answer)) }
         ensures keeps { OnErr result (Keeps self.old self.new) }
         ensures told { OnErr result (outs.new.items ≡ outs.old.items) }
-        ensures refused { (came : List ℕ) (start : Start) (c : Chronicle) → Stands R.stream start self.old c → is_own c packet.now.header.destination.0 ≡ own → AddsRefusal now c (SendsOn start now (redirect (is_own c) (routes (route_history c)) (last_redirect (route_history c)) now packet.now.header) (packet_parts packet.now) came (number_of hop.0)) → vec_len outs.old < vec_capacity outs.old → IsOk result }
+        ensures refused { (came : List ℕ) (start : Start) (c : Chronicle) → Stands R.stream start self.old c → is_own c packet.now.header.destination.0 ≡ own → AddsRefusal now c (SendsOn start now (redirect_to start now (packet_parts packet.now) c) (packet_parts packet.now) came (number_of hop.0)) → vec_len outs.old < vec_capacity outs.old → IsOk result }
     {
-        match self.router.routes.redirect_for(now, &packet.header, own) {
+        match self.redirect_target(now, &packet.header, own) {
             None => {
                 nd_neighbour::laws::room_is_place();
                 nd_neighbour::laws::full_by_history();

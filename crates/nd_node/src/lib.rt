@@ -37,7 +37,8 @@
 //!
 //! Memory is taken for frames that are sent, packets that wait for a neighbour's link-layer address, new search names, a redirect or a next hop
 //! that is new, the list of outputs and text. If the list has room, none is taken for a frame that is dropped, a Router Advertisement that adds no
-//! search name, a refusal, `Passes` and `Confirms` (the clauses `quiet`, `late` and `refused` of `event` and `receive`), nor for any question.
+//! search name, a refusal, an address that is given by hand or withdrawn, `Passes` and `Confirms` (the clauses `quiet`, `late` and `refused` of `event`
+//! and `receive`), nor for any question.
 //!
 //! # What is proved
 //!
@@ -48,6 +49,7 @@
 
 mod advertising;
 mod answer;
+mod by_hand;
 mod clearing;
 mod clock;
 mod counts;

@@ -40,7 +40,7 @@ use nd_neighbour::{Neighbour, Neighbours};
 use nd_nexthop::{Hop, KeptRedirects};
 use nd_params::Params;
 use nd_routers::DefaultRouters;
-use nd_slaac::{Counted, OwnAddresses};
+use nd_slaac::{Counted, ShownAddresses};
 use rand_core::Rng;
 use std::alloc::Allocator;
 
@@ -84,7 +84,7 @@ impl<R: Rng + Drop, A: Allocator + Clone> Node<R, A> {
     }
 
     /// Returns the node's own addresses as they are at `now`, in the order of their numbers (RFC 4862, section 5).
-    pub fn addresses(&self, now: u64) -> OwnAddresses<'_>
+    pub fn addresses(&self, now: u64) -> ShownAddresses<'_>
         ensures { (start : Start) (c : Chronicle) → Stands R.stream start self.now c → addresses.Lists (address_history c) now (addresses_left result) }
     {
         self.addresses.rows(now)

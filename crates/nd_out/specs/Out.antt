@@ -39,6 +39,7 @@ limit_of limit.StaticRoutes = happenings.StaticRoutes
 abbrev pub refusal_of : refusals.Refusal → happenings.Refusal
 refusal_of refusal.WrongRole = happenings.WrongRole
 refusal_of refusal.Disabled = happenings.Disabled
+refusal_of refusal.Tentative = happenings.Tentative
 refusal_of (refusal.NotOurs source) = happenings.NotOurs source
 refusal_of refusal.TooLong = happenings.TooLong
 refusal_of (refusal.Full full) = happenings.Full (limit_of full)

@@ -4,10 +4,10 @@ ghost use Rattle.nd_chronicle.specs.Shown.{address_row, state_text};
 
 use crate::line::write_address;
 use crate::row::{Row, add_row, write_left};
-use nd_slaac::{OwnAddress, OwnAddresses, State};
+use nd_slaac::{ShownAddress, ShownAddresses, State};
 use std::alloc::{AllocError, Allocator};
 
-impl Row for OwnAddress {
+impl Row for ShownAddress {
     ghost use Rattle.nd_slaac.specs.View.{seen_in};
     ghost use Rattle.nd_chronicle.specs.Shown.{address_row};
 
@@ -38,7 +38,7 @@ fn state_word(state: State) -> &'static str
 /// Returns the rows of the node's own addresses, in their order. Returns an error if out of memory.
 pub fn address_rows<A: Allocator + Clone>(
     alloc: &A,
-    addresses: OwnAddresses<'_>,
+    addresses: ShownAddresses<'_>,
 ) -> Result<Vec<String<A>, A>, AllocError>
     ensures { IfOk result (λ rows. map string_bytes rows.items ≡ map address_row (addresses_left addresses.entry)) }
 {

@@ -46,6 +46,8 @@ pub enum Refusal {
     WrongRole,
     /// The link-local address of the node is a duplicate (RFC 4862, section 5.4.5).
     Disabled,
+    /// An address was given by hand before the link-local address of the node was assigned (RFC 4862, section 5.4).
+    Tentative,
     /// The source of a packet is not an assigned address of the node.
     NotOurs(Addr),
     /// A packet is longer than the MTU of the link (RFC 8200, section 5).
@@ -76,7 +78,7 @@ pub enum Out<A: Allocator> {
     Duplicate(Addr),
     /// An address was assigned to the interface (RFC 4862, section 5.4).
     Assigned(Addr),
-    /// The valid lifetime of an address ended (RFC 4862, section 5.5.4).
+    /// The valid lifetime of an address ended (RFC 4862, section 5.5.4), or the address was withdrawn.
     EndedAddress(Addr),
     /// A router left the list (RFC 4861, section 6.3.5).
     EndedRouter(Addr),

@@ -77,6 +77,7 @@ fn write_reason<A: Allocator>(text: &mut String<A>, why: Refusal) -> Result<(), 
     match why {
         Refusal::WrongRole => text.push_str("wrong-role"),
         Refusal::Disabled => text.push_str("disabled"),
+        Refusal::Tentative => text.push_str("tentative"),
         Refusal::NotOurs(source) => {
             text.push_str("not-ours ")?;
             source.write_text(text)

@@ -43,7 +43,7 @@ use nd_nexthop::{Hop, KeptRedirects};
 use nd_node::{Counts, Limits};
 use nd_params::Params;
 use nd_routers::DefaultRouters;
-use nd_slaac::OwnAddresses;
+use nd_slaac::ShownAddresses;
 use std::alloc::Global;
 
 impl Session {
@@ -92,7 +92,7 @@ impl Session {
     }
 
     /// Returns the node's own addresses at `now`, in the order of their numbers.
-    pub fn addresses(&self, now: u64) -> OwnAddresses<'_>
+    pub fn addresses(&self, now: u64) -> ShownAddresses<'_>
         ensures { (start : Start) (c : Chronicle) → Stands stream_of_source start self.now.node c → addresses.Lists (address_history c) now (addresses_left result) }
     {
         self.node.addresses(now)

@@ -1,5 +1,5 @@
 -- Whether there is room for the addresses that options would form.
-use Rattle.std.proofs.Common.{◌≡◌, ℕ, ◌+◌, ◌*◌, ◌/◌, ◌<◌, ◌≤◌, Bool, true, false, eqb, ltb, List, [], ◌∷◌, ◌++◌, length, Some, refl, sym, ◌∙◌, ap, arith, suc, inl, inr}
+use Rattle.std.proofs.Common.{◌≡◌, ℕ, ◌+◌, ◌*◌, ◌/◌, ◌<◌, ◌≤◌, Bool, true, false, eqb, ltb, List, [], ◌∷◌, ◌++◌, length, Option, Some, None, refl, sym, ◌∙◌, ap, arith, suc, ◌⊎◌, inl, inr}
 use Rattle.std.specs.Prelude.{is_some, ◌&&◌, ◌||◌, not, IsOk, IfSome, Result, Ok, Err}
 use Rattle.std.proofs.lemmas.Bool.Decides.{nat_tests}
 use Rattle.std.proofs.lemmas.Bool.{true≢false, cond-true, cond-false, cases_Bool}
@@ -21,9 +21,9 @@ use Rattle.nd_slaac.specs.TableKept.{key_of, address_in}
 use Rattle.nd_slaac.specs.PrefixOption.{is_taken, named_by, lifetimes_of, is_forming, prefixes_in}
 use Rattle.nd_slaac.specs.Room.{is_among, would_form, fits_in}
 use Rattle.nd_slaac.specs.RoomKept.{is_listed, is_new}
-use Rattle.nd_slaac.specs.Calls.{keys_in, formed, announced, taken_by, Changes, row_taken, GainsRowIfAny}
+use Rattle.nd_slaac.specs.Calls.{keys_in, formed, announced, is_by_hand_in, taken_by, Changes, row_taken, GainsRowIfAny}
 use Rattle.nd_slaac.specs.History.{Row, story}
-use Rattle.nd_slaac.specs.State.{is_known}
+use Rattle.nd_slaac.specs.State.{is_by_hand, is_known}
 use Rattle.nd_slaac.specs.MayCome.{MayCome}
 use Rattle.nd_slaac.proofs.Keys.{known_among, keys-length, keys-set, among-put, length-put}
 use Rattle.nd_slaac.proofs.Altering.{formed_gains, announced_gains}
@@ -45,9 +45,10 @@ abbrev refused : Full → Result Taken Full
 refused full = Err full
 
 -- what becomes of an option tells how its address was
-formed_parts : (limit : ℕ) (known : Bool) (valid count : ℕ) → Ok Formed ≡ taken_by limit known valid count → (known ≡ false) × (eqb valid 0 ≡ false) × (ltb count limit ≡ true)
-formed_parts limit true valid count h = absurd (cc)
-formed_parts limit false valid count h = elim (cases_Bool (eqb valid 0)) [
+formed_parts : (limit : ℕ) (hand known : Bool) (valid count : ℕ) → Ok Formed ≡ taken_by limit hand known valid count → (known ≡ false) × (eqb valid 0 ≡ false) × (ltb count limit ≡ true)
+formed_parts limit true known valid count h = absurd (cc)
+formed_parts limit false true valid count h = absurd (cc)
+formed_parts limit false false valid count h = elim (cases_Bool (eqb valid 0)) [
   | inl z ↦ let e : did Formed ≡ did Ignored = rw z at h in absurd (cc)
   | inr nz ↦ elim (cases_Bool (ltb count limit)) [
     | inl room ↦ (refl, nz, room)
@@ -55,9 +56,10 @@ formed_parts limit false valid count h = elim (cases_Bool (eqb valid 0)) [
   ]
 ]
 
-renewed_parts : (limit : ℕ) (known : Bool) (valid count : ℕ) → Ok Renewed ≡ taken_by limit known valid count → known ≡ true
-renewed_parts limit true valid count h = refl
-renewed_parts limit false valid count h = elim (cases_Bool (eqb valid 0)) [
+renewed_parts : (limit : ℕ) (hand known : Bool) (valid count : ℕ) → Ok Renewed ≡ taken_by limit hand known valid count → (known ≡ true) × (hand ≡ false)
+renewed_parts limit true known valid count h = absurd (cc)
+renewed_parts limit false true valid count h = (refl, refl)
+renewed_parts limit false false valid count h = elim (cases_Bool (eqb valid 0)) [
   | inl z ↦ let e : did Renewed ≡ did Ignored = rw z at h in absurd (cc)
   | inr nz ↦ elim (cases_Bool (ltb count limit)) [
     | inl room ↦ let e : did Renewed ≡ did Formed = rw (nz, room) at h in absurd (cc)
@@ -65,19 +67,21 @@ renewed_parts limit false valid count h = elim (cases_Bool (eqb valid 0)) [
   ]
 ]
 
-ignored_parts : (limit : ℕ) (known : Bool) (valid count : ℕ) → Ok Ignored ≡ taken_by limit known valid count → eqb valid 0 ≡ true
-ignored_parts limit true valid count h = absurd (cc)
-ignored_parts limit false valid count h = elim (cases_Bool (eqb valid 0)) [
-  | inl z ↦ z
+ignored_parts : (limit : ℕ) (hand known : Bool) (valid count : ℕ) → Ok Ignored ≡ taken_by limit hand known valid count → (hand ≡ true) ⊎ (eqb valid 0 ≡ true)
+ignored_parts limit true known valid count h = inl refl
+ignored_parts limit false true valid count h = absurd (cc)
+ignored_parts limit false false valid count h = elim (cases_Bool (eqb valid 0)) [
+  | inl z ↦ inr z
   | inr nz ↦ elim (cases_Bool (ltb count limit)) [
     | inl room ↦ let e : did Ignored ≡ did Formed = rw (nz, room) at h in absurd (cc)
     | inr full ↦ let e : did Ignored ≡ refused (record {}) = rw (nz, full) at h in absurd (cc)
   ]
 ]
 
-refused_parts : (limit : ℕ) (known : Bool) (valid count : ℕ) (full : Full) → Err full ≡ taken_by limit known valid count → (known ≡ false) × (eqb valid 0 ≡ false) × (ltb count limit ≡ false)
-refused_parts limit true valid count full h = absurd (cc)
-refused_parts limit false valid count full h = elim (cases_Bool (eqb valid 0)) [
+refused_parts : (limit : ℕ) (hand known : Bool) (valid count : ℕ) (full : Full) → Err full ≡ taken_by limit hand known valid count → (known ≡ false) × (eqb valid 0 ≡ false) × (ltb count limit ≡ false)
+refused_parts limit true known valid count full h = absurd (cc)
+refused_parts limit false true valid count full h = absurd (cc)
+refused_parts limit false false valid count full h = elim (cases_Bool (eqb valid 0)) [
   | inl z ↦ let e : refused full ≡ did Ignored = rw z at h in absurd (cc)
   | inr nz ↦ elim (cases_Bool (ltb count limit)) [
     | inl room ↦ let e : refused full ≡ did Formed = rw (nz, room) at h in absurd (cc)
@@ -85,11 +89,24 @@ refused_parts limit false valid count full h = elim (cases_Bool (eqb valid 0)) [
   ]
 ]
 
+-- an address that was given by hand is known
+known_by_hand : (o : Option Address) → is_by_hand_in o ≡ true → is_some o ≡ true
+known_by_hand None e = absurd (true≢false (sym e))
+known_by_hand (Some a) e = refl
+
+-- an option renews a known address that wasn't given by hand
+pub renews : (limit valid count : ℕ) (o : Option Address) (a : Address) → o ≡ Some a → a.by_hand ≡ false → Ok Renewed ≡ taken_by limit (is_by_hand_in o) (is_some o) valid count
+renews limit valid count o a is hand = rw (is, hand) refl
+
+idle_by : (f a : Bool) → a ≡ true → (f && not a) ≡ false
+idle_by true a e = rw e refl
+idle_by false a e = refl
+
 -- an option that would form no address leaves the addresses that are known
-pub keys_on : (limit now : ℕ) (mac : Mac) (info : PrefixInfo) (delay retrans : ℕ) (r : Result Taken Full) (old new : List Address) → is_taken info ≡ true → r ≡ taken_by limit (is_some (address_in (named_by mac info) old)) info.valid_lifetime (length old) → Changes now (named_by mac info) (lifetimes_of info) delay retrans r old new → would_form mac (keys_in old) info ≡ false → keys_in new ≡ keys_in old
+pub keys_on : (limit now : ℕ) (mac : Mac) (info : PrefixInfo) (delay retrans : ℕ) (r : Result Taken Full) (old new : List Address) → is_taken info ≡ true → r ≡ taken_by limit (is_by_hand_in (address_in (named_by mac info) old)) (is_some (address_in (named_by mac info) old)) info.valid_lifetime (length old) → Changes now (named_by mac info) (lifetimes_of info) delay retrans r old new → would_form mac (keys_in old) info ≡ false → keys_in new ≡ keys_in old
 keys_on limit now mac info delay retrans (Ok Formed) old new taken is changes idle =
     let key = named_by mac info in
-    let parts = formed_parts limit (is_some (address_in key old)) info.valid_lifetime (length old) is in
+    let parts = formed_parts limit (is_by_hand_in (address_in key old)) (is_some (address_in key old)) info.valid_lifetime (length old) is in
     let nz : eqb info.valid_lifetime 0 ≡ false = parts.1 in
     let free : is_among key (keys_in old) ≡ false = sym (known_among key old) ∙ parts.0 in
     let no : true ≡ false = rw (taken, nz, free) at idle in
@@ -100,10 +117,10 @@ keys_on limit now mac info delay retrans (Ok Ignored) old new taken is changes i
 keys_on limit now mac info delay retrans (Err full) old new taken is changes idle = ap keys_in changes
 
 -- where an option and those behind it fit, it isn't refused, and they still fit
-pub fits_on : (limit now : ℕ) (mac : Mac) (info : PrefixInfo) (delay retrans : ℕ) (r : Result Taken Full) (old new : List Address) (infos : List PrefixInfo) → is_taken info ≡ true → r ≡ taken_by limit (is_some (address_in (named_by mac info) old)) info.valid_lifetime (length old) → Changes now (named_by mac info) (lifetimes_of info) delay retrans r old new → fits_in limit mac (keys_in old) (info ∷ infos) ≡ true → IsOk r × (fits_in limit mac (keys_in new) infos ≡ true)
+pub fits_on : (limit now : ℕ) (mac : Mac) (info : PrefixInfo) (delay retrans : ℕ) (r : Result Taken Full) (old new : List Address) (infos : List PrefixInfo) → is_taken info ≡ true → r ≡ taken_by limit (is_by_hand_in (address_in (named_by mac info) old)) (is_some (address_in (named_by mac info) old)) info.valid_lifetime (length old) → Changes now (named_by mac info) (lifetimes_of info) delay retrans r old new → fits_in limit mac (keys_in old) (info ∷ infos) ≡ true → IsOk r × (fits_in limit mac (keys_in new) infos ≡ true)
 fits_on limit now mac info delay retrans (Ok Formed) old new infos taken is changes h =
     let key = named_by mac info in
-    let parts = formed_parts limit (is_some (address_in key old)) info.valid_lifetime (length old) is in
+    let parts = formed_parts limit (is_by_hand_in (address_in key old)) (is_some (address_in key old)) info.valid_lifetime (length old) is in
     let nz : eqb info.valid_lifetime 0 ≡ false = parts.1 in
     let free : is_among key (keys_in old) ≡ false = sym (known_among key old) ∙ parts.0 in
     let room : ltb (length (keys_in old)) limit ≡ true = ap (λ n. ltb n limit) (keys-length old) ∙ parts.2 in
@@ -116,22 +133,24 @@ fits_on limit now mac info delay retrans (Ok Formed) old new infos taken is chan
     )
 fits_on limit now mac info delay retrans (Ok Renewed) old new infos taken is changes h =
     let key = named_by mac info in
-    let there : is_among key (keys_in old) ≡ true = sym (known_among key old) ∙ renewed_parts limit (is_some (address_in key old)) info.valid_lifetime (length old) is in
+    let there : is_among key (keys_in old) ≡ true = sym (known_among key old) ∙ (renewed_parts limit (is_by_hand_in (address_in key old)) (is_some (address_in key old)) info.valid_lifetime (length old) is).0 in
     let idle : would_form mac (keys_in old) info ≡ false = idle_by (is_forming info) (is_among key (keys_in old)) there in
     let fit : fits_in limit mac (keys_in old) infos ≡ true = rw idle at h in
     let same : keys_in new ≡ keys_in old = ap keys_in changes.new_is ∙ keys-set old changes.at (announced now (lifetimes_of info) changes.address) changes.address (ap key_of (sym changes.is)) in
     (refl, ap (λ ks. fits_in limit mac ks infos) same ∙ fit)
-  where
-    idle_by : (f a : Bool) → a ≡ true → (f && not a) ≡ false
-    idle_by true a e = rw e refl
-    idle_by false a e = refl
 fits_on limit now mac info delay retrans (Ok Ignored) old new infos taken is changes h =
-    let zero' : eqb info.valid_lifetime 0 ≡ true = ignored_parts limit (is_some (address_in (named_by mac info) old)) info.valid_lifetime (length old) is in
-    let fit : fits_in limit mac (keys_in old) infos ≡ true = rw (taken, zero') at h in
+    let key = named_by mac info in
+    let there : is_by_hand_in (address_in key old) ≡ true → is_forming info && not (is_among key (keys_in old)) ≡ false =
+    λ hand. idle_by (is_forming info) (is_among key (keys_in old)) (sym (known_among key old) ∙ known_by_hand (address_in key old) hand) in
+    let idle : would_form mac (keys_in old) info ≡ false = elim (ignored_parts limit (is_by_hand_in (address_in key old)) (is_some (address_in key old)) info.valid_lifetime (length old) is) [
+      | inl hand ↦ there hand
+      | inr zero' ↦ rw (taken, zero') refl
+    ] in
+    let fit : fits_in limit mac (keys_in old) infos ≡ true = rw idle at h in
     (refl, ap (λ (l : List Address). fits_in limit mac (keys_in l) infos) changes ∙ fit)
 fits_on limit now mac info delay retrans (Err full) old new infos taken is changes h =
     let key = named_by mac info in
-    let parts = refused_parts limit (is_some (address_in key old)) info.valid_lifetime (length old) full is in
+    let parts = refused_parts limit (is_by_hand_in (address_in key old)) (is_some (address_in key old)) info.valid_lifetime (length old) full is in
     let nz : eqb info.valid_lifetime 0 ≡ false = parts.1 in
     let free : is_among key (keys_in old) ≡ false = sym (known_among key old) ∙ parts.0 in
     let room : ltb (length (keys_in old)) limit ≡ false = ap (λ n. ltb n limit) (keys-length old) ∙ parts.2 in
@@ -146,9 +165,9 @@ gains_taken now mac info delay retrans (Ok Ignored) old new changes = changes
 gains_taken now mac info delay retrans (Err full) old new changes = changes
 
 -- and that this may come
-pub comes_taken : (limit transmits now : ℕ) (mac : Mac) (info : PrefixInfo) (delay retrans count : ℕ) (r : Result Taken Full) (history : List Row) → r ≡ taken_by limit (is_known (story (named_by mac info) history)) info.valid_lifetime count → 0 < retrans → IfSome (row_taken now mac info delay retrans r) (λ row. MayCome transmits row history)
-comes_taken limit transmits now mac info delay retrans count (Ok Formed) history is positive = ((formed_parts limit (is_known (story (named_by mac info) history)) info.valid_lifetime count is).0, positive)
-comes_taken limit transmits now mac info delay retrans count (Ok Renewed) history is positive = renewed_parts limit (is_known (story (named_by mac info) history)) info.valid_lifetime count is
+pub comes_taken : (limit transmits now : ℕ) (mac : Mac) (info : PrefixInfo) (delay retrans count : ℕ) (r : Result Taken Full) (history : List Row) → r ≡ taken_by limit (is_by_hand (story (named_by mac info) history)) (is_known (story (named_by mac info) history)) info.valid_lifetime count → 0 < retrans → IfSome (row_taken now mac info delay retrans r) (λ row. MayCome transmits row history)
+comes_taken limit transmits now mac info delay retrans count (Ok Formed) history is positive = ((formed_parts limit (is_by_hand (story (named_by mac info) history)) (is_known (story (named_by mac info) history)) info.valid_lifetime count is).0, positive)
+comes_taken limit transmits now mac info delay retrans count (Ok Renewed) history is positive = renewed_parts limit (is_by_hand (story (named_by mac info) history)) (is_known (story (named_by mac info) history)) info.valid_lifetime count is
 comes_taken limit transmits now mac info delay retrans count (Ok Ignored) history is positive = tt
 comes_taken limit transmits now mac info delay retrans count (Err full) history is positive = tt
 

@@ -13,7 +13,7 @@ use Rattle.nd_addr.specs.Number.{addr_at, number_of}
 use Rattle.nd_slaac.specs.declared.destination.Counted.{Counted}
 use Rattle.nd_slaac.specs.declared.destination.Counted.TheVariants.{Own, Assigned}
 use Rattle.nd_slaac.specs.History.{Row, Story, story}
-use Rattle.nd_slaac.specs.State.{Forming, forming_of, has_conflict, was_assigned, sent_of}
+use Rattle.nd_slaac.specs.State.{Forming, forming_of, has_conflict, is_by_hand, was_assigned, sent_of}
 use Rattle.nd_slaac.specs.Ends.{preferred_end, valid_end}
 use Rattle.nd_slaac.specs.AddressKept.{Address, address_by, stage_by}
 use Rattle.nd_slaac.specs.TableKept.{key_of, address_in, Stands}
@@ -73,34 +73,34 @@ counted_none : (counted : Counted) (conflict assigned : Bool) → counts_of coun
 counted_none Own conflict assigned = refl
 counted_none Assigned conflict assigned = refl
 
-counted_by : (counted : Counted) (key : ℕ) (f : Option Forming) (conflict assigned : Bool) (sent : ℕ) (p v : Option ℕ) (a : Address) → address_by key f conflict assigned sent p v ≡ Some a
+counted_by : (counted : Counted) (key : ℕ) (f : Option Forming) (conflict assigned : Bool) (sent : ℕ) (p v : Option ℕ) (b : Bool) (a : Address) → address_by key f conflict assigned sent p v b ≡ Some a
     → counts_in counted a.stage ≡ counts_of counted (is_some f) conflict assigned
-counted_by counted key None conflict assigned sent p v a e = let no : ⊥ = cc in absurd no
-counted_by counted key (Some f) conflict assigned sent p v a e =
+counted_by counted key None conflict assigned sent p v b a e = let no : ⊥ = cc in absurd no
+counted_by counted key (Some f) conflict assigned sent p v b a e =
     let st : a.stage ≡ stage_by f conflict assigned sent = cc in rw st (counted_some counted f conflict assigned sent)
 
 -- an address that counts is kept
-kept_by : (counted : Counted) (key : ℕ) (f : Option Forming) (conflict assigned : Bool) (sent : ℕ) (p v : Option ℕ) → counts_of counted (is_some f) conflict assigned ≡ true
-    → (a : Address) × (address_by key f conflict assigned sent p v ≡ Some a) × (counts_in counted a.stage ≡ true) × (a.key ≡ key)
-kept_by counted key None conflict assigned sent p v h = let no : false ≡ true = sym (counted_none counted conflict assigned) ∙ h in absurd (impossible no)
+kept_by : (counted : Counted) (key : ℕ) (f : Option Forming) (conflict assigned : Bool) (sent : ℕ) (p v : Option ℕ) (b : Bool) → counts_of counted (is_some f) conflict assigned ≡ true
+    → (a : Address) × (address_by key f conflict assigned sent p v b ≡ Some a) × (counts_in counted a.stage ≡ true) × (a.key ≡ key)
+kept_by counted key None conflict assigned sent p v b h = let no : false ≡ true = sym (counted_none counted conflict assigned) ∙ h in absurd (impossible no)
   where
     impossible : false ≡ true → ⊥
     impossible e = cc
-kept_by counted key (Some f) conflict assigned sent p v h = (_, refl, counted_some counted f conflict assigned sent ∙ h, refl)
+kept_by counted key (Some f) conflict assigned sent p v b h = (_, refl, counted_some counted f conflict assigned sent ∙ h, refl)
 
 counts_is : (counted : Counted) (s : Story) → counts counted s ≡ counts_of counted (is_some (forming_of s)) (has_conflict s) (was_assigned s)
 counts_is Own s = refl
 counts_is Assigned s = refl
 
-counted_of : (counted : Counted) (key : ℕ) (f : Option Forming) (conflict assigned : Bool) (sent : ℕ) (p v : Option ℕ) → counted_in counted (address_by key f conflict assigned sent p v) ≡ counts_of counted (is_some f) conflict assigned
-counted_of counted key None conflict assigned sent p v = sym (counted_none counted conflict assigned)
-counted_of counted key (Some f) conflict assigned sent p v = counted_some counted f conflict assigned sent
+counted_of : (counted : Counted) (key : ℕ) (f : Option Forming) (conflict assigned : Bool) (sent : ℕ) (p v : Option ℕ) (b : Bool) → counted_in counted (address_by key f conflict assigned sent p v b) ≡ counts_of counted (is_some f) conflict assigned
+counted_of counted key None conflict assigned sent p v b = sym (counted_none counted conflict assigned)
+counted_of counted key (Some f) conflict assigned sent p v b = counted_some counted f conflict assigned sent
 
 pub counted_by_history : (counted : Counted) (key : ℕ) (addresses : List Address) (history : List Row) → Stands addresses history → counted_in counted (address_in key addresses) ≡ counts counted (story key history)
 counted_by_history counted key addresses history s =
     let st = story key history in
     ap (λ (a : Option Address). counted_in counted a) (s.each key)
-    ∙ (counted_of counted key (forming_of st) (has_conflict st) (was_assigned st) (sent_of st) (preferred_end st) (valid_end st) ∙ sym (counts_is counted st))
+    ∙ (counted_of counted key (forming_of st) (has_conflict st) (was_assigned st) (sent_of st) (preferred_end st) (valid_end st) (is_by_hand st) ∙ sym (counts_is counted st))
 
 -- ---- a destination
 
@@ -249,7 +249,7 @@ module _ (counted : Counted) (destination : Addr) (addresses : List Address) (hi
       let number : number_of (addr_at n.key).0 ≡ n.key = eqb-true (number_of (addr_at n.key).0) n.key q.0 in
       let st = story n.key history in
       let by : counts counted st ≡ true =
-      counts_is counted st ∙ (sym (counted_by counted n.key (forming_of st) (has_conflict st) (was_assigned st) (sent_of st) (preferred_end st) (valid_end st) n (sym (s.each n.key) ∙ f.1)) ∙ p.0) in
+      counts_is counted st ∙ (sym (counted_by counted n.key (forming_of st) (has_conflict st) (was_assigned st) (sent_of st) (preferred_end st) (valid_end st) (is_by_hand st) n (sym (s.each n.key) ∙ f.1)) ∙ p.0) in
       record {
         address = addr_at n.key;
         bytes = bytes n.key;
@@ -261,7 +261,7 @@ module _ (counted : Counted) (destination : Addr) (addresses : List Address) (hi
   one_is_to to =
       let key = number_of to.address.0 in
       let st = story key history in
-      let k = kept_by counted key (forming_of st) (has_conflict st) (was_assigned st) (sent_of st) (preferred_end st) (valid_end st) (sym (counts_is counted st) ∙ to.counting) in
+      let k = kept_by counted key (forming_of st) (has_conflict st) (was_assigned st) (sent_of st) (preferred_end st) (valid_end st) (is_by_hand st) (sym (counts_is counted st) ∙ to.counting) in
       let same : addr_at k.0.key ≡ to.address = ap addr_at k.3 ∙ told to.address to.bytes in
       let number : number_of (addr_at k.0.key).0 ≡ k.0.key = ap (λ (a : Addr). number_of a.0) same ∙ sym k.3 in
       let means : is_meant destination (addr_at k.0.key) ≡ true = ap (λ (a : Addr). is_meant destination a) same ∙ is_meant_by destination to.address to.to in

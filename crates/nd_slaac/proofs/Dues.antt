@@ -195,7 +195,7 @@ module _ (transmits : ℕ) where
     is_turn falls first = record { first = first; none_before = λ moment others due. AtMost-from now moment (next_in xs) none (next_least xs history s moment others due) }
 
     comes : (falls : Falls) → IsFirst transmits history now falls → MayCome transmits (due_row now falls) history
-    comes (Ends key) first = is_turn (Ends key) first
+    comes (Ends key) first = first.due.0
     comes (Solicits key) first = is_turn (Solicits key) first
     comes (Assigns key) first = is_turn (Assigns key) first
 

@@ -4,7 +4,7 @@ use Rattle.std.specs.Prelude.{◌&&◌, not}
 use Rattle.std.proofs.Math.Nat.{add-mul}
 use Rattle.std.proofs.lemmas.Bool.Decides.{nat_tests}
 use Rattle.std.proofs.lemmas.Bool.{true≢false, eqb-true, eq-eqb, cases_Bool}
-use Rattle.nd_slaac.specs.History.{RowKind, Formed, Announced, Solicited, Conflict, Assigned, Ended, Lifetimes, Row, Story, story, is_end}
+use Rattle.nd_slaac.specs.History.{RowKind, Formed, SetByHand, Announced, Solicited, Conflict, Assigned, Ended, Lifetimes, Row, Story, story, is_end}
 use Rattle.nd_table.specs.Ends.{is_before}
 use Rattle.nd_table.proofs.Pasts.{past-length, past-same}
 use Rattle.nd_slaac.specs.Ends.{valid_end}
@@ -138,6 +138,7 @@ module _ (transmits : ℕ) where
           forming = ap forming_of made;
           few = omega (arith, none);
         }
+    tried_on (SetByHand lifetimes) may now = still (SetByHand lifetimes) refl (λ s. refl) (λ s. refl) (λ s. refl) (λ moment e. cc) now
     tried_on (Announced lifetimes) may now = still (Announced lifetimes) refl (λ s. refl) (λ s. refl) (λ s. refl) (λ moment e. cc) now
     tried_on Solicited may now =
         let s = story key history in
@@ -233,6 +234,7 @@ module _ (transmits : ℕ) where
 
     held_on : (h : RowKind) → MayCome transmits (at, key, h) history → is_assigned (story key ((at, key, h) ∷ history)) ≡ true → Held transmits key ((at, key, h) ∷ history)
     held_on (Formed delay retrans lifetimes) may now = absurd (true≢false (sym (sym (ap is_assigned (same_story key at (Formed delay retrans lifetimes) history refl)) ∙ now)))
+    held_on (SetByHand lifetimes) may now = held_still (SetByHand lifetimes) refl (λ s. refl) now
     held_on (Announced lifetimes) may now = held_still (Announced lifetimes) refl (λ s. refl) now
     held_on Solicited may now = held_still Solicited refl (λ s. refl) now
     held_on Conflict may now = absurd (conflict_by (is_known (story key history)) (was_assigned (story key history)) (sym (ap is_assigned (same_story key at Conflict history refl)) ∙ now))

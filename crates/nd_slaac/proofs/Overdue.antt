@@ -4,7 +4,7 @@ use Rattle.std.specs.Prelude.{max}
 use Rattle.std.proofs.lemmas.Bool.{true≢false, cond_both, cases_lt}
 use Rattle.nd_table.specs.DueKept.{NotBefore}
 use Rattle.nd_table.specs.Ends.{end_time}
-use Rattle.nd_slaac.specs.History.{Row, Story, story, RowKind, Formed, Announced, Solicited, Conflict, Assigned, Ended, is_end}
+use Rattle.nd_slaac.specs.History.{Row, Story, story, RowKind, Formed, SetByHand, Announced, Solicited, Conflict, Assigned, Ended, is_end}
 use Rattle.nd_slaac.specs.Ends.{valid_end}
 use Rattle.nd_slaac.specs.TwoHours.{two_hours, renewed, within_two_hours}
 use Rattle.nd_slaac.specs.State.{Forming, forming_of, is_known, sent_of, step_at}
@@ -44,6 +44,10 @@ module _ (now : ℕ) (s : Story) (late : NoneLate s now) where
   story_later (Formed delay retrans (Some lifetimes)) e = record {
     ends = λ moment known is. end_later now lifetimes.valid moment is;
     steps = λ moment step. let e : now + delay + 0 * retrans ≡ moment = let d = step.date in cc in omega arith;
+  }
+  story_later (SetByHand lifetimes) e = record {
+    ends = λ moment known is. end_later now lifetimes.valid moment is;
+    steps = λ moment step. late.steps moment (record { tentative = step.tentative; date = step.date });
   }
   story_later (Announced lifetimes) e = record {
     ends = λ moment known is. renewed_later now lifetimes.valid moment (valid_end s) is;

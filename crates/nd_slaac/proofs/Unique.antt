@@ -5,10 +5,10 @@ use Rattle.nd_slaac.specs.History.{Row, story}
 use Rattle.nd_slaac.specs.State.{sent_of}
 use Rattle.nd_slaac.specs.AddressKept.{Address}
 use Rattle.nd_slaac.specs.TableKept.{key_of, Stands}
-use Rattle.std.specs.Prelude.{map}
+use Rattle.std.specs.Prelude.{length, map, nat_lt}
 use Rattle.nd_addr.specs.declared.mac.Mac.{Mac}
 use Rattle.nd_decode.specs.declared.prefix_info.PrefixInfo.{PrefixInfo}
-use Rattle.nd_slaac.specs.Room.{FitsBy, fits_in}
+use Rattle.nd_slaac.specs.Room.{FitsBy, HasRoomBy, fits_in}
 use Rattle.nd_slaac.specs.Due.{Falls, Ends, Solicits, Assigns, IsDue, NotAfter, FirstDue, key_in}
 
 pub one_table : (history : List Row) (a b : List Address) → Stands a history → Stands b history → a ≡ b
@@ -16,6 +16,9 @@ one_table history a b s t = one_list key_of a b s.order t.order (λ key. s.each 
 
 pub one_fit : (limit : ℕ) (mac : Mac) (history : List Row) (infos : List PrefixInfo) (a b : Bool) → FitsBy limit mac history infos a → FitsBy limit mac history infos b → a ≡ b
 one_fit limit mac history infos a b x y = x.fit_is ∙ (ap (λ xs. fits_in limit mac (map key_of xs) infos) (one_table history x.known y.known x.those y.those) ∙ sym y.fit_is)
+
+pub one_room : (limit : ℕ) (history : List Row) (a b : Bool) → HasRoomBy limit history a → HasRoomBy limit history b → a ≡ b
+one_room limit history a b x y = x.room_is ∙ (ap (λ (xs : List Address). nat_lt (length xs) limit) (one_table history x.known y.known x.those y.those) ∙ sym y.room_is)
 
 same_key : (x y : Falls) → NotAfter x y → NotAfter y x → key_in x ≡ key_in y
 same_key x y (inl lt) (inl lt') = absurd (omega arith)

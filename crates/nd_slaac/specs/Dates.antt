@@ -49,7 +49,7 @@ stage_after transmits now Failed = Failed
 stage_after transmits now Passed = Passed
 
 abbrev pub stepped : ℕ → ℕ → Address → Address
-stepped transmits now a = record { key = a.key; preferred_end = a.preferred_end; valid_end = a.valid_end; stage = stage_after transmits now a.stage }
+stepped transmits now a = record { key = a.key; preferred_end = a.preferred_end; valid_end = a.valid_end; stage = stage_after transmits now a.stage; by_hand = a.by_hand }
 
 -- an address at a place of the list goes where its end has come, and else takes a step
 pub data Turns (transmits now : ℕ) (old new : List Address) (what : Falls) : Type 0 where

@@ -2,6 +2,7 @@ pub mod History
 pub mod TwoHours
 pub mod Ends
 pub mod State
+pub mod ByHand
 pub mod AddressKept
 pub mod Transmits
 pub mod TableKept

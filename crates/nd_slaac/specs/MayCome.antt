@@ -1,11 +1,11 @@
 -- Histories: lists of rows of which each is at a place where it is possible, and what they say of an address that is assigned.
 use Rattle.std.specs.Prelude.{◌≡◌, ℕ, ◌+◌, ◌*◌, ◌<◌, ◌≤◌, true, false, List, [], ◌∷◌, Option, Some}
-use Rattle.nd_slaac.specs.History.{Lifetimes, Row, story, Formed, Announced, Solicited, Conflict, Assigned, Ended}
-use Rattle.nd_slaac.specs.State.{is_known, is_tentative, is_assigned}
+use Rattle.nd_slaac.specs.History.{Lifetimes, Row, story, Formed, SetByHand, Announced, Solicited, Conflict, Assigned, Ended}
+use Rattle.nd_slaac.specs.State.{is_by_hand, is_known, is_tentative, is_assigned}
 use Rattle.nd_table.specs.Ends.{is_before}
 use Rattle.nd_table.specs.History.{Past}
 use Rattle.nd_slaac.specs.Ends.{valid_end}
-use Rattle.nd_slaac.specs.Due.{Falls, Ends, Solicits, Assigns, IsDue, FirstDue}
+use Rattle.nd_slaac.specs.Due.{Falls, Solicits, Assigns, IsDue, FirstDue}
 
 -- The address was tried: it was formed at some moment, and at each place since then it was tentative. Each
 -- solicitation was sent at its date: the first after the delay, and each further one a RetransTimer later, both being
@@ -26,15 +26,17 @@ module _ (transmits : ℕ) where
     pub first : FirstDue transmits history now (Some falls)
     pub none_before : (moment : ℕ) (others : Falls) → IsDue transmits history moment others → now ≤ moment
 
-  -- a row is possible on top of others: an address is formed where it isn't known, with a RetransTimer above 0; it is
-  -- announced where it is known, and has a conflict where it is tentative; all else comes at its date
+  -- a row is possible on top of others: an address is formed where it isn't known, with a RetransTimer above 0; where it is known it is set by
+  -- hand, announced unless it was set by hand, or ends, at its valid end or withdrawn; it has a conflict where it is tentative; all else comes at
+  -- its date
   abbrev pub MayCome : Row → List Row → Type 0
   MayCome (at, key, Formed delay retrans lifetimes) history = (is_known (story key history) ≡ false) × (0 < retrans)
-  MayCome (at, key, Announced lifetimes) history = is_known (story key history) ≡ true
+  MayCome (at, key, SetByHand lifetimes) history = is_known (story key history) ≡ true
+  MayCome (at, key, Announced lifetimes) history = (is_known (story key history) ≡ true) × (is_by_hand (story key history) ≡ false)
   MayCome (at, key, Solicited) history = IsTurn history at (Solicits key)
   MayCome (at, key, Conflict) history = is_tentative (story key history) ≡ true
   MayCome (at, key, Assigned) history = IsTurn history at (Assigns key)
-  MayCome (at, key, Ended) history = IsTurn history at (Ends key)
+  MayCome (at, key, Ended) history = is_known (story key history) ≡ true
 
   abbrev pub IsHistory : List Row → Type 0
   IsHistory [] = Unit {0}

@@ -1,4 +1,4 @@
--- Whether there is room for the addresses that the prefix options of a Router Advertisement would form.
+-- Whether there is room for the addresses that the prefix options of a Router Advertisement would form, or for one that is given by hand.
 use Rattle.std.specs.Prelude.{◌≡◌, ℕ, nat_lt, Bool, true, false, ◌&&◌, ◌||◌, not, ◌==◌, if◌then◌else◌, List, [], ◌∷◌, length, map}
 use Rattle.nd_addr.specs.declared.mac.Mac.{Mac}
 use Rattle.nd_decode.specs.declared.prefix_info.PrefixInfo.{PrefixInfo}
@@ -26,7 +26,13 @@ fits_in limit mac keys [] = true
 fits_in limit mac keys (info ∷ infos) =
     if would_form mac keys info then (nat_lt (length keys) limit && fits_in limit mac (named_by mac info ∷ keys) infos) else fits_in limit mac keys infos
 
--- there is room or not, asked of what happened: of the addresses that the history knows
+-- there is room for one address more or not, asked of what happened: of the addresses that the history knows
+pub record HasRoomBy (limit : ℕ) (history : List Row) (room : Bool) : Type 0 where
+  pub known : List Address
+  pub those : Stands known history
+  pub room_is : room ≡ nat_lt (length known) limit
+
+-- there is room for what options form or not, asked of what happened: of the addresses that the history knows
 pub record FitsBy (limit : ℕ) (mac : Mac) (history : List Row) (infos : List PrefixInfo) (fit : Bool) : Type 0 where
   pub known : List Address
   pub those : Stands known history

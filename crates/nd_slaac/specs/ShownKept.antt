@@ -10,4 +10,4 @@ abbrev pub state_at : ℕ → Address → State
 state_at t a = state_in a.stage a.preferred_end t
 
 abbrev pub seen : ℕ → Address → Seen
-seen t a = record { key = a.key; state = state_at t a; preferred_left = time_left t a.preferred_end; valid_left = time_left t a.valid_end }
+seen t a = record { key = a.key; state = state_at t a; preferred_left = time_left t a.preferred_end; valid_left = time_left t a.valid_end; by_hand = a.by_hand }

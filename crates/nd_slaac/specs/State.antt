@@ -2,7 +2,7 @@
 use Rattle.std.specs.Prelude.{ℕ, ◌+◌, Bool, true, false, ◌&&◌, not, if◌then◌else◌, [], ◌∷◌, Option, Some, None, is_some, ◌*◌}
 use Rattle.nd_slaac.specs.declared.state.State.{State}
 use Rattle.nd_slaac.specs.declared.state.State.TheVariants.{Tentative, Preferred, Deprecated, Duplicate}
-use Rattle.nd_slaac.specs.History.{Story, Formed, Solicited, Conflict, Assigned}
+use Rattle.nd_slaac.specs.History.{Story, Formed, SetByHand, Solicited, Conflict, Assigned}
 use Rattle.nd_table.specs.Ends.{is_before}
 use Rattle.nd_slaac.specs.Ends.{preferred_end}
 
@@ -42,6 +42,14 @@ sent_of [] = 0
 sent_of ((at, Formed delay retrans lifetimes) ∷ s) = 0
 sent_of ((at, Solicited) ∷ s) = sent_of s + 1
 sent_of ((at, _) ∷ s) = sent_of s
+
+-- its lifetimes were set by hand since it was formed: it is an address given by hand, which no advertisement renews ("configured by
+-- stateless autoconfiguration", section 5.5.3 e)
+abbrev pub is_by_hand : Story → Bool
+is_by_hand [] = false
+is_by_hand ((at, Formed delay retrans lifetimes) ∷ s) = false
+is_by_hand ((at, SetByHand lifetimes) ∷ s) = is_known s
+is_by_hand ((at, _) ∷ s) = is_by_hand s
 
 -- a known address with a conflict is a duplicate; else it is tentative until it is assigned, and then preferred up to
 -- its preferred end and deprecated from there on

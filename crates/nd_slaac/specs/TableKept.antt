@@ -26,6 +26,10 @@ pub record Stands (addresses : List Address) (history : List Row) : Type 0 where
   pub each : (key : ℕ) → address_in key addresses ≡ address_of key (story key history)
   pub order : Rises key_of addresses
 
+-- the addresses gain rows
+abbrev pub GainsRows : List Address → List Address → (List Row → List Row) → Type 0
+GainsRows = growing.GainsRows Stands
+
 -- the addresses gain a row
 abbrev pub GainsRow : List Address → List Address → Row → Type 0
 GainsRow = growing.GainsRow Stands

@@ -2,6 +2,8 @@
 
 ghost use Rattle.std.specs.Prelude.{◌≡◌, ◌≢◌, ◌<◌, List, IfSome, IfNone, Some, None, ◌≤◌, vec_len, vec_capacity};
 ghost use Rattle.std.specs.Option.{option_map};
+ghost use Rattle.nd_addr.specs.Number.{number_of};
+ghost use Rattle.nd_slaac.specs.Calls.{Leaves};
 ghost use Rattle.nd_table.specs.Moment.{IsMoment};
 ghost use Rattle.nd_slaac.specs.Dates.{Turns, Rests, NoneBefore};
 ghost use Rattle.nd_slaac.specs.Planned.{IsPlanned};
@@ -124,11 +126,7 @@ pub(crate) fn turn_first<A: Allocator>(
     ensures capacity { vec_capacity entries.new ≡ vec_capacity entries.old }
 {
     if let Some(i) = ends.first_at::<ValidEnd, _>(entries, now) {
-        let entry = entries.remove(i);
-        let addr = entry.addr();
-        ends.change(Dated::<ValidEnd>::date(&entry), None, addr);
-        steps.change(Dated::<NextStep>::date(&entry), None, addr);
-        return Some(Due::End(addr));
+        return Some(Due::End(remove_at(entries, ends, steps, i)));
     }
     let i = steps.first_at::<NextStep, _>(entries, now)?;
     let entry = &mut entries[i];
@@ -137,4 +135,27 @@ pub(crate) fn turn_first<A: Allocator>(
     let due = entry.step(transmits, now);
     steps.change(was, Dated::<NextStep>::date(entry), addr);
     Some(due)
+}
+
+/// Removes the entry at place `i` with its dates, and returns its address.
+pub(crate) fn remove_at<A: Allocator>(
+    entries: &mut Vec<Entry, A>,
+    ends: &mut Schedule<A>,
+    steps: &mut Schedule<A>,
+    i: usize,
+) -> Addr
+    requires within { i < vec_len entries.old }
+    requires planned { IsPlanned entries.old.items ends.old steps.old }
+    ensures leaves { Leaves i (number_of result.0) entries.old.items entries.new.items }
+    ensures planned { IsPlanned entries.new.items ends.new steps.new }
+    ensures end_room { ends.new.room ≡ ends.old.room }
+    ensures step_room { steps.new.room ≡ steps.old.room }
+    ensures len { vec_len entries.new ≤ vec_len entries.old }
+    ensures capacity { vec_capacity entries.new ≡ vec_capacity entries.old }
+{
+    let entry = entries.remove(i);
+    let addr = entry.addr();
+    ends.change(Dated::<ValidEnd>::date(&entry), None, addr);
+    steps.change(Dated::<NextStep>::date(&entry), None, addr);
+    addr
 }

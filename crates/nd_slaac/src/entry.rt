@@ -5,7 +5,8 @@ ghost use Rattle.nd_addr.specs.Number.{number_of};
 ghost use Rattle.nd_table.specs.Moment.{IsMoment};
 
 use crate::due::Due;
-use crate::shown::OwnAddress;
+use crate::own_address::OwnAddress;
+use crate::shown::ShownAddress;
 use crate::stage::Stage;
 use crate::state::State;
 use crate::transmits::Transmits;
@@ -24,6 +25,8 @@ pub(crate) struct Entry {
     /// The end of its valid lifetime, in milliseconds, if it has one.
     pub(crate) valid_end: Option<u64>,
     pub(crate) stage: Stage,
+    /// True if its lifetimes were set by hand.
+    pub(crate) by_hand: bool,
 }
 
 impl Model for Entry {
@@ -32,7 +35,7 @@ impl Model for Entry {
 
     ghost Value = { Address };
 
-    ghost view = { λ e. record { key = number_of e.addr.0; preferred_end = e.preferred_end; valid_end = e.valid_end; stage = e.stage } };
+    ghost view = { λ e. record { key = number_of e.addr.0; preferred_end = e.preferred_end; valid_end = e.valid_end; stage = e.stage; by_hand = e.by_hand } };
 }
 
 impl Addressed for Entry {
@@ -48,7 +51,7 @@ impl Addressed for Entry {
 impl Entry {
     ghost use Rattle.nd_slaac.specs.AddressKept.{Address};
     ghost use Rattle.nd_slaac.specs.PrefixOption.{lifetimes_of};
-    ghost use Rattle.nd_slaac.specs.Calls.{formed, announced, failed, is_detecting};
+    ghost use Rattle.nd_slaac.specs.Calls.{formed, announced, failed, is_detecting, set_by_hand};
     ghost use Rattle.nd_slaac.specs.Dates.{falls_by, stepped};
     ghost use Rattle.nd_slaac.specs.ShownKept.{seen, state_at};
     ghost use Rattle.nd_slaac.specs.View.{falls_of, seen_in};
@@ -63,6 +66,7 @@ impl Entry {
             preferred_end: None,
             valid_end: None,
             stage: Stage::begin(now, delay, retrans),
+            by_hand: false,
         }
     }
 
@@ -76,6 +80,21 @@ impl Entry {
             preferred_end: end_time(now, info.preferred_lifetime),
             valid_end: end_time(now, info.valid_lifetime),
             stage: Stage::begin(now, delay, retrans),
+            by_hand: false,
+        }
+    }
+
+    /// Returns the entry of an address that is given by hand, and was not known (RFC 4862, section 5.4).
+    pub(crate) fn by_hand(addr: Addr, now: u64, own: &OwnAddress, retrans: u32) -> Self
+        requires { IsMoment now }
+        ensures { result ≡ set_by_hand now own.now.lifetimes (formed (number_of addr.0) now 0 retrans (Some own.now.lifetimes)) }
+    {
+        Entry {
+            addr,
+            preferred_end: end_time(now, own.preferred_lifetime()),
+            valid_end: end_time(now, own.valid_lifetime()),
+            stage: Stage::begin(now, 0, retrans),
+            by_hand: true,
         }
     }
 
@@ -99,14 +118,15 @@ impl Entry {
     }
 
     /// Returns what is shown of it at `now`, in milliseconds.
-    pub(crate) fn shown(&self, now: u64) -> OwnAddress
+    pub(crate) fn shown(&self, now: u64) -> ShownAddress
         ensures { seen_in result ≡ seen now self.now }
     {
-        OwnAddress {
+        ShownAddress {
             addr: self.addr,
             state: self.state(now),
             preferred_left: time_left(now, self.preferred_end),
             valid_left: time_left(now, self.valid_end),
+            by_hand: self.by_hand,
         }
     }
 
@@ -117,6 +137,16 @@ impl Entry {
     {
         self.preferred_end = end_time(now, info.preferred_lifetime);
         self.valid_end = renewed(now, self.valid_end, info.valid_lifetime);
+    }
+
+    /// Sets its lifetimes by hand.
+    pub(crate) fn set_by_hand(&mut self, now: u64, own: &OwnAddress)
+        requires { IsMoment now }
+        ensures { self.new ≡ set_by_hand now own.now.lifetimes self.old }
+    {
+        self.preferred_end = end_time(now, own.preferred_lifetime());
+        self.valid_end = end_time(now, own.valid_lifetime());
+        self.by_hand = true;
     }
 
     /// Fails its detection: another node has the address or tries it (RFC 4862, sections 5.4.3 and 5.4.4).

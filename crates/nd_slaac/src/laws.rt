@@ -9,15 +9,16 @@ ghost use Rattle.nd_slaac.specs.AddressKept.{Address};
 ghost use Rattle.nd_slaac.specs.TableKept.{Stands};
 ghost use Rattle.nd_slaac.specs.Due.{Falls, IsDue, FirstDue, NoneOverdue};
 ghost use Rattle.nd_slaac.specs.Dates.{NoneBefore};
-ghost use Rattle.nd_slaac.specs.Room.{FitsBy};
+ghost use Rattle.nd_slaac.specs.Room.{FitsBy, HasRoomBy};
 ghost use Rattle.nd_addr.specs.declared.mac.Mac.{Mac};
 ghost use Rattle.nd_decode.specs.declared.prefix_info.PrefixInfo.{PrefixInfo};
 ghost use Rattle.nd_slaac.specs.MayCome.{IsHistory, Held};
 
-/// The definitions give one table, one answer whether options fit, and one thing that is due first.
+/// The definitions give one table, one answer whether options fit, one whether there is room for an address, and one thing that is due first.
 pub fn one_answer()
     ensures table { (history : List Row) (a b : List Address) → Stands a history → Stands b history → a ≡ b }
     ensures fits { (limit : ℕ) (mac : Mac) (history : List Row) (infos : List PrefixInfo) (a b : Bool) → FitsBy limit mac history infos a → FitsBy limit mac history infos b → a ≡ b }
+    ensures room { (limit : ℕ) (history : List Row) (a b : Bool) → HasRoomBy limit history a → HasRoomBy limit history b → a ≡ b }
     ensures due { (transmits : ℕ) (history : List Row) (moment : ℕ) (a b : Option Falls) → FirstDue transmits history moment a → FirstDue transmits history moment b → a ≡ b }
 {}
 

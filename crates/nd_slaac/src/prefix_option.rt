@@ -9,7 +9,7 @@ ghost use Rattle.nd_table.specs.KeyedKept.{place_of};
 ghost use Rattle.nd_table.specs.Moment.{IsMoment};
 ghost use Rattle.nd_slaac.specs.TableKept.{address_in, key_of};
 ghost use Rattle.nd_slaac.specs.Planned.{IsPlanned};
-ghost use Rattle.nd_slaac.specs.Calls.{taken_by, Changes};
+ghost use Rattle.nd_slaac.specs.Calls.{is_by_hand_in, taken_by, Changes};
 
 use crate::addresses::Addresses;
 use crate::due::{NextStep, ValidEnd};
@@ -19,28 +19,28 @@ use nd_decode::PrefixInfo;
 use nd_table::{Addressed, Dated, Schedule, locate, put};
 use std::alloc::Allocator;
 
-/// The effect of a prefix option (RFC 4862, section 5.5.3).
+/// The effect of a prefix option (RFC 4862, section 5.5.3), or of an address that is given by hand (section 5.4).
 #[derive(Clone, Copy, Debug, PartialEq, Eq)]
 pub enum Taken {
-    /// It formed an address.
+    /// An address was formed.
     Formed,
-    /// Its address is known, and has other lifetimes now.
+    /// The address is known, and has other lifetimes now.
     Renewed,
-    /// It neither formed an address nor renewed one.
+    /// No address was formed, and none was renewed. An address that was given by hand is renewed by no prefix option.
     Ignored,
 }
 
-/// There is no room: a prefix option would form one address more than the limit. Nothing has changed then.
+/// There is no room: one address more than the limit would be formed. Nothing has changed then.
 #[derive(Clone, Copy, Debug, PartialEq, Eq)]
 pub struct Full;
 
 impl<A: Allocator> Addresses<A> {
     ghost use Rattle.nd_slaac.specs.History.{Row, story};
-    ghost use Rattle.nd_slaac.specs.State.{is_known};
+    ghost use Rattle.nd_slaac.specs.State.{is_by_hand, is_known};
     ghost use Rattle.nd_slaac.specs.TableKept.{address_in, Stands};
     ghost use Rattle.nd_slaac.specs.PrefixOption.{named_by};
     ghost use Rattle.nd_slaac.specs.Room.{fits_in, would_form};
-    ghost use Rattle.nd_slaac.specs.Calls.{keys_in, taken_of, row_taken, GainsRowIfAny, TakenBy};
+    ghost use Rattle.nd_slaac.specs.Calls.{is_by_hand_in, keys_in, taken_of, row_taken, GainsRowIfAny, TakenBy};
     ghost use Rattle.nd_slaac.specs.MayCome.{MayCome};
 
     /// Takes a prefix option of a Router Advertisement (RFC 4862, section 5.5.3): forms an address, whose first solicitation waits for `delay`,
@@ -55,8 +55,8 @@ impl<A: Allocator> Addresses<A> {
     ) -> Result<Taken, Full>
         requires moment { IsMoment now }
 
-        ensures value { result ≡ taken_of self.old.limit info.now (is_some (address_in (named_by self.old.mac info.now) self.old.addresses)) (length self.old.addresses) }
-        ensures story { (history : List Row) → Stands self.old.addresses history → result ≡ taken_of self.old.limit info.now (is_known (story (named_by self.old.mac info.now) history)) (length self.old.addresses) }
+        ensures value { result ≡ taken_of self.old.limit info.now (is_by_hand_in (address_in (named_by self.old.mac info.now) self.old.addresses)) (is_some (address_in (named_by self.old.mac info.now) self.old.addresses)) (length self.old.addresses) }
+        ensures story { (history : List Row) → Stands self.old.addresses history → result ≡ taken_of self.old.limit info.now (is_by_hand (story (named_by self.old.mac info.now) history)) (is_known (story (named_by self.old.mac info.now) history)) (length self.old.addresses) }
         ensures by_history { (history : List Row) → Stands self.old.addresses history → TakenBy self.old.limit self.old.mac history info.now result }
         ensures gains { GainsRowIfAny (row_taken now self.old.mac info.now delay retrans result) self.old.addresses self.new.addresses }
         ensures comes { (history : List Row) → Stands self.old.addresses history → 0 < retrans → IfSome (row_taken now self.old.mac info.now delay retrans result) (λ row. MayCome self.old.transmits row history) }
@@ -131,7 +131,7 @@ pub(crate) fn take<A: Allocator>(
     requires capacity { limit ≤ vec_capacity entries.old }
     requires room_for_ends { limit ≤ ends.old.room }
     requires room_for_steps { limit ≤ steps.old.room }
-    ensures value { result ≡ taken_by limit (is_some (address_in (number_of addr.0) entries.old.items)) info.now.valid_lifetime (length entries.old.items) }
+    ensures value { result ≡ taken_by limit (is_by_hand_in (address_in (number_of addr.0) entries.old.items)) (is_some (address_in (number_of addr.0) entries.old.items)) info.now.valid_lifetime (length entries.old.items) }
     ensures changes { Changes now (number_of addr.0) (lifetimes_of info.now) delay retrans result entries.old.items entries.new.items }
     ensures planned { IsPlanned entries.new.items ends.new steps.new }
     ensures few { vec_len entries.new ≤ limit }
@@ -141,6 +141,9 @@ pub(crate) fn take<A: Allocator>(
 {
     let at = match locate(entries, addr) {
         Ok(i) => {
+            if entries[i].by_hand {
+                return Ok(Taken::Ignored);
+            }
             let entry = &mut entries[i];
             let was = Dated::<ValidEnd>::date(entry);
             entry.announce(now, info);

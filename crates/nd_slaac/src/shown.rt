@@ -16,13 +16,15 @@ use std::alloc::Allocator;
 
 /// An address of the interface, as it is shown at a moment.
 #[derive(Clone, Copy, Debug, PartialEq, Eq)]
-pub struct OwnAddress {
+pub struct ShownAddress {
     pub addr: Addr,
     pub state: State,
     /// What is left of its preferred lifetime, in milliseconds: 0 if it has ended, and `None` if it has no end.
     pub preferred_left: Option<u64>,
     /// What is left of its valid lifetime, in milliseconds, in the same way.
     pub valid_left: Option<u64>,
+    /// True if it was given by hand: no advertisement renews it (RFC 4862, section 5.5.3 e).
+    pub by_hand: bool,
 }
 
 impl<A: Allocator> Addresses<A> {
@@ -55,22 +57,22 @@ impl<A: Allocator> Addresses<A> {
     ghost use Rattle.nd_slaac.specs.Left.{addresses_left};
 
     /// Returns all addresses as they are at `now`, in milliseconds, in the order of their numbers. It takes no memory.
-    pub fn rows(&self, now: u64) -> OwnAddresses<'_>
+    pub fn rows(&self, now: u64) -> ShownAddresses<'_>
         ensures value { addresses_left result ≡ map (seen now) self.now.addresses }
         ensures lists { (history : List Row) → Stands self.now.addresses history → Lists history now (addresses_left result) }
     {
-        OwnAddresses::new(&self.entries, now)
+        ShownAddresses::new(&self.entries, now)
     }
 }
 
 /// The addresses of the interface as they are at a moment, in the order of their numbers.
 #[derive(Clone, Copy)]
-pub struct OwnAddresses<'a> {
+pub struct ShownAddresses<'a> {
     rest: &'a [Entry],
     moment: u64,
 }
 
-impl<'a> OwnAddresses<'a> {
+impl<'a> ShownAddresses<'a> {
     ghost use Rattle.nd_slaac.specs.ShownKept.{seen};
     ghost use Rattle.nd_slaac.specs.Left.{addresses_left};
 
@@ -78,15 +80,15 @@ impl<'a> OwnAddresses<'a> {
     fn new(entries: &'a [Entry], moment: u64) -> Self
         ensures { addresses_left result ≡ map (seen moment) entries.entry.now }
     {
-        OwnAddresses {
+        ShownAddresses {
             rest: entries,
             moment,
         }
     }
 }
 
-impl Iterator for OwnAddresses<'_> {
-    type Item = OwnAddress;
+impl Iterator for ShownAddresses<'_> {
+    type Item = ShownAddress;
 
     ghost use Rattle.std.specs.Iterator.{YieldsFirstBy, item_count};
     ghost use Rattle.nd_slaac.specs.Left.{addresses_left};
@@ -96,7 +98,7 @@ impl Iterator for OwnAddresses<'_> {
 
     ghost remaining = { item_count addresses_left };
 
-    fn next(&mut self) -> Option<OwnAddress> {
+    fn next(&mut self) -> Option<ShownAddress> {
         let (first, rest) = self.rest.split_first()?;
         self.rest = rest;
         Some(first.shown(self.moment))

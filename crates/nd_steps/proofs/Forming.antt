@@ -11,7 +11,8 @@ use Rattle.nd_slaac.specs.declared.prefix_option.Taken.TheVariants.{Formed, Rene
 use Rattle.nd_slaac.specs.declared.prefix_option.Full.{Full}
 use Rattle.nd_slaac.specs.History as address_rows
 use Rattle.nd_slaac.specs.History.{Row, story}
-use Rattle.nd_slaac.specs.State.{is_known}
+use Rattle.nd_slaac.specs.State.{is_by_hand, is_known}
+use Rattle.nd_slaac.proofs.Stories.{known_by_hand}
 use Rattle.nd_slaac.specs.AddressKept.{Address}
 use Rattle.nd_slaac.specs.TableKept.{Table, Stands}
 use Rattle.nd_slaac.specs.PrefixOption.{is_taken, is_forming, named_by, lifetimes_of}
@@ -25,39 +26,45 @@ use Rattle.nd_chronicle.specs.OwnAddress.{story_of}
 use Rattle.nd_chronicle.specs.RouterAdvertisement.{with_delay, delay_for, forming, naming, then_option}
 use Rattle.nd_steps.specs.OwnAddresses.{delay_from, Forms}
 
--- what becomes of an option: whether it is taken, its address is known, and its valid lifetime is 0
-abbrev becomes : Bool → Bool → Bool → Taken
-becomes taken known zero = cond taken (cond known Renewed (cond zero Ignored Formed)) Ignored
+-- what becomes of an option: whether it is taken, its address was given by hand, is known, and its valid lifetime is 0
+abbrev becomes : Bool → Bool → Bool → Bool → Taken
+becomes taken hand known zero = cond taken (cond hand Ignored (cond known Renewed (cond zero Ignored Formed))) Ignored
 
 -- one that isn't refused becomes that
-accepted_by : (taken known zero below : Bool) (full : Full) (r : Result Taken Full)
-    → r ≡ cond taken (cond known (Ok Renewed) (cond zero (Ok Ignored) (cond below (Ok Formed) (Err full)))) (Ok Ignored)
-    → IsOk r → r ≡ Ok (becomes taken known zero)
-accepted_by false known zero below full r is ok = is
-accepted_by true true zero below full r is ok = is
-accepted_by true false true below full r is ok = is
-accepted_by true false false true full r is ok = is
-accepted_by true false false false full r is ok = absurd (false≢true (subst (λ (r : Result Taken Full). IsOk r) is ok))
+accepted_by : (taken hand known zero below : Bool) (full : Full) (r : Result Taken Full)
+    → r ≡ cond taken (cond hand (Ok Ignored) (cond known (Ok Renewed) (cond zero (Ok Ignored) (cond below (Ok Formed) (Err full))))) (Ok Ignored)
+    → IsOk r → r ≡ Ok (becomes taken hand known zero)
+accepted_by false hand known zero below full r is ok = is
+accepted_by true true known zero below full r is ok = is
+accepted_by true false true zero below full r is ok = is
+accepted_by true false false true below full r is ok = is
+accepted_by true false false false true full r is ok = is
+accepted_by true false false false false full r is ok = absurd (false≢true (subst (λ (r : Result Taken Full). IsOk r) is ok))
 
-taken_cond : (limit : ℕ) (known : Bool) (valid count : ℕ) → taken_by limit known valid count ≡ cond known (Ok Renewed) (cond (eqb valid 0) (Ok Ignored) (cond (ltb count limit) (Ok Formed) (Err (record {}))))
-taken_cond limit true valid count = refl
-taken_cond limit false valid count = refl
+taken_cond : (limit : ℕ) (hand known : Bool) (valid count : ℕ)
+    → taken_by limit hand known valid count ≡ cond hand (Ok Ignored) (cond known (Ok Renewed) (cond (eqb valid 0) (Ok Ignored) (cond (ltb count limit) (Ok Formed) (Err (record {})))))
+taken_cond limit true known valid count = refl
+taken_cond limit false true valid count = refl
+taken_cond limit false false valid count = refl
 
-accepted : (limit : ℕ) (info : PrefixInfo) (known : Bool) (count : ℕ) (r : Result Taken Full) → r ≡ taken_of limit info known count → IsOk r → r ≡ Ok (becomes (is_taken info) known (eqb info.valid_lifetime 0))
-accepted limit info known count r is ok =
-    accepted_by (is_taken info) known (eqb info.valid_lifetime 0) (ltb count limit) (record {}) r (is ∙ ap (λ (t : Result Taken Full). cond (is_taken info) t (Ok Ignored)) (taken_cond limit known info.valid_lifetime count)) ok
+accepted : (limit : ℕ) (info : PrefixInfo) (hand known : Bool) (count : ℕ) (r : Result Taken Full) → r ≡ taken_of limit info hand known count → IsOk r → r ≡ Ok (becomes (is_taken info) hand known (eqb info.valid_lifetime 0))
+accepted limit info hand known count r is ok =
+    accepted_by (is_taken info) hand known (eqb info.valid_lifetime 0) (ltb count limit) (record {}) r (is ∙ ap (λ (t : Result Taken Full). cond (is_taken info) t (Ok Ignored)) (taken_cond limit hand known info.valid_lifetime count)) ok
 
 abbrev is_formed : Taken → Bool
 is_formed Formed = true
 is_formed Renewed = false
 is_formed Ignored = false
 
-forms_by : (taken known zero : Bool) → ((taken && not zero) && not known) ≡ is_formed (becomes taken known zero)
-forms_by false known zero = refl
-forms_by true true true = refl
-forms_by true true false = refl
-forms_by true false true = refl
-forms_by true false false = refl
+-- an address that was given by hand is known
+forms_by : (taken hand known zero : Bool) → (hand ≡ true → known ≡ true) → ((taken && not zero) && not known) ≡ is_formed (becomes taken hand known zero)
+forms_by false hand known zero there = refl
+forms_by true true known true there = refl
+forms_by true true known false there = ap not (there refl)
+forms_by true false true true there = refl
+forms_by true false true false there = refl
+forms_by true false false true there = refl
+forms_by true false false false there = refl
 
 -- a fact of four values is one of values that are the same
 moved : (P : ℕ → ℕ → ℕ → List Row → Type 0) {a a' b b' d d' : ℕ} {rows rows' : List Row} → a ≡ a' → b ≡ b' → d ≡ d' → rows ≡ rows' → P a b d rows → P a' b' d' rows'
@@ -93,13 +100,14 @@ module _ (start : Start) (now : ℕ) (c : Chronicle) where
     by_zero true = refl
     by_zero false = refl
 
-    by_known : (known : Bool) → naming start now to_all known info c ≡ added (cond known Renewed (cond (eqb info.valid_lifetime 0) Ignored Formed))
-    by_known true = refl
-    by_known false = by_zero (eqb info.valid_lifetime 0)
+    by_known : (hand known : Bool) → naming start now to_all hand known info c ≡ added (cond hand Ignored (cond known Renewed (cond (eqb info.valid_lifetime 0) Ignored Formed)))
+    by_known true known = refl
+    by_known false true = refl
+    by_known false false = by_zero (eqb info.valid_lifetime 0)
 
-    by_taken : (taken known : Bool) → cond taken (naming start now to_all known info c) c ≡ added (becomes taken known (eqb info.valid_lifetime 0))
-    by_taken true known = by_known known
-    by_taken false known = refl
+    by_taken : (taken hand known : Bool) → cond taken (naming start now to_all hand known info c) c ≡ added (becomes taken hand known (eqb info.valid_lifetime 0))
+    by_taken true hand known = by_known hand known
+    by_taken false hand known = refl
 
 module _ (start : Start) (now : ℕ) (to_all : Bool) (info : PrefixInfo) (old new : Table) (before after : Stream) (delay retrans : ℕ) (c : Chronicle)
     (mac : new.mac ≡ old.mac) (limit : new.limit ≡ old.limit) (transmits : new.transmits ≡ old.transmits) (s : Forms start old before retrans c) where
@@ -146,19 +154,24 @@ module _ (start : Start) (now : ℕ) (to_all : Bool) (info : PrefixInfo) (old ne
   -- an option that isn't refused does what the definition says
   pub taken : (would : Bool) (result : Result Taken Full) → IsOk result
       → ((history : List Row) → Stands old.addresses history → would ≡ (is_forming info && not (is_known (story (named_by old.mac info) history))))
-      → ((history : List Row) → Stands old.addresses history → result ≡ taken_of old.limit info (is_known (story (named_by old.mac info) history)) (length old.addresses))
+      → ((history : List Row) → Stands old.addresses history → result ≡ taken_of old.limit info (is_by_hand (story (named_by old.mac info) history)) (is_known (story (named_by old.mac info) history)) (length old.addresses))
       → (delay, after) ≡ delay_from (to_all && would) before
       → GainsRowIfAny (row_taken now old.mac info delay retrans result) old.addresses new.addresses
       → Forms start new after retrans (then_option start now to_all info c)
   taken would result ok would_is by_history is gains =
       let zero : Bool = eqb info.valid_lifetime 0 in
+      let old_hand : Bool = is_by_hand (story (named_by old.mac info) (address_history c)) in
+      let hand : Bool = is_by_hand (story_of c (named_by start.mac info)) in
+      let hand_is : old_hand ≡ hand = ap (λ (m : Mac). is_by_hand (story (named_by m info) (address_history c))) s.mac in
       let old_known : Bool = is_known (story (named_by old.mac info) (address_history c)) in
       let known : Bool = is_known (story_of c (named_by start.mac info)) in
       let known_is : old_known ≡ known = ap (λ (m : Mac). is_known (story (named_by m info) (address_history c))) s.mac in
-      let t : Taken = becomes (is_taken info) known zero in
-      let result_is : result ≡ Ok t = accepted old.limit info known (length old.addresses) result (by_history (address_history c) s.addresses ∙ ap (λ (k : Bool). taken_of old.limit info k (length old.addresses)) known_is) ok in
-      let forms_is : would ≡ is_formed t = would_is (address_history c) s.addresses ∙ (ap (λ (k : Bool). is_forming info && not k) known_is ∙ forms_by (is_taken info) known zero) in
+      let t : Taken = becomes (is_taken info) hand known zero in
+      let result_is : result ≡ Ok t = accepted old.limit info hand known (length old.addresses) result
+      (by_history (address_history c) s.addresses ∙ (ap (λ (h : Bool). taken_of old.limit info h old_known (length old.addresses)) hand_is ∙ ap (λ (k : Bool). taken_of old.limit info hand k (length old.addresses)) known_is)) ok in
+      let forms_is : would ≡ is_formed t =
+      would_is (address_history c) s.addresses ∙ (ap (λ (k : Bool). is_forming info && not k) known_is ∙ forms_by (is_taken info) hand known zero (known_by_hand (story_of c (named_by start.mac info)))) in
       let forms : Forms start new after retrans (added start now c to_all info t) =
       taken_as t (is ∙ ap (λ (b : Bool). delay_from (to_all && b) before) forms_is)
       (subst (λ (r : Result Taken Full). GainsRowIfAny (row_taken now old.mac info delay retrans r) old.addresses new.addresses) result_is gains) in
-      subst (λ (d : Chronicle). Forms start new after retrans d) (sym (by_taken start now c to_all info (is_taken info) known)) forms
+      subst (λ (d : Chronicle). Forms start new after retrans d) (sym (by_taken start now c to_all info (is_taken info) hand known)) forms

@@ -11,6 +11,7 @@ pub mod Faults
 pub mod SettingsWords
 pub mod OfferWords
 pub mod RouteWords
+pub mod OwnAddressWords
 pub mod CommandWords
 pub mod Lines
 pub mod Labels

@@ -7,6 +7,7 @@ pub mod Table
 pub mod Settings
 pub mod Offer
 pub mod Route
+pub mod OwnAddress
 pub mod Command
 pub mod Line
 pub mod Source

@@ -9,6 +9,7 @@ ghost use Rattle.ndpctl_run.specs.Command.{command_word, AreArguments, IsCommand
 use crate::address::read_address;
 use crate::bytes::read_bytes;
 use crate::offer::read_offer;
+use crate::own_address::read_own_address;
 use crate::packet::read_packet;
 use crate::route::read_route;
 use crate::settings::read_settings;
@@ -38,9 +39,13 @@ pub enum Command {
     Prefix,
     /// A router is given a static route.
     Route,
+    /// The node is given an address (RFC 4862, section 5.4).
+    Address,
+    /// An address of the node's own is withdrawn.
+    Withdraw,
 }
 
-const COMMANDS: [Command; 9] = [
+const COMMANDS: [Command; 11] = [
     Command::Rx,
     Command::Send,
     Command::Confirm,
@@ -50,6 +55,8 @@ const COMMANDS: [Command; 9] = [
     Command::Advertise,
     Command::Prefix,
     Command::Route,
+    Command::Address,
+    Command::Withdraw,
 ];
 
 /// Returns the word that a command begins with.
@@ -66,6 +73,8 @@ fn command_word(command: Command) -> &'static str
         Command::Advertise => "advertise",
         Command::Prefix => "prefix",
         Command::Route => "route",
+        Command::Address => "address",
+        Command::Withdraw => "withdraw",
     }
 }
 
@@ -128,6 +137,14 @@ fn read_arguments<A: Allocator + Clone>(
         },
         Command::Route => match read_route(words) {
             Some(route) => Ok(Some(Event::PutsRoute(route))),
+            None => Ok(None),
+        },
+        Command::Address => match read_own_address(words) {
+            Some(own) => Ok(Some(Event::Sets(own))),
+            None => Ok(None),
+        },
+        Command::Withdraw => match read_address(words) {
+            Some(address) => Ok(Some(Event::Withdraws(address))),
             None => Ok(None),
         },
     }

@@ -10,6 +10,7 @@ mod line;
 mod number;
 mod offer;
 mod options;
+mod own_address;
 mod packet;
 mod prefix;
 mod route;

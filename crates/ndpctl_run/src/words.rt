@@ -27,6 +27,16 @@ pub fn two_words(text: &[u8]) -> Option<(&[u8], &[u8])>
     }
 }
 
+/// Returns the words of a text of three words.
+pub(crate) fn three_words(text: &[u8]) -> Option<(&[u8], &[u8], &[u8])>
+    ensures found { IfSome result (λ words. words_of text.now ≡ words.0.now ∷ words.1.now ∷ words.2.now ∷ []) }
+    ensures only { length (words_of text.now) ≡ 3 → IsSome result }
+{
+    let (first, rest) = split_word(text)?;
+    let (second, third) = two_words(rest)?;
+    Some((first, second, third))
+}
+
 /// Returns the words of a text of four words.
 pub(crate) fn four_words(text: &[u8]) -> Option<(&[u8], &[u8], &[u8], &[u8])>
     ensures found { IfSome result (λ words. words_of text.now ≡ words.0.now ∷ words.1.now ∷ words.2.now ∷ words.3.now ∷ []) }

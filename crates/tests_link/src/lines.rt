@@ -128,6 +128,8 @@ fn commands_come_to_nodes(rt: HostRuntime) {
         "10 on 2 advertise 200 600 1800 64 - 0 0 0",
         "10 on 2 prefix 2001:db8::/64 - - la",
         "10 on 2 route 2001:db8::/64 direct",
+        "10 on 2 address 2001:db8::5 - -",
+        "10 on 2 withdraw 2001:db8::5",
     ] {
         says(&rt, line, Some((10, Said::CommandsOtherwise(2))));
     }
@@ -199,6 +201,11 @@ fn other_commands_are_malformed(rt: HostRuntime) {
         "0 on 0 rx 3333ff9abcde",
         "0 on 0 on 0 at",
         "0 on 0 show",
+        "0 on 0 address 2001:db8::5 -",
+        "0 on 0 address ::1 - -",
+        "0 on 0 withdraw",
+        "0 address 2001:db8::5 - -",
+        "0 withdraw 2001:db8::5",
         "0 ON 0 at",
         "0 deliver",
         "0 deliver 0",

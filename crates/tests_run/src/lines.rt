@@ -1,6 +1,7 @@
 use nd_addr::Addr;
 use nd_node::{Clearable, Event, Table};
 use nd_random::Source;
+use nd_slaac::OwnAddress;
 use nd_text::write_hex;
 use ndpctl_run::*;
 use rand_core::Rng;
@@ -20,6 +21,8 @@ enum Said {
     Shows(Table),
     CommandsRouter,
     Stops,
+    Sets(OwnAddress),
+    Withdraws(Addr),
 }
 
 /// The moment of a line and what it says, a frame by its bytes in lower case digits.
@@ -54,6 +57,8 @@ fn event_said(alloc: Global, event: Event<Global>) -> Result<Said, AllocError> {
         Event::Shows(table) => Ok(Said::Shows(table)),
         Event::Advertises(_) | Event::Offers(_) | Event::PutsRoute(_) => Ok(Said::CommandsRouter),
         Event::Stops => Ok(Said::Stops),
+        Event::Sets(own) => Ok(Said::Sets(own)),
+        Event::Withdraws(address) => Ok(Said::Withdraws(address)),
     }
 }
 
@@ -133,6 +138,108 @@ fn lines_of_a_neighbour_are_read(rt: HostRuntime) -> Result<(), Fail> {
             "10 confirm fe80",
             "10 forget fe80::1/64",
             "10 forget fe80::1 fe80::2",
+        ],
+    )
+}
+
+/// The lifetimes of a line that gives a node 2001:db8::5 at 10 ms.
+fn given(
+    rt: &impl Abort,
+    alloc: Global,
+    line: &str,
+    valid: u32,
+    preferred: u32,
+) -> Result<(), Fail> {
+    let address = Addr::from_bits(0x2001_0db8_0000_0000_0000_0000_0000_0005);
+    let wanted = OwnAddress::new(address, valid, preferred).map(|own| (10, Said::Sets(own)));
+    assert!(rt; wanted.is_some());
+    assert_eq!(rt; reading(alloc, line.as_bytes())?, wanted);
+    Ok(())
+}
+
+#[test]
+fn lines_of_an_address_by_hand_are_read(rt: HostRuntime) -> Result<(), Fail> {
+    for (line, valid, preferred) in [
+        ("10 address 2001:db8::5 - -", u32::MAX, u32::MAX),
+        ("10 address 2001:DB8:0::5 - 0", u32::MAX, 0),
+        ("10 address 2001:db8::5 1 1", 1, 1),
+        ("10 address 2001:db8::5 60 30", 60, 30),
+        (
+            "10 address 2001:db8::5 4294967295 4294967294",
+            u32::MAX,
+            u32::MAX - 1,
+        ),
+    ] {
+        given(&rt, rt.alloc(), line, valid, preferred)?;
+    }
+    Ok(())
+}
+
+/// No interface has a multicast address, `::` or `::1` (RFC 4291, sections 2.5.2, 2.5.3 and 2.7). The valid lifetime is at least 1 and the
+/// preferred one (RFC 4862, section 5.5.3 c).
+#[test]
+fn addresses_that_no_interface_may_have_are_malformed(rt: HostRuntime) -> Result<(), Fail> {
+    malformed(
+        &rt,
+        rt.alloc(),
+        &[
+            "10 address :: - -",
+            "10 address ::1 - -",
+            "10 address ff02::5 - -",
+            "10 address ff00:: - -",
+            "10 address 2001:db8::5 0 0",
+            "10 address 2001:db8::5 5 6",
+            "10 address 2001:db8::5 5 -",
+            "10 address 2001:db8::5 4294967294 -",
+        ],
+    )
+}
+
+#[test]
+fn other_words_are_no_address_by_hand(rt: HostRuntime) -> Result<(), Fail> {
+    malformed(
+        &rt,
+        rt.alloc(),
+        &[
+            "10 address",
+            "10 address ",
+            "10 address 2001:db8::5",
+            "10 address 2001:db8::5 ",
+            "10 address 2001:db8::5 -",
+            "10 address 2001:db8::5 - ",
+            "10 address 2001:db8::5 - - ",
+            "10 address 2001:db8::5 - - -",
+            "10 address 2001:db8::5  - -",
+            "10 address 2001:db8::5/64 - -",
+            "10 address 2001:db8::5 060 30",
+            "10 address 2001:db8::5 +60 30",
+            "10 address 2001:db8::5 60 -1",
+            "10 address 2001:db8::5 4294967296 1",
+            "10 address 2001:db8::5 4294967295 4294967296",
+            "10 address 60 30 2001:db8::5",
+            "10 Address 2001:db8::5 - -",
+            "10 addresses 2001:db8::5 - -",
+        ],
+    )
+}
+
+#[test]
+fn lines_of_withdrawing_are_read(rt: HostRuntime) -> Result<(), Fail> {
+    let address = Addr::from_bits(0x2001_0db8_0000_0000_0000_0000_0000_0005);
+    assert_eq!(rt;
+        reading(rt.alloc(), b"10 withdraw 2001:DB8:0::5")?,
+        Some((10, Said::Withdraws(address)))
+    );
+    malformed(
+        &rt,
+        rt.alloc(),
+        &[
+            "10 withdraw",
+            "10 withdraw ",
+            "10 withdraw 2001:db8::5 ",
+            "10 withdraw 2001:db8::5 -",
+            "10 withdraw 2001:db8::5/128",
+            "10 withdraws 2001:db8::5",
         ],
     )
 }

@@ -1,8 +1,8 @@
-use Rattle.std.proofs.Common.{◌≡◌, ◌<◌, ap, sym, subst, refl, length, List, None}
+use Rattle.std.proofs.Common.{◌≡◌, ◌<◌, ap, sym, subst, refl, length, List, None, arith}
 use Rattle.nd_addr.specs.Number.{number_of}
 use Rattle.nd_table.specs.DueKept.{NotBefore, least_date}
 use Rattle.nd_slaac.specs.TableKept.{key_of}
-use Rattle.nd_slaac.proofs.Planning.{none_of_ends, none_of_steps, had_end, had_step, gone_planned, stepped_planned}
+use Rattle.nd_slaac.proofs.Planning.{none_of_ends, none_of_steps, had_step, stepped_planned}
 use Rattle.std.specs.Prelude.{slice_get}
 use Rattle.nd_slaac.specs.AddressKept.{Address}
 use Rattle.nd_slaac.specs.Due.{Ends}
@@ -10,13 +10,19 @@ use Rattle.nd_slaac.specs.Dates.{end_date, next_step, first_at}
 use Rattle.nd_slaac.proofs.Turns.{went, goes_on, stepped_on}
 use Rattle.nd_slaac.proofs.due.turn_first.Goals as goal
 
+pub remove_at-requires-clause-within : goal.remove_at-requires-clause-within
+remove_at-requires-clause-within g c =
+    let le : c.in-Some.i < length c.args.entries.now.items = subst (λ (l : List Address). c.in-Some.i < length l) c.deref.ensures.value c.in-Some.ensures.within in
+    omega (arith, le, c.args.entries.now.ok.0)
+
 pub returns-in-Some-clause-turns : goal.returns-in-Some-clause-turns
 returns-in-Some-clause-turns g c =
     let xs = c.args.entries.now.items in
     let i = c.in-Some.i in
     let within : i < length xs = subst (λ (l : List Address). i < length l) c.deref.ensures.value c.in-Some.ensures.within in
     let first : first_at end_date c.args.now xs ≡ slice_get xs i = subst (λ (l : List Address). first_at end_date c.args.now l ≡ slice_get l i) c.deref.ensures.value c.in-Some.ensures.found in
-    went c.args.transmits c.args.now xs _ i c.remove-entry.result _ within first c.remove-entry.ensures.value (ap Ends c.addr-addr.ensures) c.remove-entry.ensures.items
+    let l = c.remove_at.ensures.leaves in
+    went c.args.transmits c.args.now xs _ i l.address _ within first l.is (ap Ends (sym l.key_is)) l.new_is
 
 pub step-due-requires-clause-detecting : goal.step-due-requires-clause-detecting
 step-due-requires-clause-detecting g c =
@@ -46,36 +52,14 @@ first_at-requires-2-clause-none_before g c =
 pub change-requires-clause-was : goal.change-requires-clause-was
 change-requires-clause-was g c =
     let xs = c.args.entries.now.items in
-    let i = c.in-Some.i in
-    let within : i < length xs = subst (λ (l : List Address). i < length l) c.deref.ensures.value c.in-Some.ensures.within in
-    had_end (number_of c.addr-addr.result.0) i xs xs c.remove-entry.result c.args.ends.now c.args.steps.now c.requires.planned within c.remove-entry.ensures.value (sym c.addr-addr.ensures) c.date.result c.date.ensures
-
-pub change-requires-in-Some-clause-was : goal.change-requires-in-Some-clause-was
-change-requires-in-Some-clause-was g c =
-    let xs = c.args.entries.now.items in
-    let i = c.in-Some.i in
-    let within : i < length xs = subst (λ (l : List Address). i < length l) c.deref.ensures.value c.in-Some.ensures.within in
-    had_step (number_of c.addr-addr.result.0) i xs xs c.remove-entry.result c.args.ends.now c.args.steps.now c.requires.planned within c.remove-entry.ensures.value (sym c.addr-addr.ensures) c.date-in-Some.result c.date-in-Some.ensures
-
-pub returns-in-Some-clause-planned : goal.returns-in-Some-clause-planned
-returns-in-Some-clause-planned g c =
-    let xs = c.args.entries.now.items in
-    let i = c.in-Some.i in
-    let within : i < length xs = subst (λ (l : List Address). i < length l) c.deref.ensures.value c.in-Some.ensures.within in
-    gone_planned (number_of c.addr-addr.result.0) i xs _ c.remove-entry.result c.args.ends.now c.args.steps.now c.requires.planned within c.remove-entry.ensures.value (sym c.addr-addr.ensures)
-    c.change.new.self c.change-in-Some.new.self c.remove-entry.ensures.items c.change.ensures.dates c.change-in-Some.ensures.dates
-
-pub change-requires-2-clause-was : goal.change-requires-2-clause-was
-change-requires-2-clause-was g c =
-    let xs = c.args.entries.now.items in
     let i = c.in_ok-i.i in
     let within : i < length xs = subst (λ (l : List Address). i < length l) c.deref-2.ensures.value c.in_ok-i.ensures.within in
-    had_step (number_of c.addr-addr-2.result.0) i xs xs c.index_mut-entry.result.now c.args.ends.now c.args.steps.now c.requires.planned within c.index_mut-entry.ensures.value (sym c.addr-addr-2.ensures) c.date-was.result c.date-was.ensures
+    had_step (number_of c.addr-addr.result.0) i xs xs c.index_mut-entry.result.now c.args.ends.now c.args.steps.now c.requires.planned within c.index_mut-entry.ensures.value (sym c.addr-addr.ensures) c.date-was.result c.date-was.ensures
 
 pub returns-clause-planned : goal.returns-clause-planned
 returns-clause-planned g c =
     let xs = c.args.entries.now.items in
     let i = c.in_ok-i.i in
     let within : i < length xs = subst (λ (l : List Address). i < length l) c.deref-2.ensures.value c.in_ok-i.ensures.within in
-    stepped_planned (number_of c.addr-addr-2.result.0) i xs _ c.index_mut-entry.result.now c.args.ends.now c.args.steps.now c.requires.planned within c.index_mut-entry.ensures.value (sym c.addr-addr-2.ensures)
-    c.step-due.new.self (ap key_of c.step-due.ensures.entry) refl c.change-2.new.self c.date-2.result (ap end_date c.step-due.ensures.entry) c.date-2.ensures c.change-2.ensures.dates
+    stepped_planned (number_of c.addr-addr.result.0) i xs _ c.index_mut-entry.result.now c.args.ends.now c.args.steps.now c.requires.planned within c.index_mut-entry.ensures.value (sym c.addr-addr.ensures)
+    c.step-due.new.self (ap key_of c.step-due.ensures.entry) refl c.change.new.self c.date.result (ap end_date c.step-due.ensures.entry) c.date.ensures c.change.ensures.dates

@@ -1,4 +1,4 @@
-use Rattle.nd_slaac.proofs.Unique.{one_table, one_due, one_fit}
+use Rattle.nd_slaac.proofs.Unique.{one_table, one_due, one_fit, one_room}
 use Rattle.nd_slaac.proofs.laws.one_answer.Goals as goal
 
 pub returns-clause-table : goal.returns-clause-table
@@ -9,3 +9,6 @@ returns-clause-due c = one_due
 
 pub returns-clause-fits : goal.returns-clause-fits
 returns-clause-fits c = one_fit
+
+pub returns-clause-room : goal.returns-clause-room
+returns-clause-room c = one_room

@@ -1,20 +1,19 @@
-use Rattle.std.proofs.Common.{◌<◌, ◌≤◌, List, length, set, refl, ap, sym, subst, arith}
-use Rattle.std.specs.Prelude.{is_some}
+use Rattle.std.proofs.Common.{◌<◌, ◌≤◌, List, length, set, refl, ap, sym, ◌∙◌, subst, arith}
 use Rattle.nd_addr.specs.Number.{number_of}
 use Rattle.nd_table.proofs.Keyed.{key_is, found_is}
 use Rattle.nd_slaac.specs.AddressKept.{Address}
-use Rattle.nd_slaac.specs.TableKept.{key_of}
+use Rattle.nd_slaac.specs.TableKept.{key_of, address_in}
 use Rattle.nd_slaac.specs.Dates.{next_step}
-use Rattle.nd_slaac.specs.Calls.{taken_by}
 use Rattle.nd_slaac.proofs.Planning.{had_end, ended_planned, room_for_end}
+use Rattle.nd_slaac.proofs.Counting.{renews}
 use Rattle.nd_slaac.proofs.prefix_option.take.Goals as goal
 
 pub returns-in-Ok-clause-value : goal.returns-in-Ok-clause-value
 returns-in-Ok-clause-value g c =
     let key = number_of c.args.addr.0 in
     let old = c.args.entries.now.items in
-    let there = found_is key_of key old c.deref.result.now c.in-Ok.i c.index_mut-entry.result.now c.deref.ensures.value c.in-Ok.ensures.within c.in-Ok.ensures.found c.index_mut-entry.ensures.value in
-    ap (λ b. taken_by c.args.limit b c.args.info.now.valid_lifetime (length old)) (sym (ap is_some there))
+    let there = found_is key_of key old c.deref.result.now c.in-Ok.i c.index.result.now c.deref.ensures.value c.in-Ok.ensures.within c.in-Ok.ensures.found c.index.ensures in
+    renews c.args.limit c.args.info.now.valid_lifetime (length old) (address_in key old) _ there (sym (ap (λ (a : Address). a.by_hand) c.behind-entries.view_is) ∙ c.if-index.false)
 
 pub returns-in-Ok-clause-changes : goal.returns-in-Ok-clause-changes
 returns-in-Ok-clause-changes g c =

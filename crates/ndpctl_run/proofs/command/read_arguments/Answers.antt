@@ -1,7 +1,7 @@
 use Rattle.std.proofs.Common.{Some, ap, refl, sym}
 use Rattle.nd_chronicle.specs.Event as events
 use Rattle.nd_node.specs.Event.{clearable_of, table_of}
-use Rattle.ndpctl_run.specs.declared.command.Command.TheVariants.{Rx, Send, Confirm, Forget, Clear, Show, Advertise, Prefix, Route}
+use Rattle.ndpctl_run.specs.declared.command.Command.TheVariants.{Rx, Send, Confirm, Forget, Clear, Show, Advertise, Prefix, Route, Address, Withdraw}
 use Rattle.ndpctl_run.specs.Bytes.{IsBytesWord}
 use Rattle.ndpctl_run.specs.Packet.{IsPacket}
 use Rattle.ndpctl_run.proofs.CommandWords.{of_command}
@@ -78,3 +78,13 @@ returns-in-Some-read_route-clause-malformed g c = λ none.
     let kept = c.in-Some-read_route.route in
     let event = events.Routes kept.prefix kept.route in
     absurd (none event (of_command Route c.args.command c.args.words.now event (sym c.in-Route.is) (kept.prefix, kept.route, refl, c.in-Some-read_route.ensures.found)))
+
+pub returns-in-Some-read_own_address-clause-malformed : goal.returns-in-Some-read_own_address-clause-malformed
+returns-in-Some-read_own_address-clause-malformed g c = λ none.
+    let own = c.in-Some-read_own_address.own in
+    absurd (none (events.Sets own) (of_command Address c.args.command c.args.words.now (events.Sets own) (sym c.in-Address.is) (own, refl, c.in-Some-read_own_address.ensures.found)))
+
+pub returns-in-Some-read_address-3-clause-malformed : goal.returns-in-Some-read_address-3-clause-malformed
+returns-in-Some-read_address-3-clause-malformed g c = λ none.
+    let address = c.in-Some-read_address-3.address in
+    absurd (none (events.Withdraws address) (of_command Withdraw c.args.command c.args.words.now (events.Withdraws address) (sym c.in-Withdraw.is) (address, refl, c.in-Some-read_address-3.ensures.found)))
