@@ -134,6 +134,16 @@ def check_router(program, what="router"):
     check_last_line(what, [program, *ROUTER], with_a_moment(text))
 
 
+def check_global(program, what="global"):
+    """Requires that the router with a global address sends and takes for its frames what the same router does by `ndpctl run`."""
+    text = read(f"{TOP}/examples/global.hex")
+    said = check_runs(what, [program, *ROUTER], text)
+    done = [line for line in read(f"{TOP}/examples/scripts/global.output").splitlines() if line.split()[1] in ("tx", "up", "assigned")]
+    wanted = read(f"{TOP}/examples/global.txt")
+    report_if(f"{what} prints the expected text", said == wanted and wanted.splitlines()[:len(done)] == done, said)
+    check_last_line(what, [program, *ROUTER], with_a_moment(text))
+
+
 def check_traces(program, what="trace"):
     """Runs the rows of `ndpctl run` over the library, and compares what it prints with their texts."""
     wrong = []
@@ -302,6 +312,9 @@ def check_examples(room, archive):
     router = build(room, "router", [f"{TOP}/examples/c/router.c", HEAP, archive])
     if router:
         check_router(router)
+    with_global = build(room, "global", [f"{TOP}/examples/c/global.c", HEAP, archive])
+    if with_global:
+        check_global(with_global)
     loop = build(room, "loop", [f"{TOP}/examples/c/loop.c", HEAP, archive])
     if loop and not os.environ.get("ND_LIVE"):
         skip("loop on a TAP device", "it takes the kernel's time: ND_LIVE=1 runs it")

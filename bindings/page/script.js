@@ -5,7 +5,7 @@ const KINDS = ['', 'tx', 'heard', 'drop', 'up', 'duplicate', 'assigned', 'ended 
 const [TX, HEARD, DROP, UP, LOST, REFUSAL] = [1, 2, 3, 4, 10, 11];
 const MESSAGE_NAMES = ['rs', 'ra', 'ns', 'na', 'redirect'];
 const LOSSES = ['', 'unreachable', 'replaced', 'forgotten', 'no-route', 'hop-limit'];
-const REFUSALS = ['', 'wrong-role', 'disabled', 'not-ours', 'too-long', 'full'];
+const REFUSALS = ['', 'wrong-role', 'disabled', 'not-ours', 'too-long', 'full', '', '', 'tentative'];
 const LIMITS = ['', 'neighbours', 'routers', 'prefixes', 'addresses', 'servers', 'names', 'offers', 'routes'];
 const REACHABILITIES = ['', 'incomplete', 'reachable', 'stale', 'delay', 'probe'];
 const STATES = ['', 'tentative', 'preferred', 'deprecated', 'duplicate'];
@@ -166,6 +166,14 @@ const EVENTS = {
         if (table < 1) throw new Malformed('no such table can be cleared');
         return node.call('nd_clear', now, new Narrow(table));
     },
+    address: (node, now, words) => {
+        const address = words.address();
+        const [valid_lifetime, preferred_lifetime] = [words.number(undefined, 4294967295), words.number(undefined, 4294967295)];
+        words.end();
+        node.write('own', { address, valid_lifetime, preferred_lifetime });
+        return node.call('nd_add_address', now, node.at);
+    },
+    withdraw: ofAddress('nd_remove_address'),
     advertise: (node, now, words) => {
         const min_interval = words.number(), max_interval = words.number(undefined, 600), lifetime = words.number(undefined, 3n * max_interval);
         const hop_limit = Number(words.number(256n)), flags = words.flags('mohl');

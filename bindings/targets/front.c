@@ -93,16 +93,18 @@ static void get_fields(void *to, uint32_t at, const char *fields)
 #define LIMITS "2222222222222222"
 #define OPTIONS "4m11488" LIMITS
 #define COUNTS "4444444444" LIMITS
+#define OWN_ADDRESS "a44"
 #define ADVERTISING "44444411114"
 #define OFFER "a4441111"
 #define ROUTE "aa44"
 #define HEARD "aaaa44444444411111111"
 #define OUT "884444a"
 
-_Static_assert(sizeof(nd_limits) == 32 && sizeof(nd_options) == 64 && sizeof(nd_advertising) == 32 && sizeof(nd_offer_row) == 32 &&
-                   sizeof(nd_route_row) == 40 && sizeof(nd_heard) == 108 && sizeof(nd_neighbour_row) == 32 && sizeof(nd_router_row) == 32 &&
-                   sizeof(nd_prefix_row) == 32 && sizeof(nd_address_row) == 40 && sizeof(nd_server_row) == 24 && sizeof(nd_name_row) == 272 &&
-                   sizeof(nd_redirect_row) == 32 && sizeof(nd_parameters_row) == 24 && sizeof(nd_counts_row) == 72 && sizeof(nd_next_hop_row) == 24,
+_Static_assert(sizeof(nd_limits) == 32 && sizeof(nd_options) == 64 && sizeof(nd_own_address) == 24 && sizeof(nd_advertising) == 32 &&
+                   sizeof(nd_offer_row) == 32 && sizeof(nd_route_row) == 40 && sizeof(nd_heard) == 108 && sizeof(nd_neighbour_row) == 32 &&
+                   sizeof(nd_router_row) == 32 && sizeof(nd_prefix_row) == 32 && sizeof(nd_address_row) == 40 && sizeof(nd_server_row) == 24 &&
+                   sizeof(nd_name_row) == 272 && sizeof(nd_redirect_row) == 32 && sizeof(nd_parameters_row) == 24 && sizeof(nd_counts_row) == 72 &&
+                   sizeof(nd_next_hop_row) == 24,
                "structures have no padding");
 
 /* ---- calls ----------------------------------------------------------------------------------- */
@@ -257,6 +259,20 @@ int32_t nd_clear(nd_node *node, uint64_t now, uint32_t table)
     return leave(node, MODULE(nd_clear)(&module, slot, now, table));
 }
 
+int32_t nd_add_address(nd_node *node, uint64_t now, const nd_own_address *own)
+{
+    enter(node);
+    put_fields(structure, own, OWN_ADDRESS);
+    return leave(node, MODULE(nd_add_address)(&module, slot, now, structure));
+}
+
+int32_t nd_remove_address(nd_node *node, uint64_t now, const nd_addr *address)
+{
+    enter(node);
+    put(first, address, sizeof *address);
+    return leave(node, MODULE(nd_remove_address)(&module, slot, now, first));
+}
+
 int32_t nd_advertise(nd_node *node, uint64_t now, const nd_advertising *settings)
 {
     enter(node);
@@ -346,7 +362,7 @@ int32_t nd_neighbour_of(nd_node *node, uint64_t now, const nd_addr *address, nd_
 ROW_AT(nd_neighbour_at, nd_neighbour_row, "am1144")
 ROW_AT(nd_router_at, nd_router_row, "8a44")
 ROW_AT(nd_prefix_at, nd_prefix_row, "8a44")
-ROW_AT(nd_address_at, nd_address_row, "88a44")
+ROW_AT(nd_address_at, nd_address_row, "88a41111")
 ROW_AT(nd_server_at, nd_server_row, "8a")
 ROW_AT(nd_name_at, nd_name_row, "844t")
 ROW_AT(nd_redirect_at, nd_redirect_row, "aa")

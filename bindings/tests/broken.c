@@ -2,7 +2,7 @@
 #include <stdlib.h>
 #include "nd.h"
 
-#define FAULTS 20 /* bindings/check reads it */
+#define FAULTS 22 /* bindings/check reads it */
 
 /* Returns true each second time if this is the fault. */
 static bool is_wrong(int fault)
@@ -92,6 +92,20 @@ WRAP(int32_t, nd_send, nd_node *node, uint64_t now, const nd_addr *from, const n
 WRAP(int32_t, nd_clear, nd_node *node, uint64_t now, uint32_t table)
 {
     return __real_nd_clear(node, now, is_wrong(16) && table == 0 ? 1 : table);
+}
+
+WRAP(int32_t, nd_add_address, nd_node *node, uint64_t now, const nd_own_address *own)
+{
+    nd_own_address other = *own;
+    if (own->address.bytes[0] == 0xff && is_wrong(21))
+        other.address.bytes[0] = 0xfd;
+    return __real_nd_add_address(node, now, &other);
+}
+
+WRAP(int32_t, nd_remove_address, nd_node *node, uint64_t now, const nd_addr *address)
+{
+    int32_t status = __real_nd_remove_address(node, now, address);
+    return status == ND_DONE && is_wrong(22) ? ND_NOTHING : status;
 }
 
 WRAP(int32_t, nd_offer, nd_node *node, uint64_t now, const nd_offer_row *offer)

@@ -43,7 +43,8 @@ static void closed(nd_node *node)
     require(heap_blocks == 0, "all memory is given back");
 }
 
-/* Has a router advertise, and calls for more offers and routes than it takes. The first route is to the router of frames.py, for all packets. */
+/* Has a router advertise, and calls for more offers, routes and addresses than it takes. The first route is to the router of frames.py, for all
+ * packets. */
 static void call_for_rows(nd_node *node, size_t *most)
 {
     const nd_advertising settings = {.min_interval = 200, .max_interval = 600, .lifetime = 1800, .hop_limit = 64};
@@ -52,7 +53,9 @@ static void call_for_rows(nd_node *node, size_t *most)
         const nd_addr prefix = {{0x20, 1, 0xd, 0xb8, 1, (uint8_t)i}}, none = {{0}};
         const nd_offer_row offer = {.prefix = prefix, .bits = 64, .valid_lifetime = 9, .preferred_lifetime = 9};
         const nd_route_row route = {.prefix = i == 0 ? none : prefix, .bits = i == 0 ? 0 : 64, .hop = ND_HOP_VIA, .router = router};
+        const nd_own_address own = {{{0x20, 1, 0xd, 0xb8, 0xff, 0xff, [15] = (uint8_t)i}}, ND_LIFETIME_INFINITE, ND_LIFETIME_INFINITE};
         require(nd_offer(node, OPENED_AT, &offer) >= 0 && nd_route(node, OPENED_AT, &route) >= 0, "nd_offer and nd_route");
+        require(nd_add_address(node, OPENED_AT, &own) >= 0, "nd_add_address");
         hold(node, most);
     }
     require(nd_advertise(node, OPENED_AT, &settings) == ND_DONE && nd_turn(node, OPENED_AT) == ND_DONE, "nd_advertise");

@@ -10,8 +10,8 @@
 enum { LONGEST_INPUT = 1024, STATUSES = 8, KINDS = 12 };
 
 /* The calls by the value of a byte, the frequent ones more often. */
-static const enum call OFTEN[] = {TURN, TURN, RECEIVE, RECEIVE, RECEIVE, RECEIVE, RECEIVE, RECEIVE, SEND, SEND, CONFIRM, FORGET, CLEAR, NEXT_HOP,
-                                  ADVERTISE, OFFER, ROUTE, STOP};
+static const enum call OFTEN[] = {TURN,  TURN,        RECEIVE,        RECEIVE,  RECEIVE,   RECEIVE, RECEIVE, RECEIVE, SEND, SEND, CONFIRM, FORGET,
+                                  CLEAR, ADD_ADDRESS, REMOVE_ADDRESS, NEXT_HOP, ADVERTISE, OFFER,   ROUTE,   STOP};
 
 static size_t done[CALLS][STATUSES], kinds[KINDS], inputs;
 static nd_node node;
@@ -42,6 +42,8 @@ static int32_t act(enum call call, uint64_t at)
     case CONFIRM: return nd_confirm(&node, at, &with.one);
     case FORGET: return nd_forget(&node, at, &with.one);
     case CLEAR: return nd_clear(&node, at, with.number);
+    case ADD_ADDRESS: return nd_add_address(&node, at, &with.own);
+    case REMOVE_ADDRESS: return nd_remove_address(&node, at, &with.one);
     case NEXT_HOP: return nd_next_hop(&node, at, &with.one, &hop);
     case ADVERTISE: return nd_advertise(&node, at, &with.settings);
     case OFFER: return nd_offer(&node, at, &with.offer);
@@ -56,8 +58,8 @@ static bool is_allowed(enum call call, int32_t status)
 {
     if (call >= ADVERTISE && call <= STOP && options.role == ND_ROLE_HOST)
         return status == ND_REFUSED;
-    return status == ND_DONE || (status == ND_REFUSED && (call == RECEIVE || call == SEND || call == OFFER || call == ROUTE)) ||
-           (status == ND_NOTHING && call == NEXT_HOP);
+    bool may_be_refused = call == RECEIVE || call == SEND || call == ADD_ADDRESS || call == OFFER || call == ROUTE;
+    return status == ND_DONE || (status == ND_REFUSED && may_be_refused) || (status == ND_NOTHING && call == NEXT_HOP);
 }
 
 /* ---- what is required ------------------------------------------------------------------------ */
@@ -240,8 +242,8 @@ int LLVMFuzzerTestOneInput(const uint8_t *bytes, size_t length)
 }
 
 #ifndef FUZZER
-static const char *const NAMES[CALLS] = {"turn",      "receive", "send",  "confirm", "forget", "clear", "next_hop",
-                                         "advertise", "offer",   "route", "stop",    "open",   "close"};
+static const char *const NAMES[CALLS] = {"turn",     "receive",   "send",  "confirm", "forget", "clear", "add_address", "remove_address",
+                                         "next_hop", "advertise", "offer", "route",   "stop",   "open",  "close"};
 static uint64_t seed;
 
 static void name_seed(void)

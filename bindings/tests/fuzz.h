@@ -5,7 +5,7 @@
 #include "tables.h"
 
 enum { LONGEST = 2048 };
-enum call { TURN, RECEIVE, SEND, CONFIRM, FORGET, CLEAR, NEXT_HOP, ADVERTISE, OFFER, ROUTE, STOP, OPEN, CLOSE, CALLS };
+enum call { TURN, RECEIVE, SEND, CONFIRM, FORGET, CLEAR, ADD_ADDRESS, REMOVE_ADDRESS, NEXT_HOP, ADVERTISE, OFFER, ROUTE, STOP, OPEN, CLOSE, CALLS };
 
 static const nd_addr ALL_NODES = {{0xff, 2, [15] = 1}}, ALL_ROUTERS = {{0xff, 2, [15] = 2}};
 /* The solicited-node address of LINK_LOCAL. */
@@ -167,6 +167,7 @@ static struct {
     uint8_t bytes[LONGEST];
     size_t length;
     nd_addr one, other;
+    nd_own_address own;
     nd_advertising settings;
     nd_offer_row offer;
     nd_route_row route;
@@ -179,6 +180,14 @@ static bool is_good_advertising(const nd_advertising *s)
     return s->max_interval >= 4 && s->max_interval <= 1800 && s->min_interval >= 3 && 4 * (uint64_t)s->min_interval <= 3 * s->max_interval &&
            (s->lifetime == 0 || (s->lifetime >= s->max_interval && s->lifetime <= 9000)) && s->reachable_time <= 3600000 &&
            (s->mtu == 0 || (s->mtu >= 1280 && s->mtu <= 1500)) && s->preference <= (s->lifetime > 0 ? 2 : 0);
+}
+
+/* Returns true if an interface may have an address by hand, with these lifetimes. */
+static bool is_good_own(const nd_own_address *own)
+{
+    static const nd_addr unspecified = {{0}}, loopback = {{[15] = 1}};
+    return own->address.bytes[0] != 0xff && memcmp(&own->address, &unspecified, sizeof unspecified) != 0 &&
+           memcmp(&own->address, &loopback, sizeof loopback) != 0 && own->valid_lifetime > 0 && own->preferred_lifetime <= own->valid_lifetime;
 }
 
 static void prepare_router(enum call call)
@@ -212,6 +221,10 @@ static void prepare(enum call call)
         with.length = LENGTHS[below(8)], with.one = once_in(4) ? with.one : LINK_LOCAL;
     else if (call == CLEAR)
         with.number = below(7), with.are_good = with.number >= ND_CLEARABLE_NEIGHBOURS && with.number <= ND_CLEARABLE_DNS;
+    else if (call == ADD_ADDRESS) {
+        with.own = (nd_own_address){with.one, mostly(1800), mostly(600)};
+        with.are_good = is_good_own(&with.own);
+    }
     prepare_router(call);
 }
 #endif

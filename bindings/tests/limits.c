@@ -32,11 +32,11 @@ static size_t (*const ROWS_OF[COUNTED])(nd_node *node, uint64_t now) = {
     rows_of_nd_name_at,      rows_of_nd_redirect_at, rows_of_nd_offer_at, rows_of_nd_route_at,
 };
 
-/* The tables that a node fills, by the order of the counts. The others have no row, but for the one address of a router. */
+/* The tables that a node fills, by the order of the counts. The others have no row. */
 static const bool FILLED[2][COUNTED] = {{true, true, true, true, true, true, true, false, false},
-                                        {true, false, false, false, false, false, false, true, true}};
+                                        {true, false, false, true, false, false, false, true, true}};
 
-enum { ADDRESSES = 3, OPENED_AT = 3000 };
+enum { OPENED_AT = 3000 };
 
 static void require_of(bool holds, const char *table, uint32_t role, const char *what)
 {
@@ -71,14 +71,16 @@ static void fill_waiting(nd_node *node, uint32_t role, size_t limit)
     require_of(lost(node, ND_LOSS_FORGOTTEN) == limit, "waiting", role, "as many are lost as the limit says");
 }
 
-/* Calls for one offer and for one route more than the greatest limits. */
+/* Calls for one offer, for one route and for one address more than the greatest limits. */
 static void call_for_rows(nd_node *node, uint64_t now, const nd_limits *asked)
 {
     for (unsigned i = 0; i <= 64; i++) {
         const nd_offer_row offer = {.prefix = {{0x20, 1, 0xd, 0xb8, 1, (uint8_t)i}}, .bits = 64, .valid_lifetime = 9, .preferred_lifetime = 9};
         const nd_route_row route = {.prefix = offer.prefix, .bits = 64, .hop = ND_HOP_DIRECT};
+        const nd_own_address own = {{{0x20, 1, 0xd, 0xb8, 0xff, 0xff, [15] = (uint8_t)i}}, ND_LIFETIME_INFINITE, ND_LIFETIME_INFINITE};
         require(i > 16 || nd_offer(node, now, &offer) >= 0, "nd_offer");
         require(nd_route(node, now, &route) >= 0, "nd_route");
+        require(nd_add_address(node, now, &own) >= 0, "nd_add_address");
         drain(node, FIRST_HASH);
         counts_within(node, now, asked);
     }
@@ -89,8 +91,8 @@ static void require_full(nd_node *node, uint32_t role, uint64_t now, const nd_li
 {
     const nd_counts_row counts = counts_within(node, now, asked);
     for (size_t i = 0; i < COUNTED; i++) {
-        uint32_t limit, count = count_of(&counts, i, &limit), others = role == ND_ROLE_ROUTER && i == ADDRESSES ? 1 : 0;
-        require_of(count == (FILLED[role][i] ? limit : others), TABLES[i], role, "there are as many rows as the limit says");
+        uint32_t limit, count = count_of(&counts, i, &limit);
+        require_of(count == (FILLED[role][i] ? limit : 0), TABLES[i], role, "there are as many rows as the limit says");
         require_of(count == ROWS_OF[i](node, now), TABLES[i], role, "they are counted");
     }
 }

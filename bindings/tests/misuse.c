@@ -14,9 +14,30 @@ static void is(const char *what, int64_t got, int64_t wanted)
     printf("%s: %lld, not %lld\n", what, (long long)got, (long long)wanted);
 }
 
+/* An address that a node may have by hand. */
+static const nd_own_address OWN = {{{0x20, 1, 0xd, 0xb8, [15] = 5}}, 20, 10};
+
 static int32_t open_with(nd_node *node, nd_options options)
 {
     return nd_open(node, &options, sizeof options);
+}
+
+/* Addresses and lifetimes that no node may have by hand, at an open node and at a closed one. */
+static void refuse_own(nd_node *node, uint64_t now)
+{
+    static const nd_addr wrong_ones[] = {{{0xff, 2, [15] = 1}}, {{0xff}}, {{0}}, {{[15] = 1}}};
+    static const uint32_t lifetimes[][2] = {{0, 0}, {0, 10}, {20, 21}, {20, ND_LIFETIME_INFINITE}, {UINT32_MAX - 1, UINT32_MAX}};
+    nd_own_address own = OWN;
+    for (size_t i = 0; i < sizeof wrong_ones / sizeof *wrong_ones; i++) {
+        own.address = wrong_ones[i];
+        is("an address that is multicast, :: or ::1", nd_add_address(node, now, &own), ND_INVALID);
+    }
+    own = OWN;
+    for (size_t i = 0; i < sizeof lifetimes / sizeof *lifetimes; i++) {
+        own.valid_lifetime = lifetimes[i][0];
+        own.preferred_lifetime = lifetimes[i][1];
+        is("a valid lifetime of 0, or a preferred one above it", nd_add_address(node, now, &own), ND_INVALID);
+    }
 }
 
 static void try_closed(nd_node *node)
@@ -32,6 +53,9 @@ static void try_closed(nd_node *node)
     is("a row of a closed node", nd_neighbour_at(node, 0, 0, &neighbour), ND_CLOSED);
     is("a next hop of a closed node", nd_next_hop(node, 0, &LINK_LOCAL, &hop), ND_CLOSED);
     is("a stop of a closed node", nd_stop(node, 0), ND_CLOSED);
+    is("an address for a closed node", nd_add_address(node, 0, &OWN), ND_CLOSED);
+    is("an address that is removed from a closed node", nd_remove_address(node, 0, &OWN.address), ND_CLOSED);
+    refuse_own(node, 0);
     is("what is due at a closed node", nd_next_due(node) == UINT64_MAX, true);
     is("the last moment of a closed node", nd_last_moment(node) == UINT64_MAX, true);
     is("a closed node and a moment that is none", nd_turn(node, ND_MOMENT_LIMIT), ND_INVALID);
@@ -244,6 +268,74 @@ static void try_host(nd_node *node)
     is("a role that is none", nd_hear(payload, 14, 2, &heard), ND_INVALID);
 }
 
+/* Requires that an address is shown first, with these lifetimes left, in seconds, and given by hand. */
+static void show_own(nd_node *node, uint64_t valid, uint64_t preferred)
+{
+    static const uint8_t none[3] = {0};
+    nd_address_row row;
+    is("an address by hand is shown", nd_address_at(node, 2000, 0, &row), ND_DONE);
+    is("it is that one", memcmp(&row.address, &OWN.address, sizeof row.address), 0);
+    is("it is tentative", row.state, ND_STATE_TENTATIVE);
+    is("it is given by hand", row.by_hand, 1);
+    is("nothing is in its reserved field", memcmp(row.reserved, none, sizeof none), 0);
+    is("it has its valid lifetime", row.valid_left == 1000 * valid, true);
+    is("and its preferred one", row.preferred_left == 1000 * preferred, true);
+}
+
+/* Addresses by hand at a node whose link-local address is assigned, and which shows no other. */
+static void try_addresses(nd_node *node)
+{
+    nd_own_address own = OWN;
+    nd_address_row row;
+    nd_out out;
+    uint8_t buffer[ND_BUFFER_BYTES];
+    refuse_own(node, 2000);
+    is("an address at a moment that is none", nd_add_address(node, ND_MOMENT_LIMIT, &OWN), ND_INVALID);
+    is("an address of the past", nd_add_address(node, 1999, &OWN), ND_PAST);
+    is("an address that is removed in the past", nd_remove_address(node, 1999, &OWN.address), ND_PAST);
+    is("an address that is not there is removed", nd_remove_address(node, 2000, &OWN.address), ND_DONE);
+    is("no record", nd_poll(node, &out, buffer, sizeof buffer), ND_NOTHING);
+    is("an address by hand", nd_add_address(node, 2000, &OWN), ND_DONE);
+    show_own(node, OWN.valid_lifetime, OWN.preferred_lifetime);
+    is("what it makes due", nd_turn(node, 2000), ND_DONE);
+    is("is a record", nd_poll(node, &out, buffer, sizeof buffer), ND_DONE);
+    is("of a solicitation", out.kind == ND_OUT_FRAME && buffer[54] == 135, true);
+    own.valid_lifetime = own.preferred_lifetime = 7;
+    is("other lifetimes", nd_add_address(node, 2000, &own), ND_DONE);
+    show_own(node, 7, 7);
+    is("have no record", nd_poll(node, &out, buffer, sizeof buffer), ND_NOTHING);
+    is("the link-local address", nd_address_at(node, 2000, 1, &row), ND_DONE);
+    own.address = row.address;
+    is("is given by hand", nd_add_address(node, 2000, &own), ND_DONE);
+    is("and removed", nd_remove_address(node, 2000, &own.address), ND_DONE);
+    is("without a record", nd_poll(node, &out, buffer, sizeof buffer), ND_NOTHING);
+    is("it is there still", nd_address_at(node, 2000, 1, &row), ND_DONE);
+    is("without an end", row.valid_left == ND_FOREVER, true);
+    is("and not by hand", row.by_hand, 0);
+    is("the address is removed", nd_remove_address(node, 2000, &OWN.address), ND_DONE);
+    is("which has a record", nd_poll(node, &out, buffer, sizeof buffer), ND_DONE);
+    is("of its end", out.kind == ND_OUT_ENDED_ADDRESS && memcmp(&out.address, &OWN.address, sizeof out.address) == 0, true);
+    is("the link-local address alone is there", nd_address_at(node, 2000, 1, &row), ND_NOTHING);
+}
+
+/* Addresses by hand that are refused: before the link-local address is assigned, and where the table is full. */
+static void try_refused_addresses(nd_node *node, uint32_t role)
+{
+    nd_options options = host_options();
+    options.role = role;
+    options.limits.addresses = 1;
+    is("an open with one address", open_with(node, options), ND_DONE);
+    is("what is due at its start", nd_turn(node, 0), ND_DONE);
+    drain(node, FIRST_HASH);
+    is("an address before the link-local one is assigned", nd_add_address(node, 999, &OWN), ND_REFUSED);
+    is("its reason", refusal(node), ND_REFUSAL_TENTATIVE);
+    is("the link-local address is assigned", nd_turn(node, 2000), ND_DONE);
+    drain(node, FIRST_HASH);
+    is("a second address", nd_add_address(node, 2000, &OWN), ND_REFUSED);
+    is("its reason", refusal(node), ND_REFUSAL_FULL);
+    nd_close(node);
+}
+
 static void try_router(nd_node *node)
 {
     nd_options options = host_options();
@@ -298,6 +390,9 @@ static void try_router(nd_node *node)
     is("a route to nowhere", nd_route(node, 2000, &route), ND_INVALID);
     is("there is no offer", nd_offer_at(node, 2000, 0, &offer), ND_NOTHING);
     is("there is no route", nd_route_at(node, 2000, 0, &route), ND_NOTHING);
+    is("what is due at a router", nd_turn(node, 2000), ND_DONE);
+    drain(node, FIRST_HASH);
+    try_addresses(node);
     nd_close(node);
 }
 
@@ -312,6 +407,7 @@ int main(void)
     try_options(&node);
     try_moments(&node);
     try_host(&node);
+    try_addresses(&node);
     moved = node; /* from here on the node is in its new place */
     is("a node that was moved", nd_turn(&moved, 2001), ND_DONE);
     nd_close(&moved);
@@ -319,6 +415,9 @@ int main(void)
     try_closed(&moved);
     try_router(&moved);
     is("closing a router gives all memory back", (int64_t)heap_blocks, 0);
+    try_refused_addresses(&moved, ND_ROLE_HOST);
+    try_refused_addresses(&moved, ND_ROLE_ROUTER);
+    is("closing them gives all memory back", (int64_t)heap_blocks, 0);
     printf("%d answers, %d wrong\n", tried, wrong);
     return wrong > 0;
 }

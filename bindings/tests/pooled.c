@@ -185,6 +185,19 @@ static void advertise_router(size_t i, size_t seconds)
     receive(framed(router, ALL_NODES, ICMP, at + 32 - HEADERS));
 }
 
+/* Gives the node an address by hand, which ends after `seconds`, if there is room for it. */
+static void give_address(size_t i, uint32_t seconds)
+{
+    const nd_own_address own = {{{0x20, 1, 0xd, 0xb8, 8, (uint8_t)i, [15] = 1}}, seconds, seconds};
+    called(nd_add_address(&node, now, &own));
+}
+
+static void remove_address(size_t i)
+{
+    const nd_addr address = {{0x20, 1, 0xd, 0xb8, 8, (uint8_t)i, [15] = 1}};
+    called(nd_remove_address(&node, now, &address));
+}
+
 /* Receives an advertisement of a neighbour, which is an answer with its link-layer address. */
 static void resolve(const uint8_t *neighbour)
 {
@@ -346,15 +359,18 @@ static void (*const EVENTS[])(void) = {turn, short_names, long_names, deliver_lo
 
 enum { EVENT_COUNT = sizeof EVENTS / sizeof *EVENTS };
 
-/* Has all neighbours fail, by turns too, in the call of each event. At a host routers and addresses end then. */
+/* Has all neighbours fail, by turns too, in the call of each event. Addresses end then, those of a router by hand, and routers at a host. */
 static void fail_again(void)
 {
     for (size_t i = 0; i < 2 * EVENT_COUNT; i++) {
         remove_names();
         clear(ND_CLEARABLE_ROUTERS);
         clear(ND_CLEARABLE_PREFIXES);
-        for (size_t k = 0; k < 64; k++)
+        for (size_t k = 0; k < 64; k++) {
+            if (role == ND_ROLE_ROUTER || k % 4 == 0)
+                give_address(k, 2);
             advertise_router(k, 2);
+        }
         pass(now + 2000 - lesser(3 * retrans, 2000), i % 2);
         fail_all(i < EVENT_COUNT ? 0 : neighbours / 2, EVENTS[i % EVENT_COUNT]);
         pass(now + 5, 0);
@@ -458,6 +474,12 @@ static void do_some(void)
         return;
     case 8:
         configure();
+        return;
+    case 9:
+        give_address(below(70), 1 + (uint32_t)below(4));
+        return;
+    case 10:
+        remove_address(below(70));
         return;
     default:
         send_to(i, some_length());

@@ -48,6 +48,20 @@ static void send_again(nd_node *node, uint64_t now, size_t i)
     require(status >= 0 && nd_last_moment(node) == now, "nd_send");
 }
 
+/* Gives the node an address by hand, takes another one back, and lets the first one be tried. */
+static void give_address_again(nd_node *node, uint64_t now)
+{
+    const nd_own_address own = {{{0x20, 1, 0xd, 0xb8, 0, 0x55, [15] = 1}}, 3600, 1800};
+    const nd_own_address other = {{{0x20, 1, 0xd, 0xb8, 0, 0x55, [15] = 2}}, 3600, 1800};
+    int32_t status;
+    RETRIED(status, nd_add_address(node, now, &own));
+    require(status == ND_DONE, "nd_add_address");
+    RETRIED(status, nd_add_address(node, now, &other));
+    require(status == ND_DONE, "nd_add_address");
+    RETRIED(status, nd_remove_address(node, now, &other.address));
+    require(status == ND_DONE && nd_last_moment(node) == now, "nd_remove_address");
+}
+
 /* Asks for the events of a router. A host refuses them. */
 static void advertise_again(nd_node *node, uint64_t now)
 {
@@ -108,6 +122,7 @@ static uint64_t run(size_t refuse)
     open_again(&node);
     turn_again(&node, now);
     advertise_again(&node, now);
+    give_address_again(&node, now);
     hash = drain(&node, hash);
     for (size_t i = 0; i < count; i++) {
         now += APART;

@@ -74,6 +74,18 @@ static int32_t forget(nd_node *node, const char *digits)
     return nd_forget(node, BUSY_AT, &neighbour);
 }
 
+static int32_t add_address(nd_node *node, const char *digits)
+{
+    const nd_own_address own = {address_of(digits), 3600, 1800};
+    return nd_add_address(node, BUSY_AT, &own);
+}
+
+static int32_t remove_address(nd_node *node, const char *digits)
+{
+    const nd_addr address = address_of(digits);
+    return nd_remove_address(node, BUSY_AT, &address);
+}
+
 static int32_t clear(nd_node *node, const char *number)
 {
     return nd_clear(node, BUSY_AT, (uint32_t)strtoul(number, NULL, 10));
@@ -113,6 +125,7 @@ static int32_t stop(nd_node *node, const char *nothing)
 #define FIRST "fe80000000000000000000fffe000001"
 #define WAITED_FOR "20010db8000000000000000000000001"
 #define OF_NONE "fe800000000000000000000000000077"
+#define FORMED "20010db800000000365678fffe9abcde"
 
 static const struct event AT_HOST[] = {
     {"an advertisement with a new router, prefix, server and search name", receive, "ADVERTISEMENT_OF_ALL_THAT_IS_NEW", false},
@@ -131,6 +144,9 @@ static const struct event AT_HOST[] = {
     {"a packet to ff02::1", send_to, "ff020000000000000000000000000001", false},
     {"a packet without a next hop", send_to, "00000000000000000000000000000001", false},
     {"a neighbour with packets that is forgotten", forget, WAITED_FOR, false},
+    {"a new address by hand", add_address, NEW, false},
+    {"lifetimes by hand of an address that was formed", add_address, FORMED, false},
+    {"an address that is removed", remove_address, FORMED, false},
     {"the neighbours are cleared", clear, "1", false},
     {"the default routers are cleared", clear, "2", false},
     {"a second passes", turn, "1000", true},
@@ -148,6 +164,7 @@ static const struct event AT_ROUTER[] = {
     {"a packet that is sent to a new neighbour", send_to, NEW, false},
     {"a prefix is offered", offer, "20010db8000600000000000000000000", false},
     {"a route is put", route, "20010db8000600000000000000000000", false},
+    {"a new address by hand", add_address, NEW, false},
     {"other settings", advertise, "1800", false},
     {"the last advertisement", stop, NULL, false},
     {"the neighbours are cleared", clear, "1", false},
@@ -173,6 +190,9 @@ static const struct event WITHOUT_MEMORY_AT_HOST[] = {
     {"the prefixes are cleared", clear, "3", false},
     {"the Redirects are cleared", clear, "4", false},
     {"the servers and names are cleared", clear, "5", false},
+    {"a new address by hand", add_address, NEW, false},
+    {"lifetimes by hand of an address that was formed", add_address, FORMED, false},
+    {"an address that is removed", remove_address, FORMED, false},
 };
 
 /* Events that are refused without memory: those of AddsRefusal. */
@@ -196,6 +216,8 @@ static const struct event WITHOUT_MEMORY_AT_ROUTER[] = {
     {"a confirmation", confirm, "fe80000000000000365678fffe9abcde", false},
     {"a neighbour with packets that is forgotten", forget, "20010db8000000000000000000000009", false},
     {"no neighbour that is forgotten", forget, OF_NONE, false},
+    {"a new address by hand", add_address, NEW, false},
+    {"no address that is removed", remove_address, OF_NONE, false},
 };
 
 /* ---- what is required ------------------------------------------------------------------------ */

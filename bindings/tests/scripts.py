@@ -18,6 +18,8 @@ def command(choice):
     lines += [f"advertise {choice.choice(['3 4 -', '200 600 1800', '3 - 0'])} {choice.choice(['0', '64'])} {choice.choice(['-', 'm', 'mo'])} 0 1000 1400"]
     lines += [f"prefix 2001:db8:{choice.randrange(20):x}::/{bits} {choice.choice(['3600 1800', '- -', '0 0'])} {choice.choice(['-', 'l', 'a', 'la'])}"] * 3
     lines += [f"route {choice.choice(FAR[:4])}/{bits} {choice.choice(['direct', 'fe80::2', frames.link_local(frames.ROUTER_MAC)])}"] * 3
+    hand = choice.choice(["2001:db8:1::9", "2001:db8:1::a", "2001:db8:1:0:3656:78ff:fe9a:bcde", frames.HOST])
+    lines += [f"address {hand} {choice.choice(['- -', '- 0', '60 30', '7200 7200', '1 1'])}"] * 2 + [f"withdraw {hand}"]
     return choice.choice([*lines, "stop", f"show {choice.choice(TABLES)}"])
 
 

@@ -68,6 +68,8 @@ WRAP(int32_t, nd_hear, (const uint8_t *frame, size_t length, uint32_t role, nd_h
 WRAP_EVENT(nd_confirm, const nd_addr *)
 WRAP_EVENT(nd_forget, const nd_addr *)
 WRAP_EVENT(nd_clear, uint32_t)
+WRAP_EVENT(nd_add_address, const nd_own_address *)
+WRAP_EVENT(nd_remove_address, const nd_addr *)
 WRAP_EVENT(nd_advertise, const nd_advertising *)
 WRAP_EVENT(nd_offer, const nd_offer_row *)
 WRAP_EVENT(nd_route, const nd_route_row *)

@@ -21,7 +21,7 @@ static size_t longest = ND_BUFFER_BYTES;
 /* ---- words ----------------------------------------------------------------------------------- */
 
 static const char *const LOSSES[] = {"", "unreachable", "replaced", "forgotten", "no-route", "hop-limit"};
-static const char *const REFUSALS[] = {"", "wrong-role", "disabled", "not-ours", "too-long", "full"};
+static const char *const REFUSALS[] = {"", "wrong-role", "disabled", "not-ours", "too-long", "full", "", "", "tentative"};
 static const char *const LIMITS[] = {"", "neighbours", "routers", "prefixes", "addresses", "servers", "names", "offers", "routes"};
 static const char *const MESSAGES[] = {"rs", "ra", "ns", "na", "redirect"};
 static const char *const REACHABILITIES[] = {"", "incomplete", "reachable", "stale", "delay", "probe"};
@@ -386,6 +386,15 @@ static size_t read_hex(uint8_t *bytes, size_t room)
     return strcmp(digits, "-") == 0 ? 0 : bytes_of(digits, bytes, room);
 }
 
+static int32_t add_address(uint64_t now)
+{
+    nd_own_address own;
+    own.address = read_address(word());
+    own.valid_lifetime = (uint32_t)number_or(ND_LIFETIME_INFINITE);
+    own.preferred_lifetime = (uint32_t)number_or(ND_LIFETIME_INFINITE);
+    return nd_add_address(&node, now, &own);
+}
+
 static int32_t advertise(uint64_t now)
 {
     nd_advertising settings = {0};
@@ -477,6 +486,10 @@ static int32_t event(uint64_t now, const char *verb)
         return of_address(nd_forget, now);
     if (strcmp(verb, "clear") == 0)
         return clear(now);
+    if (strcmp(verb, "address") == 0)
+        return add_address(now);
+    if (strcmp(verb, "withdraw") == 0)
+        return of_address(nd_remove_address, now);
     if (strcmp(verb, "advertise") == 0)
         return advertise(now);
     if (strcmp(verb, "prefix") == 0)

@@ -3,7 +3,7 @@
 use crate::output::{report_of, Report};
 use crate::numbers::Clearable;
 use crate::raw;
-use crate::rows::{hop_of, Address, Hop, Name, Neighbour, Prefix, Redirect, Route, Router, Server};
+use crate::rows::{hop_of, Address, Hop, Name, Neighbour, OwnAddress, Prefix, Redirect, Route, Router, Server};
 use crate::{Advertising, Counts, Error, Offer, Options, Outcome, Parameters};
 use std::cell::UnsafeCell;
 use std::marker::PhantomData;
@@ -99,6 +99,20 @@ impl Node {
     /// Removes all rows of a table.
     pub fn clear(&mut self, now: u64, table: Clearable) -> Result<Outcome, Error> {
         outcome_of(unsafe { raw::nd_clear(self.slot.get(), now, table.into()) })
+    }
+
+    /// Gives the node an address by hand, or sets the lifetimes of one that it has. Duplicate detection is done for a new one: `Assigned` or
+    /// `Duplicate` is reported. Returns `Invalid` for an address or lifetimes that no node may have. Refused as `Tentative` while the link-local
+    /// address is not assigned, which itself stays as it is.
+    pub fn add_address(&mut self, now: u64, own: &OwnAddress) -> Result<Outcome, Error> {
+        let (address, valid_lifetime, preferred_lifetime) = (own.address.octets(), own.valid_lifetime, own.preferred_lifetime);
+        let own = raw::nd_own_address { address, valid_lifetime, preferred_lifetime };
+        outcome_of(unsafe { raw::nd_add_address(self.slot.get(), now, &own) })
+    }
+
+    /// Ends an address of the node, in whatever state it is. The link-local one stays.
+    pub fn remove_address(&mut self, now: u64, address: Ipv6Addr) -> Result<Outcome, Error> {
+        outcome_of(unsafe { raw::nd_remove_address(self.slot.get(), now, &address.octets()) })
     }
 
     /// Returns where a packet for `destination` is sent now, after what is due: to the destination itself or through a router.

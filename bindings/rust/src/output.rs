@@ -17,6 +17,8 @@ pub enum Refusal {
     TooLong,
     /// The table would pass its limit.
     Full(Limit),
+    /// The link-local address is not assigned yet (RFC 4862, 5.4).
+    Tentative,
     /// A number of a later version.
     Other(u32),
 }
@@ -36,7 +38,7 @@ pub enum Output<Bytes> {
     Duplicate(Ipv6Addr),
     /// The node's address may be used.
     Assigned(Ipv6Addr),
-    /// The node's address is gone.
+    /// The node's address is gone: its valid lifetime has ended, or it was removed.
     EndedAddress(Ipv6Addr),
     /// The router left the default router list.
     EndedRouter(Ipv6Addr),
@@ -64,6 +66,7 @@ fn refusal_of(out: &nd_out) -> Refusal {
         3 => Refusal::NotOurs(Ipv6Addr::from(out.address)),
         4 => Refusal::TooLong,
         5 => Refusal::Full(Limit::from(out.limit)),
+        8 => Refusal::Tentative,
         code => Refusal::Other(code),
     }
 }

@@ -69,6 +69,14 @@ pub struct nd_out {
 
 #[repr(C)]
 #[derive(Clone, Copy, Debug, Default)]
+pub struct nd_own_address {
+    pub address: nd_addr,
+    pub valid_lifetime: u32,
+    pub preferred_lifetime: u32,
+}
+
+#[repr(C)]
+#[derive(Clone, Copy, Debug, Default)]
 pub struct nd_next_hop_row {
     pub address: nd_addr,
     pub hop: u32,
@@ -148,7 +156,8 @@ pub struct nd_address_row {
     pub valid_left: u64,
     pub address: nd_addr,
     pub state: u32,
-    pub reserved: u32,
+    pub by_hand: u8,
+    pub reserved: [u8; 3],
 }
 
 #[repr(C)]
@@ -250,6 +259,8 @@ extern "C" {
     pub fn nd_confirm(node: *mut nd_node, now: u64, neighbour: *const nd_addr) -> i32;
     pub fn nd_forget(node: *mut nd_node, now: u64, neighbour: *const nd_addr) -> i32;
     pub fn nd_clear(node: *mut nd_node, now: u64, table: u32) -> i32;
+    pub fn nd_add_address(node: *mut nd_node, now: u64, own: *const nd_own_address) -> i32;
+    pub fn nd_remove_address(node: *mut nd_node, now: u64, address: *const nd_addr) -> i32;
     pub fn nd_next_hop(node: *mut nd_node, now: u64, destination: *const nd_addr, row: *mut nd_next_hop_row) -> i32;
     pub fn nd_advertise(node: *mut nd_node, now: u64, settings: *const nd_advertising) -> i32;
     pub fn nd_offer(node: *mut nd_node, now: u64, offer: *const nd_offer_row) -> i32;

@@ -41,6 +41,19 @@ pub struct Address {
     pub preferred_left: Option<u64>,
     /// In milliseconds; `None` has no end.
     pub valid_left: Option<u64>,
+    /// `add_address` set its lifetimes: no Router Advertisement renews it.
+    pub by_hand: bool,
+}
+
+/// An address that a node is given by hand (RFC 4862, 5.4).
+#[derive(Clone, Copy, Debug, PartialEq, Eq)]
+pub struct OwnAddress {
+    /// Not multicast, `::` or `::1`.
+    pub address: Ipv6Addr,
+    /// In seconds, not 0; `u32::MAX` has no end.
+    pub valid_lifetime: u32,
+    /// In seconds, not above `valid_lifetime`; `u32::MAX` has no end.
+    pub preferred_lifetime: u32,
 }
 
 /// A DNS server (RFC 8106, 5.1).
@@ -119,7 +132,7 @@ impl From<raw::nd_prefix_row> for Prefix {
 impl From<raw::nd_address_row> for Address {
     fn from(row: raw::nd_address_row) -> Address {
         let (preferred_left, valid_left) = (finite(row.preferred_left), finite(row.valid_left));
-        Address { address: row.address.into(), state: row.state.into(), preferred_left, valid_left }
+        Address { address: row.address.into(), state: row.state.into(), preferred_left, valid_left, by_hand: row.by_hand == 1 }
     }
 }
 

@@ -161,6 +161,46 @@ fn a_router_advertises() {
     assert_eq!(node.advertising(1000), Ok(None));
 }
 
+/// Takes all reports, and returns what they say besides frames.
+fn said(node: &mut Node) -> Vec<Output<Vec<u8>>> {
+    node.poll().map(|report| report.output).filter(|output| !matches!(output, Output::Frame(_))).collect()
+}
+
+#[test]
+fn an_address_is_given_by_hand_and_taken_back() {
+    for mut node in [host(), router()] {
+        let global = address("2001:db8::5");
+        let own = OwnAddress { address: global, valid_lifetime: 20, preferred_lifetime: u32::MAX };
+        assert_eq!(node.add_address(999, &own), Err(Error::Invalid));
+        let own = OwnAddress { preferred_lifetime: 10, ..own };
+        assert_eq!(node.add_address(999, &own), Ok(Outcome::Refused));
+        assert_eq!(said(&mut node), [Output::Refused(Refusal::Tentative)]);
+        assert_eq!(node.add_address(1000, &own), Ok(Outcome::Done));
+        let link_local = node.addresses(1000).unwrap().last().unwrap();
+        assert_eq!(said(&mut node), [Output::Assigned(link_local.address)]);
+        assert!(!link_local.by_hand);
+        let shown = Address { address: global, state: State::Tentative, preferred_left: Some(10_000), valid_left: Some(20_000), by_hand: true };
+        assert_eq!(node.addresses(1000).unwrap().next(), Some(shown));
+        assert_eq!(node.turn(2000), Ok(Outcome::Done));
+        assert_eq!(said(&mut node), [Output::Assigned(global)]);
+        let forever = OwnAddress { valid_lifetime: u32::MAX, preferred_lifetime: u32::MAX, ..own };
+        assert_eq!(node.add_address(2000, &forever), Ok(Outcome::Done));
+        let shown = Address { state: State::Preferred, preferred_left: None, valid_left: None, ..shown };
+        assert_eq!(node.addresses(2000).unwrap().next(), Some(shown));
+        assert_eq!(node.remove_address(2000, link_local.address), Ok(Outcome::Done));
+        assert_eq!(said(&mut node), []);
+        assert_eq!(node.remove_address(2000, global), Ok(Outcome::Done));
+        assert_eq!(said(&mut node), [Output::EndedAddress(global)]);
+        assert_eq!(node.addresses(2000).unwrap().count(), 1);
+    }
+}
+
+#[test]
+fn an_address_that_a_router_announces_is_not_given_by_hand() {
+    let node = informed();
+    assert!(node.addresses(node.last_moment()).unwrap().all(|own| !own.by_hand));
+}
+
 #[test]
 fn a_frame_is_heard_without_a_node() {
     let line = include_str!("../../../examples/host.hex").lines().nth(1).unwrap();

@@ -6,7 +6,7 @@ use Rattle.nd_chronicle.specs.Start.{Limits}
 -- room in reserve
 abbrev pub rows_bytes : Limits → ℕ
 rows_bytes limits =
-    72 * limits.neighbours + 65 * limits.routers + 40 * limits.prefixes + 64 * limits.addresses + 32 * limits.servers + 295 * limits.names
+    72 * limits.neighbours + 65 * limits.routers + 40 * limits.prefixes + 72 * limits.addresses + 32 * limits.servers + 295 * limits.names
     + 64 * (limits.redirects + limits.destinations) + 87 * limits.offers + 84 * limits.routes
 
 -- the blocks of dates of so many rows, besides the first one: none, or one, and two for each 32 rows before the last row

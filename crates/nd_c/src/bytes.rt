@@ -16,7 +16,7 @@ const ROUTER: usize = 65;
 
 const PREFIX: usize = 40;
 
-const ADDRESS: usize = 64;
+const ADDRESS: usize = 72;
 
 const SERVER: usize = 32;
 

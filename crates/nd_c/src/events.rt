@@ -6,11 +6,12 @@ ghost use Rattle.nd_node.specs.Event.{clearable_of};
 ghost use Rattle.nd_c.specs.Event.{Answers};
 ghost use Rattle.nd_c.specs.Status.{invalid};
 ghost use Rattle.nd_c_types.specs.Clearable.{clearable_in};
+ghost use Rattle.nd_c_types.specs.OwnAddress.{own_of};
 
 use crate::answer::{Given, answer};
 use crate::status::INVALID;
 use nd_addr::Addr;
-use nd_c_types::clearable_in;
+use nd_c_types::{OwnAddress, clearable_in};
 use nd_node::Event;
 use nd_session::Slot;
 use std::alloc::Global;
@@ -81,5 +82,32 @@ pub extern "C" fn nd_clear(alloc: Global, node: &mut Slot, now: u64, table: u32)
         return INVALID;
     };
     let event = Event::Clears(table);
+    answer(alloc, node, now, Given::Event(&event))
+}
+
+/// Gives the node an address by hand, or sets the lifetimes of one that it has (RFC 4862, section 5.4).
+#[unsafe(no_mangle)]
+pub extern "C" fn nd_add_address(alloc: Global, node: &mut Slot, now: u64, own: &OwnAddress) -> i32
+    ensures { MatchOption (own_of own.now) ((result ≡ invalid) × (node.new.handle.session ≡ node.old.handle.session))
+        (λ given. Answers now (events.Sets given) result node.old.handle.session node.new.handle.session) }
+{
+    let Some(own) = own.own() else {
+        return INVALID;
+    };
+    let event = Event::Sets(own);
+    answer(alloc, node, now, Given::Event(&event))
+}
+
+/// Ends an address of the node other than its link-local one.
+#[unsafe(no_mangle)]
+pub extern "C" fn nd_remove_address(
+    alloc: Global,
+    node: &mut Slot,
+    now: u64,
+    address: &[u8; 16],
+) -> i32
+    ensures { Answers now (events.Withdraws (record { 0 = address.now })) result node.old.handle.session node.new.handle.session }
+{
+    let event = Event::Withdraws(Addr(*address));
     answer(alloc, node, now, Given::Event(&event))
 }
