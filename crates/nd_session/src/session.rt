@@ -1,6 +1,6 @@
 //! A session: its start, its events, and its queue.
 
-ghost use Rattle.std.specs.Prelude.{◌≡◌, ℕ, ◌<◌, ◌≤◌, ◌+◌, ◌↔◌, List, [], None, true, false, IfOk, IsSomeAnd, IsTrue, OnOk, OnErr, drop, max, vec_capacity, option_copied, slice_get};
+ghost use Rattle.std.specs.Prelude.{◌≡◌, ℕ, ◌<◌, ◌≤◌, ◌+◌, ◌↔◌, List, [], None, true, false, IfOk, IfSome, IsOk, IsSome, IsSomeAnd, IsTrue, OnOk, OnErr, drop, max, vec_capacity, option_copied, slice_get};
 ghost use Rattle.nd_table.specs.Moment.{IsMoment};
 ghost use Rattle.nd_addr.specs.Frame.{headers_length};
 ghost use Rattle.nd_compose.specs.Frames.{longest_message};
@@ -14,6 +14,7 @@ ghost use Rattle.nd_node.specs.Event.{event_of};
 ghost use Rattle.nd_node.specs.Node.{starting, last_of};
 ghost use Rattle.nd_node.specs.NodeKept.{Stands, next_of};
 ghost use Rattle.nd_node.specs.Time.{Advances, IsInHand, Leads, Onward, Passes, longest_due};
+ghost use Rattle.nd_steps.specs.Outputs.{frame_sent};
 ghost use Rattle.nd_random.specs.Source.{stream_of_source};
 ghost use Rattle.nd_session.specs.Event.{LedBy, Takes};
 ghost use Rattle.nd_session.specs.Ready.{IsReady};
@@ -201,6 +202,10 @@ impl Session {
         ensures node { self.new.node ≡ self.old.node }
         ensures ready { OnOk result (IsReady self.old → IsReady self.new) }
         ensures same { OnErr result (self.new ≡ self.old) }
+
+        // It succeeds if the room is there, and if the report is no frame.
+        ensures in_hand { IsInHand self.old.node self.old.room → IsOk result }
+        ensures other { IfSome (slice_get self.old.queue 0) (λ report. frame_sent (happening report.1) ≡ []) → IsOk result }
     {
         let Some((_, report)) = self.queue.first() else {
             return Ok(None);
@@ -218,6 +223,7 @@ impl Session {
         ensures node { self.new.node ≡ self.old.node }
         ensures queue { self.new.queue ≡ self.old.queue }
         ensures same { OnErr result (self.new ≡ self.old) }
+        ensures kept { IsInHand self.old.node self.old.room → IsOk result }
     {
         let longest = self.node.longest_due();
         if has_room_for(&self.room, longest) {
@@ -236,6 +242,7 @@ impl Session {
         ensures node { self.new.node ≡ self.old.node }
         ensures ready { result ≡ true → IsReady self.old → IsReady self.new }
         ensures kept { IsInHand self.old.node self.old.room → (result ≡ true) × (self.new.room ≡ self.old.room) }
+        ensures other { IfSome (slice_get self.old.queue 0) (λ report. frame_sent (happening report.1) ≡ []) → result ≡ true }
     {
         let Some((_, report)) = self.queue.pop_first() else {
             return true;
@@ -268,14 +275,16 @@ impl Session {
 
 /// Returns true if a report is a frame.
 fn is_frame(report: &Out<Global>) -> bool
-    ensures { result ≡ false → (frame : List ℕ) → happening report.now ≡ Sent frame → ⊥ }
+    ensures frame { result ≡ true → frame_sent (happening report.now) ≡ [] → ⊥ }
+    ensures other { result ≡ false → (frame : List ℕ) → happening report.now ≡ Sent frame → ⊥ }
 {
     matches!(report, Out::Frame(_))
 }
 
 /// Returns the block of a report that is a frame.
 fn block_of(report: Out<Global>) -> Option<Vec<u8, Global>>
-    ensures { result ≡ None → (frame : List ℕ) → happening report ≡ Sent frame → ⊥ }
+    ensures frame { IsSome result → frame_sent (happening report) ≡ [] → ⊥ }
+    ensures other { result ≡ None → (frame : List ℕ) → happening report ≡ Sent frame → ⊥ }
 {
     match report {
         Out::Frame(frame) => Some(frame.into_frame()),

@@ -9,5 +9,5 @@ pub returns-in-None-clause-ready : goal.returns-in-None-clause-ready
 returns-in-None-clause-ready c = λ none ready.
     ⊎_elim (λ there. inl there)
     (λ has. inr (subst (λ (q : List (ℕ × Out Global)). HasFrame (happenings q)) (sym c.pop_first.ensures.rest)
-    (frame_left c.args.self.now.queue c.in-Some.field-0-0 c.in-Some.report (sym c.in-Some.is ∙ c.pop_first.ensures.taken) (c.block_of.ensures c.in-None.is) has)))
+    (frame_left c.args.self.now.queue c.in-Some.field-0-0 c.in-Some.report (sym c.in-Some.is ∙ c.pop_first.ensures.taken) (c.block_of.ensures.other c.in-None.is) has)))
     ready
