@@ -61,7 +61,7 @@
  *     host takes seconds to a moment of 2^46, and a day or more to 2^62. A caller that passes
  *     nanoseconds seems to hang.
  *   - A frame costs what its bytes cost: of a Router Advertisement each name and each option is
- *     compared with as many as its table may have, and not with those before it.
+ *     compared with three times as many as its table may have at most, and not with all before it.
  *   - After a sleep of an hour a router reports all the advertisements of that hour at once.
  *     Compare `moment` with your clock before you send, or close the node before the sleep.
  *   - An event can make something due at its own moment; it is done by the next call. So
@@ -97,18 +97,19 @@
  *     are dropped as ND_WHY_SUM.
  *   - The interface has to receive 33:33:00:00:00:01, a router also 33:33:00:00:00:02, and for each
  *     of the node's addresses 33:33:ff and its last three bytes (RFC 2464, 7), before detection
- *     begins (RFC 4862, 5.4.2). Read nd_address_at after nd_open, and after each ND_OUT_HEARD of
- *     type 134 before the next event; or receive all multicast. MLD reports are the caller's.
+ *     begins (RFC 4862, 5.4.2). Read nd_address_at after nd_open, after nd_add_address, and after
+ *     each ND_OUT_HEARD of type 134 before the next event; or receive all multicast. MLD reports
+ *     are the caller's.
  *   - A host needs only ICMPv6 of types 133 to 137; the caller may deliver other packets itself.
  * FRAMES OUT are whole Ethernet frames, without padding and frame check sequence; pad them to the
  * least length of the medium. Frames of the node's own messages have at most 1,294 bytes, those of
  * nd_send at most 14 + MTU. The MTU is 1,500 until a Router Advertisement sets one of 1,280 to
  * 1,500. It cannot be set from outside. A router forwards what it is passed, longer packets too.
  *
- * WHAT A NODE DOES NOT DO: choose source addresses (RFC 6724), keep manual addresses or static
- * neighbours, DHCPv6, MLD, ICMPv6 errors and echo, extension headers, forward between interfaces.
- * One node is one interface; several nodes share the memory of nd.c. When the link has been down,
- * close the node and open it again.
+ * WHAT A NODE DOES NOT DO: choose source addresses (RFC 6724), keep static neighbours, DHCPv6, MLD,
+ * ICMPv6 errors and echo, extension headers, forward between interfaces. It keeps an address that
+ * DHCPv6 or a user chose (nd_add_address). One node is one interface; several nodes share the
+ * memory of nd.c. When the link has been down, close the node and open it again.
  *
  * DETERMINISM. A node reads its options, its calls, and whether the memory of nd.c has room, which
  * all nodes share. It reads no clock and no environment. TESTED below says what that gives.
@@ -359,6 +360,33 @@ enum nd_clearable {
  * the role does not have is empty: ND_DONE. */
 int32_t nd_clear(nd_node *node, uint64_t now, uint32_t table);
 
+typedef struct nd_own_address {
+    nd_addr address;             /* not multicast, :: or ::1 */
+    uint32_t valid_lifetime;     /* s, not 0, or ND_LIFETIME_INFINITE */
+    uint32_t preferred_lifetime; /* s, not above valid_lifetime, or ND_LIFETIME_INFINITE */
+} nd_own_address;
+
+/* Gives the node an address by hand, at a host or at a router: a static one, one of DHCPv6, a
+ * router's global one, or one that the caller chose. Duplicate detection is done for it as for each
+ * other address (RFC 4862, 5.4): it is tentative, its first solicitation is due now, and
+ * ND_OUT_ASSIGNED or ND_OUT_DUPLICATE says how that ends. It goes at the end of its valid lifetime,
+ * with ND_OUT_ENDED_ADDRESS. An address that the node has already gets these lifetimes from now on,
+ * in whatever state it is, and counts as given by hand: no Router Advertisement renews it (RFC
+ * 4862, 5.5.3 e). A duplicate is not tried again by that: call nd_remove_address first. The node's
+ * link-local address stays as it is.
+ *   ND_DONE        The node has it, with these lifetimes.
+ *   ND_REFUSED     ND_REFUSAL_DISABLED; ND_REFUSAL_TENTATIVE: the link-local address is not
+ *                  assigned yet, call again after its ND_OUT_ASSIGNED; or ND_REFUSAL_FULL: there
+ *                  are `limits.addresses` others.
+ *   ND_INVALID     Also if a field is outside its range. */
+int32_t nd_add_address(nd_node *node, uint64_t now, const nd_own_address *own);
+
+/* Ends an address of the node, in whatever state it is, given by hand or formed from a prefix. One
+ * that was formed forms again with the next Router Advertisement of its prefix.
+ *   ND_DONE        The node does not have it, and ND_OUT_ENDED_ADDRESS is reported if it had it.
+ *                  But the link-local address stays, and nothing is reported. */
+int32_t nd_remove_address(nd_node *node, uint64_t now, const nd_addr *address);
+
 enum nd_hop {
     ND_HOP_DIRECT = 1, /* the destination is on the link */
     ND_HOP_VIA = 2     /* through a router */
@@ -458,7 +486,8 @@ enum nd_kind {
                                  used. If it is the link-local one, the node is disabled: close it
                                  (RFC 4862, 5.4.5) */
     ND_OUT_ASSIGNED = 6,      /* the node's address `address` may be used (RFC 4862, 5.4) */
-    ND_OUT_ENDED_ADDRESS = 7, /* the node's address `address` is gone (RFC 4862, 5.5.4) */
+    ND_OUT_ENDED_ADDRESS = 7, /* the node's address `address` is gone (RFC 4862, 5.5.4), or was
+                                 removed by nd_remove_address */
     ND_OUT_ENDED_ROUTER = 8,  /* `address` left the default router list (RFC 4861, 6.3.5) */
     ND_OUT_FAILED = 9,        /* neighbour `address` was not resolved or not reached, and is removed
                                  (RFC 4861, 7.2.2 and 7.3.3). Its packets follow as ND_OUT_LOST */
@@ -480,7 +509,8 @@ enum nd_refusal {
     ND_REFUSAL_DISABLED = 2,   /* the link-local address is a duplicate (RFC 4862, 5.4.5) */
     ND_REFUSAL_NOT_OURS = 3,   /* the source `address` is no assigned address */
     ND_REFUSAL_TOO_LONG = 4,   /* the packet is longer than the MTU (RFC 8200, 5) */
-    ND_REFUSAL_FULL = 5        /* the table `limit` would pass its limit */
+    ND_REFUSAL_FULL = 5,       /* the table `limit` would pass its limit */
+    ND_REFUSAL_TENTATIVE = 8   /* the link-local address is not assigned yet (RFC 4862, 5.4) */
 };
 
 enum nd_limit {
@@ -587,11 +617,13 @@ typedef struct nd_address_row {
     uint64_t preferred_left; /* ms; 0: ended; ND_FOREVER */
     uint64_t valid_left;     /* ms; 0: ended, and not yet removed; ND_FOREVER */
     nd_addr address;
-    uint32_t state; /* enum nd_state */
-    uint32_t reserved;
+    uint32_t state;  /* enum nd_state */
+    uint8_t by_hand; /* 1 if nd_add_address set its lifetimes, else 0 */
+    uint8_t reserved[3];
 } nd_address_row;
 
-/* The own addresses, the link-local one too, in the order of addresses (RFC 4862, 5.3, 5.5.3). */
+/* The own addresses, the link-local one too, in the order of addresses (RFC 4862, 5.3, 5.4 and
+ * 5.5.3). */
 int32_t nd_address_at(nd_node *node, uint64_t now, size_t index, nd_address_row *row);
 
 typedef struct nd_server_row {

@@ -29,7 +29,7 @@ enum nd_status { /* nd_hear returns ND_DONE or ND_INVALID, the functions of nd.h
 
 enum nd_role {
     ND_ROLE_HOST = 0,
-    ND_ROLE_ROUTER = 1 /* it has its link-local address alone, and takes no Router Advertisement */
+    ND_ROLE_ROUTER = 1 /* it forms its link-local address alone, takes no Router Advertisement */
 };
 
 enum nd_preference { /* of a default router (RFC 4191, 2.1) */
