@@ -31,11 +31,12 @@ use Rattle.nd_chronicle.specs.Happening.{Chronicle, Heard, ClearedRedirects, Red
 use Rattle.nd_chronicle.specs.Histories.{neighbour_history, prefix_history, address_history, server_history, name_history, route_history, router_history}
 use Rattle.nd_chronicle.specs.Message.{said, PlaceFor, releasing}
 use Rattle.nd_chronicle.specs.RouterAdvertisement.{forming, then_advertised}
-use Rattle.nd_chronicle.specs.ByHand.{FormsByHand, no_room, refusal_of_address, setting}
+use Rattle.nd_chronicle.specs.ByHand.{FormsByHand, no_room, setting}
+use Rattle.nd_chronicle.specs.Resolve.{PathAdds, ResolveAdds, Wants, WantsIfPlaced}
 use Rattle.nd_chronicle.specs.NeighborSolicitation as asked
 use Rattle.nd_chronicle.specs.NeighborSolicitation.{is_router}
 use Rattle.nd_compose.specs.Frames.{answer_frame}
-use Rattle.nd_chronicle.specs.OwnAddress.{is_own, story_of}
+use Rattle.nd_chronicle.specs.OwnAddress.{is_own, refusal_unless_up, story_of}
 use Rattle.nd_chronicle.specs.Packet.{no_place, Goes, GoesIfPlaced}
 use Rattle.nd_chronicle.specs.Refused.{UnlessRefused, AtRouter}
 use Rattle.nd_chronicle.specs.Hearing.{Verdict, hears, goes_up, goes_on, drops}
@@ -50,7 +51,7 @@ use Rattle.nd_chronicle.specs.Event.{Event, Clearable, packet_bytes, MessageAdds
 use Rattle.nd_routers.specs.History.{preference_of}
 use Rattle.nd_routers.specs.Shown as routers_shown
 use Rattle.nd_chronicle.specs.History.{Walk, Follows, Runs}
-use Rattle.nd_chronicle.proofs.Places.{one_place, one_has_place, have_one_place, one_goes}
+use Rattle.nd_chronicle.proofs.Places.{one_place, one_has_place, have_one_place, one_goes, one_wants}
 use Rattle.nd_chronicle.proofs.Hops.{one_router_list, one_hop, one_heard}
 use Rattle.nd_chronicle.proofs.Dues.{one_walk}
 
@@ -168,6 +169,22 @@ module _ (start : Start) (c : Chronicle) (now : ℕ) where
     one_send d e h k = unless_refused (refusal_of_packet start now source payload c) _ d e
         (λ x y. one_packet y.0 d e (subst (λ (next : NextHop). PacketAdds start now next source destination next_header payload c d) (one_hop c now start start.role destination x.0 y.0 x.1 y.1) x.2) y.2) h k
 
+  module _ (destination : Addr) where
+    one_if_wanted : (key : ℕ) (d e : Chronicle) → WantsIfPlaced start now destination key c d → WantsIfPlaced start now destination key c e → d ≡ e
+    one_if_wanted key d e h k =
+        let same : h.0 ≡ k.0 = one_has_place start c now key true h.0 k.0 h.1 k.1 in
+        unless_refused (option_map Full (no_place k.0)) (Wants start destination c now key) d e (one_wants start c now key destination d e)
+        (subst (λ (place : Bool). UnlessRefused now (option_map Full (no_place place)) (Wants start destination c now key) c d) same h.2) k.2
+
+    one_path : (next : NextHop) (d e : Chronicle) → PathAdds start now next destination c d → PathAdds start now next destination c e → d ≡ e
+    one_path no_route d e h k = h ∙ sym k
+    one_path direct d e h k = by_test (holds multicast_prefix destination.0) (λ x y. x ∙ sym y) (one_if_wanted _ d e) h k
+    one_path (via key) d e h k = one_if_wanted key d e h k
+
+    one_resolve : (d e : Chronicle) → ResolveAdds start now destination c d → ResolveAdds start now destination c e → d ≡ e
+    one_resolve d e h k = unless_refused (refusal_unless_up start c) _ d e
+        (λ x y. one_path y.0 d e (subst (λ (next : NextHop). PathAdds start now next destination c d) (one_hop c now start start.role destination x.0 y.0 x.1 y.1) x.2) y.2) h k
+
   one_clear : (table : Clearable) (d e : Chronicle) → ClearAdds start now table c d → ClearAdds start now table c e → d ≡ e
   one_clear events.ClearNeighbours d e h k = h.2 ∙ ap (λ entries. clearing start now entries c) (neighbour_proofs.one_table (neighbour_history c) h.0 k.0 h.1 k.1) ∙ sym k.2
   one_clear events.ClearRouters d e h k = h.2 ∙ ap (λ es. (now, ClearedRedirects) ∷ all_leaving start now es c) (one_router_list c now h.0 k.0 h.1 k.1) ∙ sym k.2
@@ -208,6 +225,7 @@ module _ (start : Start) (c : Chronicle) (now : ℕ) where
   one_event events.Passes d e h k = h ∙ sym k
   one_event (events.Receives frame) d e h k = one_frame frame d e h k
   one_event (events.Sends source destination next_header payload) d e h k = one_send source destination next_header payload d e h k
+  one_event (events.Resolves destination) d e h k = one_resolve destination d e h k
   one_event (events.Confirms neighbour) d e h k = h ∙ sym k
   one_event (events.Forgets neighbour) d e h k = h ∙ sym k
   one_event (events.Clears table) d e h k = one_clear table d e h k
@@ -219,7 +237,7 @@ module _ (start : Start) (c : Chronicle) (now : ℕ) where
       at_router start.role _ d e (λ x y. unless_refused (option_map Full (full_of_routes start prefix c)) _ d e (λ u v. u ∙ sym v) x y) h k
   one_event events.Stops d e h k = at_router start.role _ d e (λ x y. x ∙ sym y) h k
   one_event (events.Sets own) d e h k =
-      unless_refused (refusal_of_address start now c) _ d e
+      unless_refused (refusal_unless_up start c) _ d e
       (one_set (number_of own.address.0 == link_local_key start) (is_known (story_of c (number_of own.address.0))) (number_of own.address.0) own.lifetimes d e) h k
   one_event (events.Withdraws address) d e h k = h ∙ sym k
 

@@ -28,28 +28,30 @@ use Rattle.nd_neighbour.specs.History as neighbours
 use Rattle.nd_neighbour.specs.History.{RowKind, story}
 use Rattle.nd_neighbour.specs.News.{released_by}
 use Rattle.nd_neighbour.specs.Sending.{Sending, Sends, Queues}
-use Rattle.nd_neighbour.specs.Story.{mac_of, waits_of}
+use Rattle.nd_neighbour.specs.Story.{is_awaited, mac_of, waits_of}
+use Rattle.nd_neighbour.specs.Wanting.{Wanting, IsKnown, Awaits}
 use Rattle.nd_nexthop.specs.NextHop.{NextHop, direct, via, no_route}
 use Rattle.nd_slaac.specs.History as addresses
 use Rattle.nd_slaac.specs.History.{Lifetimes, Story}
 use Rattle.nd_slaac.specs.PrefixOption.{is_taken, prefixes_in, named_by, lifetimes_of}
 use Rattle.nd_slaac.specs.State as states
 use Rattle.nd_chronicle.specs.Start.{Start, link_local_key}
-use Rattle.nd_chronicle.specs.Happening.{Chronicle, Happening, Address, Heard, Neighbour, Sent, Refused, Configured, Ceased, RedirectMade, Forgotten, Loss, Refusal, WrongRole, Disabled, Tentative, Full}
+use Rattle.nd_chronicle.specs.Happening.{Chronicle, Happening, Address, Heard, Neighbour, Sent, Path, Refused, Configured, Ceased, RedirectMade, Way, Forgotten, Loss, Refusal, WrongRole, Disabled, Tentative, Full}
 use Rattle.nd_chronicle.specs.Histories.{neighbour_history, advertising_history, route_history}
 use Rattle.nd_chronicle.specs.InForce.{base_reachable_time, retrans_timer}
-use Rattle.nd_chronicle.specs.OwnAddress.{story_of, is_assigned, is_disabled, is_own, is_tentative, is_up}
+use Rattle.nd_chronicle.specs.OwnAddress.{story_of, is_assigned, is_disabled, is_own, is_tentative, is_up, refusal_unless_up}
 use Rattle.nd_chronicle.specs.Packet.{losing, sending, with_pushed, MakesPlace, then_packet, Goes, GoesIfPlaced}
 use Rattle.nd_chronicle.specs.Refused.{UnlessRefused, AtRouter}
 use Rattle.nd_chronicle.specs.Hearing.{Verdict, hears, goes_up, goes_on, drops, conflicts_with}
 use Rattle.nd_chronicle.specs.Advertising.{advertising_by, planning, telling_end, wants_answer, full_of_offers, full_of_routes}
 use Rattle.nd_chronicle.specs.Forwarding.{Redirects, SendsOn, FateAdds, redirect_to}
-use Rattle.nd_chronicle.specs.Message.{said, PlaceFor, sending_if_known, releasing, leaving}
+use Rattle.nd_chronicle.specs.Message.{said, PlaceFor, sending_if_known, telling_if_known, releasing, leaving}
 use Rattle.nd_chronicle.specs.RouterAdvertisement.{redrawing, with_delay, forming, naming, then_option, then_options, times_out, then_advertised}
 use Rattle.nd_chronicle.specs.NeighborSolicitation as asked
 use Rattle.nd_chronicle.specs.NeighborSolicitation.{then_tried}
 use Rattle.nd_chronicle.specs.NeighborAdvertisement.{conflicting, ends_in_list}
 use Rattle.nd_chronicle.specs.ByHand.{FormsByHand, no_room, setting}
+use Rattle.nd_chronicle.specs.Resolve.{PathAdds, ResolveAdds, Wants, WantsIfPlaced, then_wanted, wanting_of}
 use Rattle.nd_chronicle.specs.Event as events
 use Rattle.nd_chronicle.specs.Event.{Event, Clearable, packet_bytes, MessageAdds, VerdictAdds, PacketAdds, SendAdds, refusal_of_packet, ClearAdds, clearing, all_leaving, EventAdds}
 use Rattle.nd_chronicle.specs.Due.{then_neighbour}
@@ -112,9 +114,16 @@ module _ (start : Start) (at : ℕ) (Kept : Chronicle → Type 0) (plain : (what
   known_keeps None packets c k = k
   known_keeps (Some mac) packets c k = sending_keeps mac packets c k
 
+  told_keeps : (key : ℕ) (mac : Option ℕ) (awaited : Bool) (c : Chronicle) → Kept c → Kept (telling_if_known at key mac awaited c)
+  told_keeps key None awaited c k = k
+  told_keeps key (Some mac) true c k = plain _ c refl k
+  told_keeps key (Some mac) false c k = k
+
   pub releasing_keeps : (news : Option (ℕ × RowKind)) (history : List neighbours.Row) (c : Chronicle) → Kept c → Kept (releasing at news history c)
   releasing_keeps None history c k = k
-  releasing_keeps (Some news) history c k = known_keeps (mac_of ((at, news.1) ∷ story news.0 history)) (released_by at news.1 (story news.0 history)) c k
+  releasing_keeps (Some news) history c k =
+      told_keeps news.0 (mac_of ((at, news.1) ∷ story news.0 history)) (is_awaited (story news.0 history)) _
+      (known_keeps (mac_of ((at, news.1) ∷ story news.0 history)) (released_by at news.1 (story news.0 history)) c k)
 
   pub leaving_keeps : (leaves : Bool) (key : ℕ) (c : Chronicle) → Kept c → Kept (leaving at leaves key c)
   leaving_keeps true key c k = plain _ c refl k
@@ -124,6 +133,11 @@ module _ (start : Start) (at : ℕ) (Kept : Chronicle → Type 0) (plain : (what
   packet_keeps key retrans packet (Sends mac frame) c k = plain _ _ refl (plain _ c refl k)
   packet_keeps key retrans packet (Queues true replaced) c k = plain _ _ refl (plain _ _ refl (plain _ c refl k))
   packet_keeps key retrans packet (Queues false replaced) c k = losing_keeps _ (option_to_list replaced) _ (plain _ c refl k)
+
+  wanted_keeps : (key retrans : ℕ) (w : Wanting) (c : Chronicle) → Kept c → Kept (then_wanted start at key retrans w c)
+  wanted_keeps key retrans (IsKnown mac) c k = plain _ c refl k
+  wanted_keeps key retrans (Awaits true) c k = plain _ _ refl (plain _ _ refl (plain _ c refl k))
+  wanted_keeps key retrans (Awaits false) c k = plain _ c refl k
 
   redrawing_keeps : (base : ℕ) (draws : Bool) (c : Chronicle) → Kept c → Kept (redrawing start at base draws c)
   redrawing_keeps base true c k = plain _ c refl k
@@ -172,6 +186,10 @@ module _ (start : Start) (at : ℕ) (Kept : Chronicle → Type 0) (plain : (what
 
   goes_keeps : (c : Chronicle) (key : ℕ) (packet : List ℕ) (d : Chronicle) → Goes start c at key packet d → Kept c → Kept d
   goes_keeps c key packet d g k = kept_to g.goes (packet_keeps key _ packet _ g.placed (place_keeps c key true g.placed g.place k))
+
+  wants_keep : (destination : Addr) (c : Chronicle) (key : ℕ) (d : Chronicle) → Wants start destination c at key d → Kept c → Kept d
+  wants_keep destination c key d w k =
+      kept_to w.wants (plain _ _ refl (wanted_keeps key _ (wanting_of (story key (neighbour_history c))) w.placed (place_keeps c key true w.placed w.place k)))
 
   module _
       (forms : (key delay : ℕ) (lifetimes : Lifetimes) (c : Chronicle) → Kept c → Kept ((at, Address key (addresses.Formed delay (retrans_timer c) (Some lifetimes))) ∷ c))
@@ -325,6 +343,23 @@ module _ (start : Start) (at : ℕ) (Kept : Chronicle → Type 0) (plain : (what
         send_keeps : (d : Chronicle) → SendAdds start at source destination next_header payload c d → Kept c → End d
         send_keeps d h k = refused_keeps (refusal_of_packet start at source payload c) _ d (λ x. next_keeps x.0 d x.2 k) h
 
+      module _ (destination : Addr) where
+        wants_placed_keeps : (key : ℕ) (d : Chronicle) → WantsIfPlaced start at destination key c d → Kept c → End d
+        wants_placed_keeps key d h k = refused_keeps _ (Wants start destination c at key) d (λ w. ends d (wants_keep destination c key d w k)) h.2
+
+        direct_path_keeps : (t : Bool) (way : Way) (key : ℕ) (d : Chronicle)
+            → MatchBool t (d ≡ (at, Path destination way) ∷ c) (WantsIfPlaced start at destination key c d) → Kept c → End d
+        direct_path_keeps true way key d h k = end_at h (plain _ c refl k)
+        direct_path_keeps false way key d h k = wants_placed_keeps key d h k
+
+        path_keeps : (next : NextHop) (d : Chronicle) → PathAdds start at next destination c d → Kept c → End d
+        path_keeps no_route d h k = end_at h (plain _ c refl k)
+        path_keeps direct d h k = direct_path_keeps (holds multicast_prefix destination.0) _ _ d h k
+        path_keeps (via key) d h k = wants_placed_keeps key d h k
+
+        resolve_keeps : (d : Chronicle) → ResolveAdds start at destination c d → Kept c → End d
+        resolve_keeps d h k = refused_keeps (refusal_unless_up start c) _ d (λ x. path_keeps x.0 d x.2 k) h
+
       clear_keeps : (table : Clearable) (d : Chronicle) → ClearAdds start at table c d → Kept c → End d
       clear_keeps events.ClearNeighbours d h k = end_at h.2 (clearing_keeps h.0 c k)
       clear_keeps events.ClearRouters d h k = end_at h.2 (plain _ _ refl (all_leaving_keeps h.0 c k))
@@ -350,6 +385,7 @@ module _ (start : Start) (at : ℕ) (Kept : Chronicle → Type 0) (plain : (what
       event_keeps events.Passes d settles h k = end_at h k
       event_keeps (events.Receives frame) d settles h k = verdict_keeps frame h.verdict d h.adds k
       event_keeps (events.Sends source destination next_header payload) d settles h k = send_keeps source destination next_header payload d h k
+      event_keeps (events.Resolves destination) d settles h k = resolve_keeps destination d h k
       event_keeps (events.Confirms neighbour) d settles h k = end_at h (plain _ c refl k)
       event_keeps (events.Forgets neighbour) d settles h k =
           end_at h (losing_keeps Forgotten (waits_of (story (number_of neighbour.0) (neighbour_history c))) _

@@ -28,7 +28,8 @@ use Rattle.nd_neighbour.specs.History as neighbours
 use Rattle.nd_neighbour.specs.History.{RowKind, story}
 use Rattle.nd_neighbour.specs.News.{released_by}
 use Rattle.nd_neighbour.specs.Sending.{Sending, Sends, Queues}
-use Rattle.nd_neighbour.specs.Story.{mac_of, waits_of}
+use Rattle.nd_neighbour.specs.Story.{is_awaited, mac_of, waits_of}
+use Rattle.nd_neighbour.specs.Wanting.{Wanting, IsKnown, Awaits}
 use Rattle.nd_nexthop.specs.NextHop.{NextHop, direct, via, no_route}
 use Rattle.nd_slaac.specs.Due as addresses_due
 use Rattle.nd_slaac.specs.Due.{Falls, Ends, Solicits, Assigns, due_row}
@@ -38,21 +39,22 @@ use Rattle.nd_slaac.specs.History.{Lifetimes}
 use Rattle.nd_slaac.specs.PrefixOption.{prefixes_in}
 use Rattle.nd_slaac.specs.State as states
 use Rattle.nd_chronicle.specs.Start.{Start, link_local, link_local_key}
-use Rattle.nd_chronicle.specs.Happening.{Chronicle, Address, Sent, Heard, Lost, Neighbour, Ceased, RedirectMade, Forgotten, Loss, Refusal, Disabled, Tentative, Full}
+use Rattle.nd_chronicle.specs.Happening.{Chronicle, Address, Sent, Heard, Lost, Neighbour, Path, Ceased, RedirectMade, Way, Forgotten, Loss, Refusal, Disabled, Tentative, Full}
 use Rattle.nd_chronicle.specs.Histories.{address_history, neighbour_history, advertising_history, route_history}
 use Rattle.nd_chronicle.specs.InForce.{base_reachable_time}
-use Rattle.nd_chronicle.specs.OwnAddress.{story_of, is_assigned, is_disabled, is_own, is_tentative, is_up}
+use Rattle.nd_chronicle.specs.OwnAddress.{story_of, is_assigned, is_disabled, is_own, is_tentative, is_up, refusal_unless_up}
 use Rattle.nd_chronicle.specs.Packet.{losing, sending, with_pushed, MakesPlace, then_packet, Goes, GoesIfPlaced}
 use Rattle.nd_chronicle.specs.Refused.{UnlessRefused, AtRouter}
 use Rattle.nd_chronicle.specs.Advertising.{advertising_by, planning, telling_end, wants_answer, full_of_offers, full_of_routes}
 use Rattle.nd_chronicle.specs.Forwarding.{Redirects, SendsOn, FateAdds, redirect_to}
 use Rattle.nd_chronicle.specs.Hearing.{Verdict, hears, goes_up, goes_on, drops, IsForUs, Judges, IsTaken, takes_target, is_awake}
-use Rattle.nd_chronicle.specs.Message.{said, PlaceFor, sending_if_known, releasing, leaving}
+use Rattle.nd_chronicle.specs.Message.{said, PlaceFor, sending_if_known, telling_if_known, releasing, leaving}
 use Rattle.nd_chronicle.specs.RouterAdvertisement.{forming, redrawing, with_delay, then_options, times_out, then_advertised}
 use Rattle.nd_chronicle.specs.NeighborSolicitation as asked
 use Rattle.nd_chronicle.specs.NeighborSolicitation.{then_tried}
 use Rattle.nd_chronicle.specs.NeighborAdvertisement.{conflicting, ends_in_list, then_neighbor_advertised}
 use Rattle.nd_chronicle.specs.ByHand.{FormsByHand, no_room, setting}
+use Rattle.nd_chronicle.specs.Resolve.{PathAdds, Wants, WantsIfPlaced, then_wanted, wanting_of}
 use Rattle.nd_chronicle.specs.Event as events
 use Rattle.nd_chronicle.specs.Event.{Event, Clearable, packet_bytes, MessageAdds, VerdictAdds, PacketAdds, refusal_of_packet, ClearAdds, clearing, all_leaving, EventAdds}
 use Rattle.nd_chronicle.specs.Due.{What, RouterEnds, AddressFalls, NeighbourFalls, RoutersSolicited, RouterAdvertises, Redraws, Due, then_address, then_neighbour, comes}
@@ -79,9 +81,16 @@ module _ (at : ℕ) where
   known_same None packets c = refl
   known_same (Some mac) packets c = sending_same mac packets c
 
+  told_same : (key : ℕ) (mac : Option ℕ) (awaited : Bool) (c : Chronicle) → Same c (telling_if_known at key mac awaited c)
+  told_same key None awaited c = refl
+  told_same key (Some mac) true c = refl
+  told_same key (Some mac) false c = refl
+
   releasing_same : (news : Option (ℕ × RowKind)) (history : List neighbours.Row) (c : Chronicle) → Same c (releasing at news history c)
   releasing_same None history c = refl
-  releasing_same (Some news) history c = known_same (mac_of ((at, news.1) ∷ story news.0 history)) (released_by at news.1 (story news.0 history)) c
+  releasing_same (Some news) history c =
+      told_same news.0 (mac_of ((at, news.1) ∷ story news.0 history)) (is_awaited (story news.0 history)) _
+      ∙ known_same (mac_of ((at, news.1) ∷ story news.0 history)) (released_by at news.1 (story news.0 history)) c
 
   leaving_same : (leaves : Bool) (key : ℕ) (c : Chronicle) → Same c (leaving at leaves key c)
   leaving_same true key c = refl
@@ -92,6 +101,11 @@ module _ (at : ℕ) where
     packet_same key retrans packet (Sends mac frame) c = refl
     packet_same key retrans packet (Queues true replaced) c = refl
     packet_same key retrans packet (Queues false replaced) c = losing_same _ (option_to_list replaced) _
+
+    wanted_same : (key retrans : ℕ) (w : Wanting) (c : Chronicle) → Same c (then_wanted start at key retrans w c)
+    wanted_same key retrans (IsKnown mac) c = refl
+    wanted_same key retrans (Awaits true) c = refl
+    wanted_same key retrans (Awaits false) c = refl
 
     redrawing_same : (base : ℕ) (draws : Bool) (c : Chronicle) → Same c (redrawing start at base draws c)
     redrawing_same base true c = refl
@@ -137,6 +151,10 @@ place_for_same start c at (Some news) d m = place_same start c at news.0 _ d m
 
 goes_same : (start : Start) (c : Chronicle) (at key : ℕ) (packet : List ℕ) (d : Chronicle) → Goes start c at key packet d → Same c d
 goes_same start c at key packet d g = ap address_history g.goes ∙ packet_same at start key _ packet _ g.placed ∙ place_same start c at key true g.placed g.place
+
+wants_same : (start : Start) (destination : Addr) (c : Chronicle) (at key : ℕ) (d : Chronicle) → Wants start destination c at key d → Same c d
+wants_same start destination c at key d w =
+    ap address_history w.wants ∙ wanted_same at start key _ (wanting_of (story key (neighbour_history c))) w.placed ∙ place_same start c at key true w.placed w.place
 
 -- ---- what an event brings
 
@@ -293,6 +311,22 @@ module _ (start : Start) (now : ℕ) (event : Event) (c : Chronicle) where
     brings_packet direct d h = brings_direct (holds multicast_prefix destination.0) _ _ _ d h
     brings_packet (via key) d h = brings_placed key _ d h
 
+  -- ---- a caller asks where packets go
+
+  module _ (destination : Addr) where
+    brings_wanted : (key : ℕ) (d : Chronicle) → WantsIfPlaced start now destination key c d → Brings start now event c d
+    brings_wanted key d h = brings_refused _ (Wants start destination c now key) d (λ w. Nothing (wants_same start destination c now key d w)) h.2
+
+    brings_direct_path : (t : Bool) (way : Way) (key : ℕ) (d : Chronicle)
+        → MatchBool t (d ≡ (now, Path destination way) ∷ c) (WantsIfPlaced start now destination key c d) → Brings start now event c d
+    brings_direct_path true way key d h = Nothing (ap address_history h)
+    brings_direct_path false way key d h = brings_wanted key d h
+
+    brings_path : (next : NextHop) (d : Chronicle) → PathAdds start now next destination c d → Brings start now event c d
+    brings_path no_route d h = Nothing (ap address_history h)
+    brings_path direct d h = brings_direct_path (holds multicast_prefix destination.0) _ _ d h
+    brings_path (via key) d h = brings_wanted key d h
+
   -- ---- any event
 
   brings_clear : (table : Clearable) (d : Chronicle) → ClearAdds start now table c d → Brings start now event c d
@@ -330,6 +364,9 @@ event_brings start now (events.Receives frame) c d h = brings_verdict start now 
 event_brings start now (events.Sends source destination next_header payload) c d h =
     let event = events.Sends source destination next_header payload in
     brings_refused start now event c (refusal_of_packet start now source payload c) _ d (λ x. brings_packet start now event c source destination next_header payload x.0 d x.2) h
+event_brings start now (events.Resolves destination) c d h =
+    let event = events.Resolves destination in
+    brings_refused start now event c (refusal_unless_up start c) _ d (λ x. brings_path start now event c destination x.0 d x.2) h
 event_brings start now (events.Confirms neighbour) c d h = Nothing (ap address_history h)
 event_brings start now (events.Forgets neighbour) c d h =
     Nothing (ap address_history h ∙ losing_same now Forgotten (waits_of (story (number_of neighbour.0) (neighbour_history c))) ((now, Neighbour (number_of neighbour.0) (neighbours.Forgot neighbours.Removed)) ∷ c))

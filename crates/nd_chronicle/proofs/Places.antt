@@ -1,17 +1,20 @@
--- One neighbour makes place, and a packet goes one way.
+-- One neighbour makes place, and a packet goes one way, as does what a caller is told.
 use Rattle.std.proofs.Common.{◌≡◌, ℕ, Bool, true, false, List, [], ◌∷◌, length, Option, Some, None, refl, sym, ◌∙◌, ap, arith}
 use Rattle.std.specs.Prelude.{MatchBool, ◌&&◌, not}
+use Rattle.nd_addr.specs.declared.addr.Addr.{Addr}
 use Rattle.nd_neighbour.specs.History.{Row, story}
 use Rattle.nd_neighbour.specs.Place.{MakesPlace, HadPlace, Pushed, pushing}
 use Rattle.nd_neighbour.specs.Sending.{sending_of_story}
 use Rattle.nd_neighbour.specs.Story.{is_present}
+use Rattle.nd_neighbour.specs.Wanting.{mac_in}
 use Rattle.nd_neighbour.proofs.Unique as neighbours
 use Rattle.nd_chronicle.specs.Start.{Start}
-use Rattle.nd_chronicle.specs.Happening.{Chronicle}
+use Rattle.nd_chronicle.specs.Happening.{Chronicle, Path, WayTo}
 use Rattle.nd_chronicle.specs.Histories.{neighbour_history}
 use Rattle.nd_chronicle.specs.InForce.{retrans_timer}
 use Rattle.nd_chronicle.specs.Packet as packets
 use Rattle.nd_chronicle.specs.Packet.{HasPlace, HavePlace, Goes, with_pushed, then_packet}
+use Rattle.nd_chronicle.specs.Resolve.{Wants, then_wanted, wanting_of}
 
 longer : (x : Row) (h : List Row) → x ∷ h ≡ h → ⊥
 longer x h e = let l = ap length e in omega (arith, l)
@@ -66,3 +69,10 @@ module _ (start : Start) (c : Chronicle) (at key : ℕ) where
       g.goes
       ∙ ap (λ (x : Chronicle). then_packet start at key (retrans_timer c) packet (sending_of_story (story key (neighbour_history c)) packet) x) (one_place true g.placed h.placed g.place h.place)
       ∙ sym h.goes
+
+  pub one_wants : (destination : Addr) (d e : Chronicle) → Wants start destination c at key d → Wants start destination c at key e → d ≡ e
+  one_wants destination d e g h =
+      g.wants
+      ∙ ap (λ (x : Chronicle). (at, Path destination (WayTo key (mac_in (wanting_of (story key (neighbour_history c))))))
+      ∷ then_wanted start at key (retrans_timer c) (wanting_of (story key (neighbour_history c))) x) (one_place true g.placed h.placed g.place h.place)
+      ∙ sym h.wants

@@ -7,9 +7,9 @@ use Rattle.nd_slaac.specs.History.{Lifetimes}
 use Rattle.nd_slaac.specs.Room.{HasRoomBy}
 use Rattle.nd_slaac.specs.State.{is_known}
 use Rattle.nd_chronicle.specs.Start.{Start, link_local_key}
-use Rattle.nd_chronicle.specs.Happening.{Address, Addresses, Chronicle, Disabled, Limit, Refusal, Tentative}
+use Rattle.nd_chronicle.specs.Happening.{Address, Addresses, Chronicle, Limit}
 use Rattle.nd_chronicle.specs.Histories.{address_history}
-use Rattle.nd_chronicle.specs.OwnAddress.{is_disabled, is_up, story_of}
+use Rattle.nd_chronicle.specs.OwnAddress.{refusal_unless_up, story_of}
 use Rattle.nd_chronicle.specs.Refused.{UnlessFull, UnlessRefused}
 use Rattle.nd_chronicle.specs.RouterAdvertisement.{forming}
 
@@ -18,11 +18,6 @@ abbrev pub no_room : Bool → Option Limit
 no_room room = if room then None else Some Addresses
 
 module _ (start : Start) (now : ℕ) where
-  -- why an address is not taken, the first that holds: a node whose link-local address is a duplicate has none, and where that one isn't assigned
-  -- yet, no other one is tried
-  abbrev pub refusal_of_address : Chronicle → Option Refusal
-  refusal_of_address c = if is_disabled start c then Some Disabled else if is_up start c then None else Some Tentative
-
   -- its lifetimes are set, whatever they were
   abbrev pub setting : ℕ → Lifetimes → Chronicle → Chronicle
   setting key lifetimes c = (now, Address key (addresses.SetByHand lifetimes)) ∷ c
@@ -39,8 +34,9 @@ module _ (start : Start) (now : ℕ) where
       MatchBool (key == link_local_key start) (d ≡ c)
       (MatchBool (is_known (story_of c key)) (d ≡ setting key lifetimes c) (FormsByHand key lifetimes c d))
 
+  -- a node whose link-local address is a duplicate has no other one, and where that one isn't assigned yet, no other one is tried
   abbrev pub SetAdds : AddressByHand → Chronicle → Chronicle → Type 0
-  SetAdds own c d = UnlessRefused now (refusal_of_address c) (λ e. AddressAdds (number_of own.address.0) own.lifetimes c e) c d
+  SetAdds own c d = UnlessRefused now (refusal_unless_up start c) (λ e. AddressAdds (number_of own.address.0) own.lifetimes c e) c d
 
   -- an address that is withdrawn ends, in whatever state it is, but for the link-local one
   abbrev pub withdrawing : ℕ → Chronicle → Chronicle

@@ -45,6 +45,7 @@ use Rattle.nd_chronicle.specs.Full.{Fills}
 use Rattle.nd_chronicle.specs.Refused.{UnlessRefused, UnlessFull, AtRouter}
 use Rattle.nd_chronicle.specs.Advertising.{planning, wants_answer, ceasing, full_of_offers, full_of_routes}
 use Rattle.nd_chronicle.specs.Forwarding.{ForwardAdds}
+use Rattle.nd_chronicle.specs.Resolve.{ResolveAdds}
 use Rattle.nd_chronicle.specs.Shown.{Table, AreRows}
 
 -- the tables that a command clears
@@ -62,6 +63,8 @@ pub data Event : Type 0 where
   Receives : (frame : List ℕ) → Event
   -- a packet is to be sent
   Sends : (source destination : Addr) (next_header : ℕ) (payload : List ℕ) → Event
+  -- a caller that keeps its packets asks where those to a destination go
+  Resolves : (destination : Addr) → Event
   -- an upper layer confirms that a neighbour is reached (RFC 4861, section 7.3.1)
   Confirms : (neighbour : Addr) → Event
   -- a neighbour is to be forgotten
@@ -186,6 +189,7 @@ module _ (start : Start) (now : ℕ) where
   EventAdds Passes c d = d ≡ c
   EventAdds (Receives frame) c d = FrameAdds frame c d
   EventAdds (Sends source destination next_header payload) c d = SendAdds source destination next_header payload c d
+  EventAdds (Resolves destination) c d = ResolveAdds start now destination c d
   EventAdds (Confirms neighbour) c d = d ≡ (now, Neighbour (number_of neighbour.0) (neighbours.Confirmed (reachable_time c))) ∷ c
   EventAdds (Forgets neighbour) c d = d ≡ forgetting (number_of neighbour.0) c
   EventAdds (Clears table) c d = ClearAdds table c d

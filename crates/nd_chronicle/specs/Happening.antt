@@ -1,5 +1,5 @@
 -- What happens at a node, each with its moment in milliseconds, the newest first. Nothing here is a state: each question looks back.
-use Rattle.std.specs.Prelude.{ℕ, List, [], ◌∷◌}
+use Rattle.std.specs.Prelude.{ℕ, List, [], ◌∷◌, Option}
 use Rattle.nd_addr.specs.Prefix.{PrefixValue}
 use Rattle.nd_addr.specs.declared.addr.Addr.{Addr}
 use Rattle.nd_addr.specs.declared.why.Why.{Why}
@@ -49,6 +49,11 @@ pub data Refusal : Type 0 where
   TooLong : Refusal
   Full : (limit : Limit) → Refusal
 
+-- where packets to a destination go: there is no next hop for them, or they go to a neighbour, at this link-layer address, if it is known
+pub data Way : Type 0 where
+  NoWay : Way
+  WayTo : (neighbour : ℕ) (mac : Option ℕ) → Way
+
 -- What may happen. What a message says to a table is read off the message; what the node does itself has a row of its own.
 pub data Happening : Type 0 where
   -- time passed up to an event
@@ -88,6 +93,9 @@ pub data Happening : Type 0 where
   Sent : (frame : List ℕ) → Happening
   -- a packet was lost, a frame whose Ethernet destination was still open
   Lost : (why : Loss) (packet : List ℕ) → Happening
+  -- a caller that keeps its packets learned where those to a destination go, and the link-layer address for which it waited
+  Path : (destination : Addr) (way : Way) → Happening
+  Resolved : (neighbour mac : ℕ) → Happening
   -- an event was refused
   Refused : (refusal : Refusal) → Happening
   -- rows of a table were shown, each a text

@@ -17,6 +17,7 @@ pub mod NeighborAdvertisement
 pub mod Full
 pub mod Advertising
 pub mod Forwarding
+pub mod Resolve
 pub mod Shown
 pub mod Event
 pub mod Answer

@@ -1,14 +1,15 @@
 -- What every message adds that is heard: place for the neighbour that it makes known, the message itself, which each table takes for its
--- history, and the packets that waited for the link-layer address that it gives (RFC 4861, sections 6.2.6, 6.3.4, 7.2.3, 7.2.5 and 8.3).
-use Rattle.std.specs.Prelude.{◌≡◌, ℕ, Bool, true, false, List, ◌∷◌, Option, Some, None}
+-- history, and the packets that waited for the link-layer address that it gives, or the caller that did (RFC 4861, sections 6.2.6, 6.3.4, 7.2.3,
+-- 7.2.5 and 8.3).
+use Rattle.std.specs.Prelude.{◌≡◌, ℕ, Bool, true, false, if◌then◌else◌, List, ◌∷◌, Option, Some, None}
 use Rattle.nd_addr.specs.declared.addr.Addr.{Addr}
 use Rattle.nd_decode.specs.Message.{Parts}
 use Rattle.nd_neighbour.specs.History as neighbours
 use Rattle.nd_neighbour.specs.History.{RowKind, Story, story}
 use Rattle.nd_neighbour.specs.News.{released_by}
-use Rattle.nd_neighbour.specs.Story.{mac_of}
+use Rattle.nd_neighbour.specs.Story.{is_awaited, mac_of}
 use Rattle.nd_chronicle.specs.Start.{Start}
-use Rattle.nd_chronicle.specs.Happening.{Chronicle, LeftRouter}
+use Rattle.nd_chronicle.specs.Happening.{Chronicle, LeftRouter, Resolved}
 use Rattle.nd_chronicle.specs.Histories.{said_of_neighbour}
 use Rattle.nd_chronicle.specs.InForce.{reachable_time}
 use Rattle.nd_chronicle.specs.Packet.{MakesPlace, sending}
@@ -32,14 +33,21 @@ abbrev pub sending_if_known : ℕ → Option ℕ → List (List ℕ) → Chronic
 sending_if_known at None packets c = c
 sending_if_known at (Some mac) packets c = sending at mac packets c
 
--- the packets that what is said of a neighbour releases are sent to the address that is known then
-abbrev pub releasing_by : ℕ → RowKind → Story → Chronicle → Chronicle
-releasing_by at kind s c = sending_if_known at (mac_of ((at, kind) ∷ s)) (released_by at kind s) c
+-- the address is reported for which a caller waits, if one is known
+abbrev pub telling_if_known : ℕ → ℕ → Option ℕ → Bool → Chronicle → Chronicle
+telling_if_known at key None awaited c = c
+telling_if_known at key (Some mac) awaited c = if awaited then (at, Resolved key mac) ∷ c else c
+
+-- the packets that what is said of a neighbour releases are sent to the address that is known then, and the address is reported behind them, if a caller
+-- waits for it
+abbrev pub releasing_by : ℕ → ℕ → RowKind → Story → Chronicle → Chronicle
+releasing_by at key kind s c =
+    telling_if_known at key (mac_of ((at, kind) ∷ s)) (is_awaited s) (sending_if_known at (mac_of ((at, kind) ∷ s)) (released_by at kind s) c)
 
 -- the same of what the message says, by the history before it
 abbrev pub releasing : ℕ → Option (ℕ × RowKind) → List neighbours.Row → Chronicle → Chronicle
 releasing at None history c = c
-releasing at (Some news) history c = releasing_by at news.1 (story news.0 history) c
+releasing at (Some news) history c = releasing_by at news.0 news.1 (story news.0 history) c
 
 -- a router leaves the list, or doesn't
 abbrev pub leaving : ℕ → Bool → ℕ → Chronicle → Chronicle

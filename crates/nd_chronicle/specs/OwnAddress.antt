@@ -1,10 +1,10 @@
 -- The own addresses at a place of a chronicle (RFC 4862, section 5.4).
-use Rattle.std.specs.Prelude.{ℕ, Bool, ◌||◌, List}
+use Rattle.std.specs.Prelude.{ℕ, Bool, ◌||◌, if◌then◌else◌, List, Option, Some, None}
 use Rattle.nd_addr.specs.Number.{number_of}
 use Rattle.nd_slaac.specs.History.{Story, story}
 use Rattle.nd_slaac.specs.State as states
 use Rattle.nd_chronicle.specs.Start.{Start, link_local_key}
-use Rattle.nd_chronicle.specs.Happening.{Chronicle}
+use Rattle.nd_chronicle.specs.Happening.{Chronicle, Disabled, Refusal, Tentative}
 use Rattle.nd_chronicle.specs.Histories.{address_history}
 
 -- what happened to the address since it last ended
@@ -29,3 +29,7 @@ is_disabled start c = states.is_duplicate (story_of c (link_local_key start))
 -- its link-local address is assigned
 abbrev pub is_up : Start → Chronicle → Bool
 is_up start c = states.is_assigned (story_of c (link_local_key start))
+
+-- why a node does nothing that needs its link-local address, the first that holds: the address is a duplicate, or isn't assigned yet
+abbrev pub refusal_unless_up : Start → Chronicle → Option Refusal
+refusal_unless_up start c = if is_disabled start c then Some Disabled else if is_up start c then None else Some Tentative

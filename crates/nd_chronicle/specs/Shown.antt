@@ -8,7 +8,6 @@ use Rattle.nd_addr.specs.declared.role.Role.TheVariants.{Host, Router}
 use Rattle.nd_addr.specs.Number.{addr_at, mac_at}
 use Rattle.nd_addr.specs.Prefix.{PrefixValue}
 use Rattle.nd_addr.specs.Preference.{name_of}
-use Rattle.nd_addr.specs.declared.preference.Preference.{Preference}
 use Rattle.nd_addr.specs.Text.{address_text, mac_text, prefix_text}
 use Rattle.nd_addr.specs.Same.{same_addr, same_prefix}
 use Rattle.nd_search_list.specs.Text.{name_text}

@@ -1,6 +1,6 @@
 -- The text of a chronicle: what is reported of each row, and nothing of what has no text (the texts are this project's own).
 -- What is reported of it is a list of items too, off which the text and the frames that were sent can be read.
-use Rattle.std.specs.Prelude.{ℕ, List, [], ◌∷◌, ◌++◌, length, map, codes}
+use Rattle.std.specs.Prelude.{ℕ, List, [], ◌∷◌, ◌++◌, length, map, codes, Some}
 use Rattle.std.specs.Fmt.{decimal}
 use Rattle.std.specs.List.{flat_map}
 use Rattle.nd_addr.specs.declared.addr.Addr.{Addr}
@@ -13,8 +13,8 @@ use Rattle.nd_decode.specs.declared.body.Body.TheVariants as bodies
 use Rattle.nd_text.specs.Digits.{hex_text}
 use Rattle.nd_neighbour.specs.History as neighbours
 use Rattle.nd_slaac.specs.History as addresses
-use Rattle.nd_chronicle.specs.Happening.{Happening, Passed, Drew, Heard, Dropped, Up, Neighbour, Address, LeftRouter, ClearedPrefixes, ClearedRedirects, ClearedDns, SolicitedRouters, Configured, Offered, Ceased, Advertised, Planned, RoutePut, RedirectMade, Sent, Lost, Refused, Shown, TooLate, Chronicle, Loss, Unreachable, Replaced, Forgotten, NoRoute, HopLimit, Limit, Neighbours, Routers, Prefixes, Addresses, Servers, Names, Offers, StaticRoutes, Refusal, WrongRole, Disabled, Tentative, NotOurs, TooLong, Full}
-use Rattle.nd_chronicle.specs.Shown.{key_text}
+use Rattle.nd_chronicle.specs.Happening.{Happening, Passed, Drew, Heard, Dropped, Up, Neighbour, Address, LeftRouter, ClearedPrefixes, ClearedRedirects, ClearedDns, SolicitedRouters, Configured, Offered, Ceased, Advertised, Planned, RoutePut, RedirectMade, Sent, Lost, Path, Resolved, Refused, Shown, TooLate, Chronicle, Way, NoWay, WayTo, Loss, Unreachable, Replaced, Forgotten, NoRoute, HopLimit, Limit, Neighbours, Routers, Prefixes, Addresses, Servers, Names, Offers, StaticRoutes, Refusal, WrongRole, Disabled, Tentative, NotOurs, TooLong, Full}
+use Rattle.nd_chronicle.specs.Shown.{key_text, mac_or_none_text}
 
 abbrev pub kind_text : Body → List ℕ
 kind_text bodies.Rs = codes "rs"
@@ -53,6 +53,11 @@ abbrev pub way_text : List ℕ → List ℕ
 way_text frame =
     address_text (header_of (packet_in frame)).source.0 ++ codes " " ++ address_text (header_of (packet_in frame)).destination.0
 
+-- where packets go: the next hop and its link-layer address
+abbrev pub path_text : Way → List ℕ
+path_text NoWay = codes "no-route"
+path_text (WayTo key mac) = key_text key ++ codes " " ++ mac_or_none_text mac
+
 abbrev pub told_of_neighbour : ℕ → neighbours.RowKind → List (List ℕ)
 told_of_neighbour key (neighbours.Forgot neighbours.Failed) = (codes "failed " ++ key_text key) ∷ []
 told_of_neighbour key _ = []
@@ -86,6 +91,8 @@ told_of (RoutePut prefix route) = []
 told_of RedirectMade = []
 told_of (Sent frame) = (codes "tx " ++ hex_text frame) ∷ []
 told_of (Lost why packet) = (codes "lost " ++ loss_text why ++ codes " " ++ way_text packet) ∷ []
+told_of (Path destination way) = (codes "path " ++ address_text destination.0 ++ codes " " ++ path_text way) ∷ []
+told_of (Resolved key mac) = (codes "resolved " ++ path_text (WayTo key (Some mac))) ∷ []
 told_of (Refused refusal) = (codes "refused " ++ refusal_text refusal) ∷ []
 told_of (Shown rows) = rows ++ (codes "end " ++ decimal (length rows)) ∷ []
 told_of (TooLate last) = (codes "refused past " ++ decimal last) ∷ []

@@ -25,7 +25,7 @@ use Rattle.nd_neighbour.specs.History as neighbours
 use Rattle.nd_neighbour.specs.History.{RowKind, Row, story}
 use Rattle.nd_neighbour.specs.Place.{WouldBeFull}
 use Rattle.nd_neighbour.specs.ShownKept as shown_neighbours
-use Rattle.nd_neighbour.specs.Story.{is_present, mac_of}
+use Rattle.nd_neighbour.specs.Story.{is_awaited, is_present, mac_of}
 use Rattle.nd_neighbour.specs.News.{released_by}
 use Rattle.nd_neighbour.proofs.Forgetting as forgetting_proofs
 use Rattle.nd_nexthop.specs.NextHop.{NextHop, direct, via, no_route}
@@ -44,16 +44,17 @@ use Rattle.nd_slaac.specs.State.{is_known}
 use Rattle.nd_slaac.specs.TableKept.{key_of}
 use Rattle.nd_slaac.proofs.Showing as showing
 use Rattle.nd_chronicle.specs.Start.{Start, link_local_key}
-use Rattle.nd_chronicle.specs.Happening.{Chronicle, Heard, Dropped, Up, Neighbour, Configured, Offered, RoutePut, ClearedPrefixes, ClearedRedirects, ClearedDns, Sent, Lost, NoRoute, HopLimit, RedirectMade, Shown, Refused, Refusal, WrongRole, Full, Limit, Neighbours}
+use Rattle.nd_chronicle.specs.Happening.{Chronicle, Heard, Dropped, Up, Neighbour, Configured, Offered, RoutePut, ClearedPrefixes, ClearedRedirects, ClearedDns, Sent, Lost, Path, WayTo, NoRoute, HopLimit, RedirectMade, Shown, Refused, Refusal, WrongRole, Full, Limit, Neighbours}
 use Rattle.nd_chronicle.specs.Histories.{neighbour_history, router_history, prefix_history, address_history, server_history, name_history, route_history, given_or_marked, then_neighbour}
 use Rattle.nd_chronicle.specs.LinkLayerAddress.{first_slla}
 use Rattle.nd_chronicle.specs.InForce.{reachable_time}
-use Rattle.nd_chronicle.specs.OwnAddress.{is_own, story_of}
+use Rattle.nd_chronicle.specs.OwnAddress.{is_own, refusal_unless_up, story_of}
 use Rattle.nd_chronicle.specs.Packet.{sending, Goes, GoesIfPlaced, HavePlace}
 use Rattle.nd_chronicle.specs.NextHop.{IsHopOf}
-use Rattle.nd_chronicle.specs.Message.{said, lets_enter, PlaceFor, sending_if_known, releasing}
+use Rattle.nd_chronicle.specs.Message.{said, lets_enter, PlaceFor, sending_if_known, telling_if_known, releasing}
 use Rattle.nd_chronicle.specs.RouterAdvertisement.{forming, then_advertised}
-use Rattle.nd_chronicle.specs.ByHand.{no_room, refusal_of_address, setting, FormsByHand, AddressAdds, SetAdds, withdrawing}
+use Rattle.nd_chronicle.specs.ByHand.{no_room, setting, FormsByHand, AddressAdds, SetAdds, withdrawing}
+use Rattle.nd_chronicle.specs.Resolve.{PathAdds, ResolveAdds, WantsIfPlaced}
 use Rattle.nd_chronicle.specs.NeighborSolicitation as asked
 use Rattle.nd_chronicle.specs.NeighborSolicitation.{is_router, then_tried}
 use Rattle.nd_chronicle.specs.NeighborAdvertisement.{then_neighbor_advertised}
@@ -68,7 +69,7 @@ use Rattle.nd_chronicle.specs.Event as events
 use Rattle.nd_chronicle.specs.Event.{Event, Clearable, packet_bytes, MessageAdds, VerdictAdds, FrameAdds, packet_frame, PacketAdds, refusal_of_packet, SendAdds, forgetting, clearing, all_leaving, ClearAdds, EventAdds}
 use Rattle.nd_existence.proofs.Tables.{nodes_of, nodes_stand, addresses_of, addresses_stand}
 use Rattle.nd_existence.proofs.Listings.{listed}
-use Rattle.nd_existence.proofs.Placing.{unless_full, place_told, second_told, place_made, packet_goes, goes_if_placed, second_placed}
+use Rattle.nd_existence.proofs.Placing.{unless_full, place_told, second_told, place_made, packet_goes, goes_if_placed, wanted_if_placed, second_placed}
 use Rattle.nd_existence.proofs.Hopping.{hop_of, frame_heard}
 
 -- a neighbour whose address was just given is there
@@ -76,7 +77,7 @@ given_not_full : (limit now key at mac : ℕ) (mark : Option Bool) (h : List Row
 given_not_full limit now key at mac mark h full =
     true≢false (sym (ap is_present (cond-true (eqb key key) ((at, neighbours.Given mac mark) ∷ story key h) (story key h) (eq-eqb key key refl))) ∙ full.absent)
 
--- packets that are released are no rows of the neighbours
+-- packets that are released are no rows of the neighbours, nor is what a caller is told
 sending_rows : (at mac : ℕ) (packets : List (List ℕ)) (c : Chronicle) → neighbour_history (sending at mac packets c) ≡ neighbour_history c
 sending_rows at mac [] c = refl
 sending_rows at mac (packet ∷ packets) c = sending_rows at mac packets _
@@ -85,9 +86,16 @@ known_rows : (at : ℕ) (mac : Option ℕ) (packets : List (List ℕ)) (c : Chro
 known_rows at None packets c = refl
 known_rows at (Some mac) packets c = sending_rows at mac packets c
 
+told_rows : (at key : ℕ) (mac : Option ℕ) (awaited : Bool) (c : Chronicle) → neighbour_history (telling_if_known at key mac awaited c) ≡ neighbour_history c
+told_rows at key None awaited c = refl
+told_rows at key (Some mac) true c = refl
+told_rows at key (Some mac) false c = refl
+
 releasing_rows : (at : ℕ) (news : Option (ℕ × RowKind)) (h : List Row) (c : Chronicle) → neighbour_history (releasing at news h c) ≡ neighbour_history c
 releasing_rows at None h c = refl
-releasing_rows at (Some news) h c = known_rows at (mac_of ((at, news.1) ∷ story news.0 h)) (released_by at news.1 (story news.0 h)) c
+releasing_rows at (Some news) h c =
+    told_rows at news.0 (mac_of ((at, news.1) ∷ story news.0 h)) (is_awaited (story news.0 h)) _
+    ∙ known_rows at (mac_of ((at, news.1) ∷ story news.0 h)) (released_by at news.1 (story news.0 h)) c
 
 module _ (start : Start) (c : Chronicle) (now : ℕ) where
   -- ---- a message is heard
@@ -294,6 +302,28 @@ module _ (start : Start) (c : Chronicle) (now : ℕ) where
         (λ e. (next : NextHop) × IsHopOf start start.role c now destination next × PacketAdds start now next source destination next_header payload c e)
         (d.0, (next.0, next.1, d.1))
 
+  -- ---- a caller asks where packets go
+
+  module _ (destination : Addr) where
+    direct_path_adds : (t : Bool) → (d : Chronicle) × MatchBool t
+        (d ≡ (now, Path destination (WayTo (number_of destination.0) (Some (number_of (multicast_mac destination).0)))) ∷ c)
+        (WantsIfPlaced start now destination (number_of destination.0) c d)
+    direct_path_adds true = (_, refl)
+    direct_path_adds false = wanted_if_placed start c now (number_of destination.0) destination
+
+    path_adds : (next : NextHop) → (d : Chronicle) × PathAdds start now next destination c d
+    path_adds no_route = (_, refl)
+    path_adds direct = direct_path_adds (holds multicast_prefix destination.0)
+    path_adds (via key) = wanted_if_placed start c now key destination
+
+    resolve_adds : (d : Chronicle) × ResolveAdds start now destination c d
+    resolve_adds =
+        let next = hop_of start start.role c now destination in
+        let d = path_adds next.0 in
+        unless_refused (refusal_unless_up start c)
+        (λ e. (next : NextHop) × IsHopOf start start.role c now destination next × PathAdds start now next destination c e)
+        (d.0, (next.0, next.1, d.1))
+
   -- ---- an address is given by hand
 
   -- there is room for one more, or there isn't
@@ -318,7 +348,7 @@ module _ (start : Start) (c : Chronicle) (now : ℕ) where
   set_adds : (own : AddressByHand) → (d : Chronicle) × SetAdds start now own c d
   set_adds own =
       let key = number_of own.address.0 in
-      unless_refused (refusal_of_address start now c) (λ e. AddressAdds start now key own.lifetimes c e)
+      unless_refused (refusal_unless_up start c) (λ e. AddressAdds start now key own.lifetimes c e)
       (address_adds (key == link_local_key start) (is_known (story_of c key)) key own.lifetimes)
 
   -- ---- commands
@@ -371,6 +401,7 @@ module _ (start : Start) (c : Chronicle) (now : ℕ) where
   event_adds events.Passes = (c, refl)
   event_adds (events.Receives frame) = frame_adds frame
   event_adds (events.Sends source destination next_header payload) = send_adds source destination next_header payload
+  event_adds (events.Resolves destination) = resolve_adds destination
   event_adds (events.Confirms neighbour) = ((now, Neighbour (number_of neighbour.0) (neighbours.Confirmed (reachable_time c))) ∷ c, refl)
   event_adds (events.Forgets neighbour) = (forgetting start now (number_of neighbour.0) c, refl)
   event_adds (events.Clears table) = clear_adds table

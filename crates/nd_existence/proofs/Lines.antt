@@ -5,7 +5,7 @@ use Rattle.std.specs.List.{AllByRecursion}
 use Rattle.nd_lines.specs.Lines.{longest_line}
 use Rattle.nd_advertiser.specs.Config.{Settings, config_fault}
 use Rattle.nd_chronicle.specs.Start.{Start}
-use Rattle.nd_chronicle.specs.Event.{Event, Passes, Receives, Sends, Confirms, Forgets, Clears, Shows, Advertises, Offers, Routes, Stops, Sets, Withdraws}
+use Rattle.nd_chronicle.specs.Event.{Event, Passes, Receives, Sends, Confirms, Forgets, Clears, Shows, Advertises, Offers, Routes, Stops, Sets, Withdraws, Resolves}
 use Rattle.nd_chronicle.specs.History.{beginning}
 use Rattle.nd_chronicle.specs.Told.{text}
 use Rattle.nd_existence.specs.Intervals.{LeavesTime}
@@ -13,7 +13,7 @@ use Rattle.nd_existence.proofs.Deciding.{Decided, same_or}
 use Rattle.nd_existence.proofs.Running.{run}
 use Rattle.nd_existence.proofs.Timed.{faultless}
 use Rattle.ndpctl_run.specs.declared.command.Command.{Command}
-use Rattle.ndpctl_run.specs.declared.command.Command.TheVariants.{Rx, Send, Confirm, Forget, Clear, Show, Advertise, Prefix, Route, Address, Withdraw}
+use Rattle.ndpctl_run.specs.declared.command.Command.TheVariants.{Rx, Send, Confirm, Forget, Clear, Show, Advertise, Prefix, Route, Address, Withdraw, Resolve}
 use Rattle.ndpctl_run.specs.Command.{command_word, AreArguments, IsWholeCommand, IsCommand}
 use Rattle.ndpctl_run.specs.Line.{IsLine}
 use Rattle.ndpctl_run.specs.Number.{IsNumberWord}
@@ -50,7 +50,10 @@ some_command P decided = elim (decided Rx) [
                     | inl p ↦ inl (Address, p)
                     | inr j ↦ elim (decided Withdraw) [
                       | inl p ↦ inl (Withdraw, p)
-                      | inr k ↦ inr (λ p. none p.0 a b c d e f g h i j k p.1)
+                      | inr k ↦ elim (decided Resolve) [
+                        | inl p ↦ inl (Resolve, p)
+                        | inr l ↦ inr (λ p. none p.0 a b c d e f g h i j k l p.1)
+                      ]
                     ]
                   ]
                 ]
@@ -64,18 +67,19 @@ some_command P decided = elim (decided Rx) [
 ]
   where
     none : (t : Command) → (P Rx → ⊥) → (P Send → ⊥) → (P Confirm → ⊥) → (P Forget → ⊥) → (P Clear → ⊥) → (P Show → ⊥) → (P Advertise → ⊥) → (P Prefix → ⊥) → (P Route → ⊥)
-        → (P Address → ⊥) → (P Withdraw → ⊥) → P t → ⊥
-    none Rx a b c d e f g h i j k p = a p
-    none Send a b c d e f g h i j k p = b p
-    none Confirm a b c d e f g h i j k p = c p
-    none Forget a b c d e f g h i j k p = d p
-    none Clear a b c d e f g h i j k p = e p
-    none Show a b c d e f g h i j k p = f p
-    none Advertise a b c d e f g h i j k p = g p
-    none Prefix a b c d e f g h i j k p = h p
-    none Route a b c d e f g h i j k p = i p
-    none Address a b c d e f g h i j k p = j p
-    none Withdraw a b c d e f g h i j k p = k p
+        → (P Address → ⊥) → (P Withdraw → ⊥) → (P Resolve → ⊥) → P t → ⊥
+    none Rx a b c d e f g h i j k l p = a p
+    none Send a b c d e f g h i j k l p = b p
+    none Confirm a b c d e f g h i j k l p = c p
+    none Forget a b c d e f g h i j k l p = d p
+    none Clear a b c d e f g h i j k l p = e p
+    none Show a b c d e f g h i j k l p = f p
+    none Advertise a b c d e f g h i j k l p = g p
+    none Prefix a b c d e f g h i j k l p = h p
+    none Route a b c d e f g h i j k l p = i p
+    none Address a b c d e f g h i j k l p = j p
+    none Withdraw a b c d e f g h i j k l p = k p
+    none Resolve a b c d e f g h i j k l p = l p
 
 arguments_or : (command : Command) (words : List ℕ) → Decided ((event : Event) × AreArguments command words event)
 arguments_or Rx words = elim (bytes_or words) [ inl p ↦ inl (Receives p.0, (p.0, refl, p.1)) | inr none ↦ inr (λ p. none (p.1.0, p.1.2)) ]
@@ -92,6 +96,7 @@ arguments_or Prefix words = elim (offer_or words) [ inl p ↦ inl (Offers p.0, (
 arguments_or Route words = elim (route_or words) [ inl p ↦ inl (Routes p.0 p.1.0, (p.0, p.1.0, refl, p.1.1)) | inr none ↦ inr (λ p. none (p.1.0, (p.1.1, p.1.3))) ]
 arguments_or Address words = elim (own_address_or words) [ inl p ↦ inl (Sets p.0, (p.0, refl, p.1)) | inr none ↦ inr (λ p. none (p.1.0, p.1.2)) ]
 arguments_or Withdraw words = elim (address_or words) [ inl p ↦ inl (Withdraws p.0, (p.0, refl, p.1)) | inr none ↦ inr (λ p. none (p.1.0, p.1.2)) ]
+arguments_or Resolve words = elim (address_or words) [ inl p ↦ inl (Resolves p.0, (p.0, refl, p.1)) | inr none ↦ inr (λ p. none (p.1.0, p.1.2)) ]
 
 whole_or : (bytes : List ℕ) → Decided ((event : Event) × IsWholeCommand bytes event)
 whole_or bytes = elim (same_or bytes (codes "at")) [
@@ -175,6 +180,7 @@ arguments_leave Prefix words event a = λ t e. let f : Offers a.0 ≡ Advertises
 arguments_leave Route words event a = λ t e. let f : Routes a.0 a.1 ≡ Advertises t = sym a.2 ∙ e in absurd (let no : ⊥ = cc in no)
 arguments_leave Address words event a = λ t e. let f : Sets a.0 ≡ Advertises t = sym a.1 ∙ e in absurd (let no : ⊥ = cc in no)
 arguments_leave Withdraw words event a = λ t e. let f : Withdraws a.0 ≡ Advertises t = sym a.1 ∙ e in absurd (let no : ⊥ = cc in no)
+arguments_leave Resolve words event a = λ t e. let f : Resolves a.0 ≡ Advertises t = sym a.1 ∙ e in absurd (let no : ⊥ = cc in no)
 
 pub command_leaves : (bytes : List ℕ) (event : Event) → IsCommand bytes event → LeavesTime event
 command_leaves bytes event (inl (inl e)) = λ t f. let g : Passes ≡ Advertises t = sym e.1 ∙ f in absurd (let no : ⊥ = cc in no)

@@ -1,7 +1,8 @@
--- Each neighbour has place or hasn't, and a packet to one that has place goes.
+-- Each neighbour has place or hasn't, and a packet to one that has place goes, as one that has place is wanted.
 use Rattle.std.proofs.Common.{◌≡◌, ℕ, Bool, true, false, ltb, List, [], ◌∷◌, length, Option, Some, None, refl, sym, ◌∙◌, ap, subst, arith, ◌⊎◌, inl, inr}
 use Rattle.std.specs.Prelude.{MatchBool, ◌&&◌, ◌||◌, not, is_some}
 use Rattle.std.specs.Option.{option_to_list}
+use Rattle.nd_addr.specs.declared.addr.Addr.{Addr}
 use Rattle.nd_packet.specs.Waiting.{replaced}
 use Rattle.std.proofs.lemmas.Bool.Decides.{nat_tests}
 use Rattle.std.proofs.lemmas.Bool.{cond-false, true≢false, cases_Bool}
@@ -17,16 +18,18 @@ use Rattle.nd_neighbour.specs.AddressResolution.{resolution_of, room_in, waiting
 use Rattle.nd_neighbour.specs.Story.{is_present, mac_of}
 use Rattle.nd_neighbour.specs.StoryKept.{the_entry}
 use Rattle.nd_neighbour.specs.TableKept.{entry_in}
+use Rattle.nd_neighbour.specs.Wanting.{mac_in}
 use Rattle.nd_neighbour.proofs.Entering.{stalest_is_longest, stalest_in}
 use Rattle.nd_neighbour.proofs.Second.{room_by_history}
 use Rattle.nd_neighbour.proofs.Unique.{full_by_history}
 use Rattle.nd_chronicle.specs.Start.{Start}
-use Rattle.nd_chronicle.specs.Happening.{Chronicle, Limit, Neighbours, Refused, Full, Neighbour, Replaced}
+use Rattle.nd_chronicle.specs.Happening.{Chronicle, Limit, Neighbours, Refused, Full, Neighbour, Path, Replaced, WayTo}
 use Rattle.nd_chronicle.specs.Histories.{neighbour_history}
 use Rattle.nd_chronicle.specs.InForce.{retrans_timer}
 use Rattle.nd_chronicle.specs.Packet as packets
 use Rattle.nd_chronicle.specs.Packet.{HasPlace, HavePlace, Goes, GoesIfPlaced, no_place, with_pushed, then_packet}
 use Rattle.nd_chronicle.specs.Refused.{UnlessFull}
+use Rattle.nd_chronicle.specs.Resolve.{Wants, WantsIfPlaced, then_wanted, wanting_of}
 use Rattle.nd_existence.proofs.Tables.{nodes_of, nodes_stand}
 use Rattle.nd_existence.proofs.Deciding.{option_cases}
 use Rattle.nd_existence.proofs.Walking.{losing_keeps}
@@ -124,6 +127,21 @@ module _ (start : Start) (c : Chronicle) (now key : ℕ) where
   -- or is refused
   pub goes_if_placed : (packet : List ℕ) → (d : Chronicle) × GoesIfPlaced start now key packet c d
   goes_if_placed packet = let p = place_told true in goes_by packet p.0 p.1
+
+  -- its link-layer address is wanted
+  wanted : (destination : Addr) → (WouldBeFull start.limits.neighbours now key (neighbour_history c) → ⊥) → (d : Chronicle) × Wants start destination c now key d
+  wanted destination never =
+      let p = place_made true (λ e. never) in
+      let wanting = wanting_of (story key (neighbour_history c)) in
+      ((now, Path destination (WayTo key (mac_in wanting))) ∷ then_wanted start now key (retrans_timer c) wanting p.0, record { placed = p.0; place = p.1; wants = refl })
+
+  wanted_by : (destination : Addr) (place : Bool) → HasPlace start c now key true place → (d : Chronicle) × WantsIfPlaced start now destination key c d
+  wanted_by destination true has = let w = wanted destination (has refl) in (w.0, (true, has, w.1))
+  wanted_by destination false has = ((now, Refused (Full Neighbours)) ∷ c, (false, has, refl))
+
+  -- or that is refused
+  pub wanted_if_placed : (destination : Addr) → (d : Chronicle) × WantsIfPlaced start now destination key c d
+  wanted_if_placed destination = let p = place_told true in wanted_by destination p.0 p.1
 
 -- ---- the rows of a packet
 

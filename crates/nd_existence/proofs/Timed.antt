@@ -9,7 +9,7 @@ use Rattle.nd_advertiser.specs.Config.{Settings, is_max_interval, is_min_interva
 use Rattle.nd_advertiser.specs.declared.config_fault.ConfigFault.{ConfigFault}
 use Rattle.nd_slaac.specs.History as addresses
 use Rattle.nd_chronicle.specs.Start.{Start, link_local_key}
-use Rattle.nd_chronicle.specs.Happening.{Chronicle, Passed, Drew, Heard, Dropped, Up, Neighbour, Address, LeftRouter, ClearedPrefixes, ClearedRedirects, ClearedDns, SolicitedRouters, Configured, Offered, Ceased, Advertised, Planned, RoutePut, RedirectMade, Sent, Lost, Refused, Shown, TooLate}
+use Rattle.nd_chronicle.specs.Happening.{Chronicle, Passed, Drew, Heard, Dropped, Up, Neighbour, Address, LeftRouter, ClearedPrefixes, ClearedRedirects, ClearedDns, SolicitedRouters, Configured, Offered, Ceased, Advertised, Planned, RoutePut, RedirectMade, Sent, Lost, Path, Resolved, Refused, Shown, TooLate}
 use Rattle.nd_chronicle.specs.Histories.{advertising_history, then_assigned}
 use Rattle.nd_chronicle.specs.Generator.{stream_left, interval_drawn}
 use Rattle.nd_chronicle.specs.Advertising.{advertising_by, then_advertising}
@@ -53,6 +53,8 @@ timed start ((at, RoutePut prefix route) ∷ c) s t is = timed start c s t is
 timed start ((at, RedirectMade) ∷ c) s t is = timed start c s t is
 timed start ((at, Sent frame) ∷ c) s t is = timed start c s t is
 timed start ((at, Lost why packet) ∷ c) s t is = timed start c s t is
+timed start ((at, Path destination way) ∷ c) s t is = timed start c s t is
+timed start ((at, Resolved neighbour mac) ∷ c) s t is = timed start c s t is
 timed start ((at, Refused refusal) ∷ c) s t is = timed start c s t is
 timed start ((at, Shown rows) ∷ c) s t is = timed start c s t is
 timed start ((at, TooLate last) ∷ c) s t is = timed start c s t is

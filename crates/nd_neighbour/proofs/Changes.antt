@@ -4,23 +4,24 @@ use Rattle.std.specs.Prelude.{is_some}
 use Rattle.std.proofs.lemmas.Bool.Decides.{nat_tests}
 use Rattle.std.proofs.lemmas.Bool.{true≢false, eqb-true, cases_Bool}
 use Rattle.nd_neighbour.specs.declared.news.Flags.{Flags}
-use Rattle.nd_neighbour.specs.History.{Given, Advertised, Marked, Asked, Solicited, Waits, Used, Probed, Confirmed, Story}
+use Rattle.nd_neighbour.specs.History.{Given, Advertised, Marked, Asked, Solicited, Waits, Wanted, Used, Probed, Confirmed, Story}
 use Rattle.nd_neighbour.specs.EntryKept.{NeighbourEntry, with_mark, stale_entry}
 use Rattle.nd_neighbour.specs.LinkLayerAddressKept.{given, mark_or}
 use Rattle.nd_neighbour.specs.ReachabilityConfirmation.{Evidence, Confirms, Disturbs}
 use Rattle.nd_neighbour.specs.ReachabilityConfirmationKept.{confirmed}
 use Rattle.nd_neighbour.specs.NeighborAdvertisement.{taken, conforms, advert_says}
 use Rattle.nd_neighbour.specs.NeighborAdvertisementKept.{advertised}
-use Rattle.nd_neighbour.specs.AddressResolution.{Resolution, one_more, resolution_of, room_in, packets_of, waiting_of}
+use Rattle.nd_neighbour.specs.AddressResolution.{Resolution, one_more, with_wish, resolution_of, room_in, packets_of, waiting_of}
 use Rattle.nd_neighbour.specs.AddressResolutionKept.{asked_entry}
 use Rattle.nd_neighbour.specs.UnreachabilityDetection.{Use, goes_on}
 use Rattle.nd_neighbour.specs.Story.{is_present, mac_of, is_router, says, or_else, evidence_of, use_of, due_by, due_of}
 use Rattle.nd_neighbour.specs.StoryKept.{stage_by, the_entry, entry_of}
 use Rattle.nd_neighbour.specs.DueKept.{solicited, falls, stays}
 use Rattle.nd_neighbour.specs.SendingKept.{used}
+use Rattle.nd_neighbour.specs.WantingKept.{wished, wished_entry}
 use Rattle.circular_buffer.specs.Buffer.{keep_last}
 use Rattle.nd_neighbour.proofs.LastThree.{keep_more, keep_short}
-use Rattle.nd_neighbour.proofs.Stories.{absent_mac, absent_router, resolving, known_evidence}
+use Rattle.nd_neighbour.proofs.Stories.{absent_mac, absent_router, resolving, known_evidence, wish_room}
 
 -- a node by its parts
 abbrev made : ℕ → Bool → Option ℕ → Option Evidence → Option Use → Option Resolution → List (List ℕ) → NeighbourEntry
@@ -83,6 +84,10 @@ waits_by : (key at retrans : ℕ) (packet : List ℕ) (router : Bool) (w : Optio
 waits_by key at retrans packet router w u v None ps = rw (keep_more 0 ps packet) refl
 waits_by key at retrans packet router w u v (Some r) ps = rw (keep_more (max 1 r.room) ps packet) refl
 
+wished_by : (key at retrans : ℕ) (router : Bool) (w : Option Evidence) (u v : Option Use) (r : Option Resolution) (ws : List (List ℕ)) → is_some r ≡ true → made key router None w v (with_wish r) ws ≡ wished at retrans (made key router None w u r ws)
+wished_by key at retrans router w u v None ws h = absurd (true≢false (sym h))
+wished_by key at retrans router w u v (Some r) ws h = refl
+
 -- a further solicitation leaves the room
 room_more : (r : Option Resolution) → room_in (one_more r) ≡ room_in r
 room_more None = refl
@@ -124,6 +129,16 @@ module _ (key at : ℕ) (s : Story) (present : is_present s ≡ true) where
   when_waits retrans packet unknown =
       rw (present, unknown) (ap Some (waits_by key at retrans packet (is_router s) (evidence_of s) (use_of s) (use_of s) (resolution_of s) (packets_of s)))
 
+  pub when_wished : (retrans : ℕ) → mac_of s ≡ None → entry_of key ((at, Wanted) ∷ s) ≡ Some (wished at retrans (the_entry key s))
+  when_wished retrans unknown =
+      rw (present, unknown)
+      (ap (λ (n : ℕ). Some (made key (is_router s) None (evidence_of s) (use_of s) (with_wish (resolution_of s)) (keep_last n (packets_of s)))) (wish_room (resolution_of s))
+      ∙ ap Some (wished_by key at retrans (is_router s) (evidence_of s) (use_of s) (use_of s) (resolution_of s) (waiting_of s) (resolving s present unknown)))
+
+  pub when_used_by_wish : (retrans mac : ℕ) → mac_of s ≡ Some mac → entry_of key ((at, Used retrans) ∷ s) ≡ Some (wished at retrans (the_entry key s))
+  when_used_by_wish retrans mac known =
+      rw (present, known) (ap Some (used_by key at retrans mac [] (is_router s) (evidence_of s) (use_of s) (resolution_of s) (waiting_of s) (known_evidence s (ap is_some known))))
+
   pub when_solicited : mac_of s ≡ None → at ≡ due_of s → entry_of key ((at, Solicited) ∷ s) ≡ Some (solicited at (the_entry key s))
   when_solicited unknown is =
       let due : at ≡ due_by None (evidence_of s) (use_of s) (resolution_of s) = is ∙ ap (λ mac. due_by mac (evidence_of s) (use_of s) (resolution_of s)) unknown in
@@ -143,6 +158,11 @@ module _ (key at : ℕ) (s : Story) (absent : is_present s ≡ false) where
   pub first_given : (mac : ℕ) (mark : Option Bool) → entry_of key ((at, Given mac mark) ∷ s) ≡ Some (stale_entry key (mark_or mark false) at mac)
   first_given mac None = rw (absent_mac s absent, absent_router s absent) refl
   first_given mac (Some mark) = rw (absent_mac s absent) refl
+
+  pub first_wished : (retrans room : ℕ) → entry_of key ((at, Wanted) ∷ (at, Asked retrans room) ∷ s) ≡ Some (wished_entry key at retrans room)
+  first_wished retrans room =
+      let e : at + (0 + 1) * retrans ≡ at + retrans = omega arith in
+      rw (absent_mac s absent, absent_router s absent, e, keep_short {X = List ℕ} (max 1 room) [] (omega arith)) refl
 
   pub first_asked : (retrans room : ℕ) (packet : List ℕ) → entry_of key ((at, Waits packet) ∷ (at, Asked retrans room) ∷ s) ≡ Some (asked_entry key at retrans room packet)
   first_asked retrans room packet =

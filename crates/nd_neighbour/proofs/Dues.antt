@@ -72,7 +72,7 @@ probes key now mac n s is present due known left =
     when_probed key now s present mac (sym (mac_is key now n s is) ∙ known) (due_is key now n s is due) (ap (λ (m : NeighbourEntry). stays (falls m)) (sym is) ∙ left) ∙ ap (λ (m : NeighbourEntry). Some (solicited now m)) (sym is)
 
 solicited_key : (now : ℕ) (n : NeighbourEntry) (k : Stage) → n.stage ≡ k → (solicited now n).key ≡ n.key
-solicited_key now n (Resolving r t ws) is = rw is refl
+solicited_key now n (Resolving r t b ws) is = rw is refl
 solicited_key now n (Known mac c since None) is = rw is refl
 solicited_key now n (Known mac c since (Some p)) is = rw is refl
 
@@ -85,12 +85,12 @@ module _ (now : ℕ) (old new : List NeighbourEntry) (i : ℕ) (n : NeighbourEnt
   going left = is ∙ cond-false (stays (falls n)) (set old i (solicited now n)) _ left
 
   turn_gains : (k : Stage) → n.stage ≡ k → GainsRow old new (due_row now (falls_to n.key k))
-  turn_gains (Resolving r t ws) kept = elim (cases_Bool (ltb t 2)) [
+  turn_gains (Resolving r t b ws) kept = elim (cases_Bool (ltb t 2)) [
     | inl more ↦
         let left : stays (falls n) ≡ true = rw (kept, more) refl in
         rw more (record {
           stands = λ history s.
-              (changing old new n.key now Solicited i n (solicited now n) refl lt at_i (due_has address date_of now old n s.order first) (solicited_key now n (Resolving r t ws) kept) refl (staying left)
+              (changing old new n.key now Solicited i n (solicited now n) refl lt at_i (due_has address date_of now old n s.order first) (solicited_key now n (Resolving r t b ws) kept) refl (staying left)
               (λ story present known. asks n.key now n story known present (same_moment n.due now (due_now date_of now old n first)) (ap known_mac kept))).stands history s;
         })
     | inr last ↦
@@ -140,12 +140,12 @@ turns-remove (x ∷ ns) zero n lt is = let e : turns_to n.stage ≡ turns_to x.s
 turns-remove (x ∷ ns) (suc i) n lt is = omega (arith, turns-remove ns i n (omega arith) is)
 
 some_turn : (k : Stage) → 0 < turns_to k
-some_turn (Resolving r t ws) = omega arith
+some_turn (Resolving r t b ws) = omega arith
 some_turn (Known mac c since None) = omega arith
 some_turn (Known mac c since (Some p)) = omega arith
 
 fewer_to : (now : ℕ) (n : NeighbourEntry) (k : Stage) → n.stage ≡ k → stays (falls_to n.key k) ≡ true → turns_to (solicited now n).stage < turns_to n.stage
-fewer_to now n (Resolving r t ws) kept left =
+fewer_to now n (Resolving r t b ws) kept left =
     let lt : t < 2 = grind (arith, nat_tests, left) in rw kept (omega arith)
 fewer_to now n (Known mac c since None) kept left = absurd (true≢false (sym left))
 fewer_to now n (Known mac c since (Some p)) kept left =
@@ -163,7 +163,7 @@ turned_fewer now old new what t = elim (cases_Bool (stays (falls t.entry))) [
 ]
 
 later_to : (now : ℕ) (n : NeighbourEntry) (k : Stage) → n.stage ≡ k → stays (falls_to n.key k) ≡ true → now ≤ (solicited now n).due
-later_to now n (Resolving r t ws) kept left = rw kept (omega arith)
+later_to now n (Resolving r t b ws) kept left = rw kept (omega arith)
 later_to now n (Known mac c since None) kept left = absurd (true≢false (sym left))
 later_to now n (Known mac c since (Some p)) kept left = rw kept (omega arith)
 

@@ -2,10 +2,10 @@
 use Rattle.std.proofs.Common.{◌≡◌, ℕ, ◌<◌, Bool, true, false, cond, List, [], ◌∷◌, refl, length, get_or, set, Option, Some, None, sym, ◌∙◌, ap, subst, arith, suc, zero}
 use Rattle.std.specs.Prelude.{slice_get, is_some, ◌&&◌, not}
 use Rattle.std.proofs.lemmas.Option.{slice_get-get_or}
-use Rattle.nd_neighbour.specs.EntryKept.{NeighbourEntry, Stage, Resolving, Known, released, known_mac, waiting_in}
+use Rattle.nd_neighbour.specs.EntryKept.{NeighbourEntry, Stage, Resolving, Known, released, is_wanted, known_mac, waiting_in}
 use Rattle.nd_neighbour.specs.TableKept.{entry_in, place_in, Alters, There}
 use Rattle.nd_neighbour.specs.PlaceKept.{Gives, Was, Came, NoPlace, Places}
-use Rattle.nd_neighbour.specs.NewsKept.{told_released, told_turned, was_known}
+use Rattle.nd_neighbour.specs.NewsKept.{told_released, told_turned, was_known, was_wanted}
 use Rattle.nd_neighbour.specs.Removal.{Removes, Gone, waiting_at}
 use Rattle.std.specs.List.{insert, remove}
 use Rattle.std.proofs.lemmas.Bool.{true≢false}
@@ -30,12 +30,15 @@ module _ (key : ℕ) (change : NeighbourEntry → NeighbourEntry) (old seen : Li
   pub knew : (known : Bool) → known ≡ is_some (known_mac n.stage) → known ≡ was_known (entry_in key old)
   knew known e = e ∙ sym (ap was_known there)
 
+  pub wished_for : (wanted : Bool) → wanted ≡ is_wanted n.stage → wanted ≡ was_wanted (entry_in key old)
+  wished_for wanted e = e ∙ sym (ap was_wanted there)
+
   pub turns : (turned : Bool) → turned ≡ (n.router && not m.router) → turned ≡ told_turned change (entry_in key old)
   turns turned e = e ∙ (ap (λ (x : NeighbourEntry). n.router && not x.router) new_is ∙ sym (ap (told_turned change) there))
 
 -- a mark releases nothing
 pub nothing_by : (k : Stage) → cond (is_some (known_mac k)) (waiting_in k) [] ≡ []
-nothing_by (Resolving retrans sent waiting) = refl
+nothing_by (Resolving retrans sent wanted waiting) = refl
 nothing_by (Known mac confirmed since probing) = refl
 
 pub some_is : (o : Option NeighbourEntry) → is_some o ≡ true → (n : NeighbourEntry) × (o ≡ Some n)

@@ -12,8 +12,8 @@ use Rattle.nd_neighbour.specs.UnreachabilityDetection.{Use}
 use Rattle.nd_neighbour.specs.Story.{is_present, mac_of, evidence_of, use_of, waits_of}
 use Rattle.nd_neighbour.specs.StoryKept.{stage_by, the_entry, entry_of}
 use Rattle.nd_neighbour.specs.TableKept.{address, entry_in, Stands, GainsRow}
-use Rattle.nd_neighbour.specs.Shown.{state_by, Seen, seen_of, seen_key, Lists}
-use Rattle.nd_neighbour.specs.ShownKept.{seen, state_in}
+use Rattle.nd_neighbour.specs.Shown.{state_by, left_by, Seen, seen_of, seen_key, Lists}
+use Rattle.nd_neighbour.specs.ShownKept.{seen, state_in, left_in}
 use Rattle.nd_neighbour.specs.Removal.{Removes, WasNot, Gone, waiting_at, cleared}
 use Rattle.nd_table.proofs.Mapped.{at_key-map, Rises-map}
 use Rattle.nd_table.proofs.Keyed.{key_is}
@@ -52,13 +52,20 @@ state_is t (Some mac) (Some (Disturbs d)) (Some u) r ws = refl
 state_is t (Some mac) (Some (Confirms d l)) None r ws = refl
 state_is t (Some mac) (Some (Confirms d l)) (Some u) r ws = refl
 
-seen_by : (key t : ℕ) (router : Bool) (due : ℕ) (mac : Option ℕ) (w : Option Evidence) (u : Option Use) (r : Option Resolution) (ws : List (List ℕ)) (m : Option ℕ) (st : Reachability) → m ≡ mac → st ≡ state_by mac w u t → let made : Seen = record { key = key; mac = m; router = router; state = st } in made ≡ record { key = key; mac = mac; router = router; state = state_by mac w u t }
-seen_by key t router due mac w u r ws m st e f = rw (e, f) refl
+left_is : (t : ℕ) (mac : Option ℕ) (w : Option Evidence) (u : Option Use) (r : Option Resolution) (ws : List (List ℕ)) → left_in (stage_by mac w u r ws) t ≡ left_by mac w t
+left_is t None w u r ws = refl
+left_is t (Some mac) None u r ws = refl
+left_is t (Some mac) (Some (Disturbs d)) u r ws = refl
+left_is t (Some mac) (Some (Confirms d l)) u r ws = refl
+
+seen_by : (key t : ℕ) (router : Bool) (mac : Option ℕ) (w : Option Evidence) (u : Option Use) (m : Option ℕ) (st : Reachability) (l : Option ℕ) → m ≡ mac → st ≡ state_by mac w u t → l ≡ left_by mac w t → let made : Seen = record { key = key; mac = m; router = router; state = st; left = l } in made ≡ record { key = key; mac = mac; router = router; state = state_by mac w u t; left = left_by mac w t }
+seen_by key t router mac w u m st l e f g = rw (e, f, g) refl
 
 the_seen : (key t : ℕ) (s : Story) → is_present s ≡ true → Some (seen t (the_entry key s)) ≡ seen_of key s t
 the_seen key t s p =
-    ap Some (seen_by key t (the_entry key s).router (the_entry key s).due (mac_of s) (evidence_of s) (use_of s) (resolution_of s) (waiting_of s) _ _
-    (known_by (mac_of s) (evidence_of s) (use_of s) (resolution_of s) (waiting_of s)) (state_is t (mac_of s) (evidence_of s) (use_of s) (resolution_of s) (waiting_of s)))
+    ap Some (seen_by key t (the_entry key s).router (mac_of s) (evidence_of s) (use_of s) _ _ _
+    (known_by (mac_of s) (evidence_of s) (use_of s) (resolution_of s) (waiting_of s)) (state_is t (mac_of s) (evidence_of s) (use_of s) (resolution_of s) (waiting_of s))
+    (left_is t (mac_of s) (evidence_of s) (use_of s) (resolution_of s) (waiting_of s)))
     ∙ sym (cond-true (is_present s) _ None p)
 
 seen_told : (key t : ℕ) (s : Story) (o : Option NeighbourEntry) → o ≡ entry_of key s → option_map (seen t) o ≡ seen_of key s t

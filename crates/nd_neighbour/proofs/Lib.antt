@@ -11,6 +11,7 @@ pub mod Entering
 pub mod Results
 pub mod NewsCalls
 pub mod PacketCalls
+pub mod WishCalls
 pub mod Forgetting
 pub mod Overdue
 pub mod Pushing

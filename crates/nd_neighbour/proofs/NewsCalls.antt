@@ -4,20 +4,20 @@ use Rattle.std.specs.Prelude.{◌&&◌, not, is_some}
 use Rattle.std.proofs.lemmas.Bool.{cond-true, cond-false}
 use Rattle.nd_neighbour.specs.declared.news.Flags.{Flags}
 use Rattle.nd_neighbour.specs.History.{RowKind, Given, Advertised, Marked, Confirmed, Row, Story, story}
-use Rattle.nd_neighbour.specs.EntryKept.{NeighbourEntry, Stage, Resolving, Known, with_mark, stale_entry, known_mac, waiting_in}
+use Rattle.nd_neighbour.specs.EntryKept.{NeighbourEntry, Stage, Resolving, Known, with_mark, stale_entry, is_wanted, known_mac, waiting_in}
 use Rattle.nd_neighbour.specs.LinkLayerAddressKept.{given, given_to, mark_or}
 use Rattle.nd_neighbour.specs.ReachabilityConfirmation.{Evidence}
 use Rattle.nd_neighbour.specs.ReachabilityConfirmationKept.{confirmed, confirmed_to}
 use Rattle.nd_neighbour.specs.NeighborAdvertisementKept.{advertised, advertised_to, conforming}
-use Rattle.nd_neighbour.specs.AddressResolution.{Resolution, resolution_of, waiting_of}
+use Rattle.nd_neighbour.specs.AddressResolution.{Resolution, resolution_of, wanted_in, waiting_of}
 use Rattle.nd_neighbour.specs.UnreachabilityDetection.{Use}
-use Rattle.nd_neighbour.specs.Story.{is_present, mac_of, is_router, evidence_of, use_of, waits_by, waits_of}
+use Rattle.nd_neighbour.specs.Story.{awaited_by, is_awaited, is_present, mac_of, is_router, evidence_of, use_of, waits_by, waits_of}
 use Rattle.nd_neighbour.specs.StoryKept.{stage_by, the_entry, entry_of}
 use Rattle.nd_neighbour.specs.TableKept.{address, entry_in, Stands, GainsRow, Alters, NotThere, There}
 use Rattle.nd_neighbour.specs.Place.{Prepares, MakesPlace}
 use Rattle.nd_neighbour.specs.PlaceKept.{Gives, Was, Came}
 use Rattle.nd_neighbour.specs.News.{released_by, ends_router}
-use Rattle.nd_neighbour.specs.NewsKept.{Tells, told_released, told_turned}
+use Rattle.nd_neighbour.specs.NewsKept.{Tells, told_released, told_turned, was_wanted}
 use Rattle.nd_neighbour.specs.Removal.{waiting_at}
 use Rattle.nd_neighbour.proofs.Stories.{absent_router}
 use Rattle.nd_neighbour.proofs.Changes.{when_given, when_advertised, when_marked, when_confirmed, first_given}
@@ -31,22 +31,22 @@ keys_of true m o n h k = h
 keys_of false m o n h k = k
 
 pub given_key : (at mac : ℕ) (mark : Option Bool) (n : NeighbourEntry) (k : Stage) → (given_to k n at mac (mark_or mark n.router)).key ≡ n.key
-given_key at mac mark n (Resolving r t ws) = refl
+given_key at mac mark n (Resolving r t b ws) = refl
 given_key at mac mark n (Known known c since p) = keys_of (eqb mac known) _ _ n refl refl
 
 conforming_key : (flags : Flags) (at reachable mac : ℕ) (changed : Bool) (n : NeighbourEntry) → (conforming flags at reachable mac changed n).key ≡ n.key
 conforming_key flags at reachable mac changed n = keys_of flags.solicited _ _ n refl (keys_of changed _ _ n refl refl)
 
 pub advertised_key : (flags : Flags) (mac : Option ℕ) (at reachable : ℕ) (n : NeighbourEntry) (k : Stage) → (advertised_to k flags mac at reachable n).key ≡ n.key
-advertised_key flags None at reachable n (Resolving r t ws) = refl
-advertised_key flags (Some mac) at reachable n (Resolving r t ws) = conforming_key flags at reachable mac true n
+advertised_key flags None at reachable n (Resolving r t b ws) = refl
+advertised_key flags (Some mac) at reachable n (Resolving r t b ws) = conforming_key flags at reachable mac true n
 advertised_key flags None at reachable n (Known known c since p) = conforming_key flags at reachable known false n
 advertised_key flags (Some mac) at reachable n (Known known c since p) =
     keys_of (eqb mac known) _ _ n (conforming_key flags at reachable known false n)
     (keys_of flags.overrides _ _ n (conforming_key flags at reachable mac true n) (keys_of (c && ltb at since) _ _ n refl refl))
 
 pub confirmed_key : (at reachable : ℕ) (n : NeighbourEntry) (k : Stage) → (confirmed_to k at reachable n).key ≡ n.key
-confirmed_key at reachable n (Resolving r t ws) = refl
+confirmed_key at reachable n (Resolving r t b ws) = refl
 confirmed_key at reachable n (Known mac c since p) = refl
 
 pub advertised_gains : (key at : ℕ) (flags : Flags) (mac : Option ℕ) (reachable : ℕ) (old new : List NeighbourEntry) → Alters key (λ n. advertised at flags mac reachable n) old new → GainsRow old new (at, key, Advertised flags mac reachable)
@@ -106,6 +106,19 @@ entry_waits key s n p is =
 pub none_waits : (s : Story) → is_present s ≡ false → waits_of s ≡ []
 none_waits s p = cond-false (is_present s) (waits_by (mac_of s) (waiting_of s)) [] p
 
+awaited_by_stage : (mac : Option ℕ) (w : Option Evidence) (u : Option Use) (r : Option Resolution) (ws : List (List ℕ)) → is_wanted (stage_by mac w u r ws) ≡ awaited_by mac (wanted_in r)
+awaited_by_stage None w u r ws = refl
+awaited_by_stage (Some mac) w u r ws = refl
+
+-- whether a caller waits is what the history says
+awaits_by : (key : ℕ) (s : Story) (o : Option NeighbourEntry) → o ≡ entry_of key s → was_wanted o ≡ is_awaited s
+awaits_by key s None is = sym (ap (λ b. b && awaited_by (mac_of s) (wanted_in (resolution_of s))) (entry_absent key s (sym is)))
+awaits_by key s (Some n) is =
+    let known = entry_present key s n (sym is) in
+    ap (λ (m : NeighbourEntry). is_wanted m.stage) known.1
+    ∙ (awaited_by_stage (mac_of s) (evidence_of s) (use_of s) (resolution_of s) (waiting_of s)
+    ∙ sym (ap (λ b. b && awaited_by (mac_of s) (wanted_in (resolution_of s))) known.0))
+
 cond_same : {X : Type 0} (b : Bool) (x : X) → cond b x x ≡ x
 cond_same true x = refl
 cond_same false x = refl
@@ -133,20 +146,21 @@ module _ (key at : ℕ) (h : RowKind) (change : NeighbourEntry → NeighbourEntr
       let after : change n ≡ the_entry key ((at, h) ∷ s) = ap change known.1 ∙ changed_entry s known.0 in
       ap (λ (m : NeighbourEntry). m.router && not (change n).router) known.1 ∙ ap (λ (m : NeighbourEntry). is_router s && not m.router) after
 
-  pub tells_by : (packets : List (List ℕ)) (turned : Bool) → packets ≡ told_released change (entry_in key old) → turned ≡ told_turned change (entry_in key old) → Tells at key h old packets turned
-  tells_by packets turned p t = record {
+  pub tells_by : (packets : List (List ℕ)) (turned awaited : Bool) → packets ≡ told_released change (entry_in key old) → turned ≡ told_turned change (entry_in key old) → awaited ≡ was_wanted (entry_in key old) → Tells at key h old packets turned awaited
+  tells_by packets turned awaited p t a = record {
     released = λ history s. p ∙ releases_by (story key history) (entry_in key old) (s.each key);
+    awaited_is = λ history s. a ∙ awaits_by key (story key history) (entry_in key old) (s.each key);
     turned_is = λ history s. t ∙ turns_by (story key history) (entry_in key old) (s.each key);
   }
 
-pub given_tells : (key at mac : ℕ) (mark : Option Bool) (old : List NeighbourEntry) (packets : List (List ℕ)) (turned : Bool) → packets ≡ told_released (λ n. given at mac mark n) (entry_in key old) → turned ≡ told_turned (λ n. given at mac mark n) (entry_in key old) → Tells at key (Given mac mark) old packets turned
-given_tells key at mac mark old packets turned = tells_by key at (Given mac mark) (λ n. given at mac mark n) old (λ s p. when_given key at s p mac mark) packets turned
+pub given_tells : (key at mac : ℕ) (mark : Option Bool) (old : List NeighbourEntry) (packets : List (List ℕ)) (turned awaited : Bool) → packets ≡ told_released (λ n. given at mac mark n) (entry_in key old) → turned ≡ told_turned (λ n. given at mac mark n) (entry_in key old) → awaited ≡ was_wanted (entry_in key old) → Tells at key (Given mac mark) old packets turned awaited
+given_tells key at mac mark old packets turned awaited = tells_by key at (Given mac mark) (λ n. given at mac mark n) old (λ s p. when_given key at s p mac mark) packets turned awaited
 
-pub advertised_tells : (key at : ℕ) (flags : Flags) (mac : Option ℕ) (reachable : ℕ) (old : List NeighbourEntry) (packets : List (List ℕ)) (turned : Bool) → packets ≡ told_released (λ n. advertised at flags mac reachable n) (entry_in key old) → turned ≡ told_turned (λ n. advertised at flags mac reachable n) (entry_in key old) → Tells at key (Advertised flags mac reachable) old packets turned
-advertised_tells key at flags mac reachable old packets turned = tells_by key at (Advertised flags mac reachable) (λ n. advertised at flags mac reachable n) old (λ s p. when_advertised key at s p flags mac reachable) packets turned
+pub advertised_tells : (key at : ℕ) (flags : Flags) (mac : Option ℕ) (reachable : ℕ) (old : List NeighbourEntry) (packets : List (List ℕ)) (turned awaited : Bool) → packets ≡ told_released (λ n. advertised at flags mac reachable n) (entry_in key old) → turned ≡ told_turned (λ n. advertised at flags mac reachable n) (entry_in key old) → awaited ≡ was_wanted (entry_in key old) → Tells at key (Advertised flags mac reachable) old packets turned awaited
+advertised_tells key at flags mac reachable old packets turned awaited = tells_by key at (Advertised flags mac reachable) (λ n. advertised at flags mac reachable n) old (λ s p. when_advertised key at s p flags mac reachable) packets turned awaited
 
-pub marked_tells : (key at : ℕ) (router : Bool) (old : List NeighbourEntry) (packets : List (List ℕ)) (turned : Bool) → packets ≡ told_released (λ n. with_mark router n) (entry_in key old) → turned ≡ told_turned (λ n. with_mark router n) (entry_in key old) → Tells at key (Marked router) old packets turned
-marked_tells key at router old packets turned = tells_by key at (Marked router) (λ n. with_mark router n) old (λ s p. when_marked key at s p router) packets turned
+pub marked_tells : (key at : ℕ) (router : Bool) (old : List NeighbourEntry) (packets : List (List ℕ)) (turned awaited : Bool) → packets ≡ told_released (λ n. with_mark router n) (entry_in key old) → turned ≡ told_turned (λ n. with_mark router n) (entry_in key old) → awaited ≡ was_wanted (entry_in key old) → Tells at key (Marked router) old packets turned awaited
+marked_tells key at router old packets turned awaited = tells_by key at (Marked router) (λ n. with_mark router n) old (λ s p. when_marked key at s p router) packets turned awaited
 
 few_by : (known : Bool) (waiting packets : List (List ℕ)) → packets ≡ cond known waiting [] → length packets ≤ length waiting
 few_by true waiting packets is = let e = ap length is in omega (arith, e)

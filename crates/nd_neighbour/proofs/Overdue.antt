@@ -8,13 +8,13 @@ use Rattle.nd_neighbour.specs.AddressResolution.{Resolution, resolution_due, res
 use Rattle.nd_neighbour.specs.Due.{IsDue, NextDue, NoneOverdue}
 use Rattle.nd_neighbour.specs.DueKept.{NoneBefore, next_in}
 use Rattle.nd_neighbour.specs.EntryKept.{NeighbourEntry}
-use Rattle.nd_neighbour.specs.History.{Advertised, Asked, Confirmed, Forgot, Given, Marked, Probed, Row, RowKind, Solicited, Story, Used, Waits, is_end, story}
+use Rattle.nd_neighbour.specs.History.{Advertised, Asked, Confirmed, Forgot, Given, Marked, Probed, Row, RowKind, Solicited, Story, Used, Waits, Wanted, is_end, story}
 use Rattle.nd_neighbour.specs.NeighborAdvertisement.{advert_says, conforms, given_changes, taken}
 use Rattle.nd_neighbour.specs.ReachabilityConfirmation.{Confirms, Disturbs, Evidence, holds, since}
 use Rattle.nd_neighbour.specs.Story.{due_by, due_of, is_present, mac_of, or_else, says, use_of, evidence_of}
 use Rattle.nd_neighbour.specs.TableKept.{Stands}
 use Rattle.nd_neighbour.specs.UnreachabilityDetection.{Use, goes_on, reach_due}
-use Rattle.nd_neighbour.proofs.Stories.{absent_mac}
+use Rattle.nd_neighbour.proofs.Stories.{absent_mac, wish_due}
 use Rattle.nd_neighbour.proofs.Dues.{next_is_due}
 
 -- what is said at a moment disturbs from then on, or confirms beyond it
@@ -71,7 +71,7 @@ module _ (now : ℕ) where
   marked_later router (Some known) w None r le = le
   marked_later router (Some known) w (Some u) r le = le
 
-  asked_later : (retrans room : ℕ) (known : Option ℕ) (w : Option Evidence) (u : Option Use) (r : Option Resolution) → (is_some known ≡ true → now ≤ due_by known w u r) → now ≤ due_by known w (goes_on w u now (Asked retrans room)) (Some (record { at = now; retrans = retrans; room = room; more = 0 }))
+  asked_later : (retrans room : ℕ) (known : Option ℕ) (w : Option Evidence) (u : Option Use) (r : Option Resolution) → (is_some known ≡ true → now ≤ due_by known w u r) → now ≤ due_by known w (goes_on w u now (Asked retrans room)) (Some (record { at = now; retrans = retrans; room = room; more = 0; wanted = false }))
   asked_later retrans room None w u r le = omega arith
   asked_later retrans room (Some known) w None r le = le refl
   asked_later retrans room (Some known) w (Some u) r le = le refl
@@ -81,10 +81,15 @@ module _ (now : ℕ) where
   waits_later packet (Some known) w None r le = le
   waits_later packet (Some known) w (Some u) r le = le
 
+  wanted_later : (known : Option ℕ) (w : Option Evidence) (u : Option Use) (s : Story) → now ≤ due_by known w u (resolution_of s) → now ≤ due_by known w (goes_on w u now Wanted) (resolution_of ((now, Wanted) ∷ s))
+  wanted_later None w u s le = subst (λ (n : ℕ). now ≤ n) (sym (wish_due (resolution_of s))) le
+  wanted_later (Some known) w None s le = le
+  wanted_later (Some known) w (Some u) s le = le
+
   solicited_later : (known : Option ℕ) (w : Option Evidence) (u : Option Use) (s : Story) → now ≤ due_by known w u (resolution_of s) → now ≤ due_by known w (goes_on w u now Solicited) (resolution_of ((now, Solicited) ∷ s))
   solicited_later None w u s le = more (resolution_of s) le
     where
-      more : (r : Option Resolution) → now ≤ resolution_due r → now ≤ resolution_due (elim r [ None ↦ None | Some x ↦ Some (record { at = x.at; retrans = x.retrans; room = x.room; more = x.more + 1 }) ])
+      more : (r : Option Resolution) → now ≤ resolution_due r → now ≤ resolution_due (elim r [ None ↦ None | Some x ↦ Some (record { at = x.at; retrans = x.retrans; room = x.room; more = x.more + 1; wanted = x.wanted }) ])
       more None le = le
       more (Some r) le = omega arith
   solicited_later (Some known) w None s le = le
@@ -122,6 +127,7 @@ module _ (now : ℕ) where
   story_later (Asked retrans room) s e le p = asked_later retrans room (mac_of s) (evidence_of s) (use_of s) (resolution_of s) (λ known. le (mac_present s known))
   story_later Solicited s e le p = solicited_later (mac_of s) (evidence_of s) (use_of s) s (le p)
   story_later (Waits packet) s e le p = waits_later packet (mac_of s) (evidence_of s) (use_of s) (resolution_of s) (le p)
+  story_later Wanted s e le p = wanted_later (mac_of s) (evidence_of s) (use_of s) s (le p)
   story_later (Used retrans) s e le p = used_later retrans (mac_of s) (evidence_of s) (use_of s) (resolution_of s) (le p)
   story_later Probed s e le p = probed_later (mac_of s) (evidence_of s) (use_of s) (resolution_of s) (le p)
   story_later (Confirmed reachable) s e le p = confirmed_later reachable (mac_of s) (evidence_of s) (use_of s) (resolution_of s) (le p)

@@ -43,7 +43,7 @@ stalest_any now (n ∷ ns) =
 
 -- after a use only one that became stale later is stale
 used_stale : (now retrans : ℕ) (packet : List ℕ) (n : NeighbourEntry) (k : Stage) → n.stage ≡ k → is_stale (used_to k now retrans packet n).stage now ≡ (is_stale k now && ltb now (since_of k))
-used_stale now retrans packet n (Resolving r t ws) is = refl
+used_stale now retrans packet n (Resolving r t b ws) is = refl
 used_stale now retrans packet n (Known mac c since None) is = elim (cases_Bool (nat_le since now)) [
   | inl le ↦ let lt : ltb now since ≡ false = grind (arith, nat_tests, le) in rw (le, lt) (sym (and-false (not (c && false))))
   | inr gt ↦ let lt : ltb now since ≡ true = grind (arith, nat_tests, gt) in rw (gt, is, lt) (sym (and-true (not (c && true))))

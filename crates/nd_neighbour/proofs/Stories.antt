@@ -3,10 +3,10 @@ use Rattle.std.proofs.Common.{◌≡◌, ℕ, Bool, true, false, cond, [], ◌�
 use Rattle.std.specs.Prelude.{is_some}
 use Rattle.std.proofs.lemmas.Bool.{cond_both, true≢false}
 use Rattle.nd_neighbour.specs.declared.news.Flags.{Flags}
-use Rattle.nd_neighbour.specs.History.{Given, Advertised, Marked, Asked, Solicited, Waits, Used, Probed, Confirmed, Forgot, Story}
+use Rattle.nd_neighbour.specs.History.{Given, Advertised, Marked, Asked, Solicited, Waits, Wanted, Used, Probed, Confirmed, Forgot, Story}
 use Rattle.nd_neighbour.specs.ReachabilityConfirmation.{Evidence}
 use Rattle.nd_neighbour.specs.NeighborAdvertisement.{taken, advert_says}
-use Rattle.nd_neighbour.specs.AddressResolution.{Resolution, one_more, resolution_of}
+use Rattle.nd_neighbour.specs.AddressResolution.{Resolution, one_more, resolution_due, resolution_of, room_in, with_wish}
 use Rattle.nd_neighbour.specs.Story.{is_present, mac_of, is_router, says, or_else, evidence_of}
 
 -- an absent neighbour has no address
@@ -18,6 +18,7 @@ absent_mac ((at, Marked router) ∷ s) h = absent_mac s h
 absent_mac ((at, Asked retrans room) ∷ s) h = absurd (true≢false h)
 absent_mac ((at, Solicited) ∷ s) h = absent_mac s h
 absent_mac ((at, Waits packet) ∷ s) h = absent_mac s h
+absent_mac ((at, Wanted) ∷ s) h = absent_mac s h
 absent_mac ((at, Used retrans) ∷ s) h = absent_mac s h
 absent_mac ((at, Probed) ∷ s) h = absent_mac s h
 absent_mac ((at, Confirmed reachable) ∷ s) h = absent_mac s h
@@ -32,6 +33,7 @@ absent_router ((at, Marked router) ∷ s) h = rw h (absent_router s h)
 absent_router ((at, Asked retrans room) ∷ s) h = absurd (true≢false h)
 absent_router ((at, Solicited) ∷ s) h = absent_router s h
 absent_router ((at, Waits packet) ∷ s) h = absent_router s h
+absent_router ((at, Wanted) ∷ s) h = absent_router s h
 absent_router ((at, Used retrans) ∷ s) h = absent_router s h
 absent_router ((at, Probed) ∷ s) h = absent_router s h
 absent_router ((at, Confirmed reachable) ∷ s) h = absent_router s h
@@ -40,6 +42,19 @@ absent_router ((at, Forgot why) ∷ s) h = absent_router s h
 some_more : (r : Option Resolution) → is_some r ≡ true → is_some (one_more r) ≡ true
 some_more None h = h
 some_more (Some r) h = refl
+
+some_wish : (r : Option Resolution) → is_some r ≡ true → is_some (with_wish r) ≡ true
+some_wish None h = h
+some_wish (Some r) h = refl
+
+-- a wish changes neither when the resolution is due nor its room
+pub wish_due : (r : Option Resolution) → resolution_due (with_wish r) ≡ resolution_due r
+wish_due None = refl
+wish_due (Some r) = refl
+
+pub wish_room : (r : Option Resolution) → room_in (with_wish r) ≡ room_in r
+wish_room None = refl
+wish_room (Some r) = refl
 
 taken_none : (o : Bool) (mac known : Option ℕ) → taken o mac known ≡ None → known ≡ None
 taken_none o None known h = h
@@ -57,6 +72,7 @@ resolving ((at, Marked router) ∷ s) p h = resolving s p h
 resolving ((at, Asked retrans room) ∷ s) p h = refl
 resolving ((at, Solicited) ∷ s) p h = some_more (resolution_of s) (resolving s p h)
 resolving ((at, Waits packet) ∷ s) p h = resolving s p h
+resolving ((at, Wanted) ∷ s) p h = some_wish (resolution_of s) (resolving s p h)
 resolving ((at, Used retrans) ∷ s) p h = resolving s p h
 resolving ((at, Probed) ∷ s) p h = resolving s p h
 resolving ((at, Confirmed reachable) ∷ s) p h = resolving s p h
@@ -88,6 +104,7 @@ known_evidence ((at, Marked router) ∷ s) h = known_evidence s h
 known_evidence ((at, Asked retrans room) ∷ s) h = known_evidence s h
 known_evidence ((at, Solicited) ∷ s) h = known_evidence s h
 known_evidence ((at, Waits packet) ∷ s) h = known_evidence s h
+known_evidence ((at, Wanted) ∷ s) h = known_evidence s h
 known_evidence ((at, Used retrans) ∷ s) h = known_evidence s h
 known_evidence ((at, Probed) ∷ s) h = known_evidence s h
 known_evidence ((at, Confirmed reachable) ∷ s) h = some_either _ (evidence_of s) (known_evidence s h)

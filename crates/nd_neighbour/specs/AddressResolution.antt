@@ -1,7 +1,7 @@
 -- The resolution of a neighbour whose link-layer address isn't known (RFC 4861, section 7.2.2).
-use Rattle.std.specs.Prelude.{ℕ, max, ◌-◌, ◌+◌, Option, Some, None, [], ◌∷◌, List, ◌++◌, ◌*◌}
+use Rattle.std.specs.Prelude.{ℕ, Bool, true, false, max, ◌-◌, ◌+◌, Option, Some, None, [], ◌∷◌, List, ◌++◌, ◌*◌}
 use Rattle.circular_buffer.specs.Buffer.{keep_last}
-use Rattle.nd_neighbour.specs.History.{Asked, Solicited, Story, Waits}
+use Rattle.nd_neighbour.specs.History.{Asked, Solicited, Story, Waits, Wanted}
 
 -- MAX_MULTICAST_SOLICIT: how many solicitations a resolution sends, the first included (RFC 4861, section 10)
 abbrev pub max_multicast_solicit : ℕ
@@ -11,23 +11,31 @@ max_multicast_solicit = 3
 abbrev pub max_more : ℕ
 max_more = max_multicast_solicit - 1
 
--- a resolution: its moment, the RetransTimer in force then, for how many packets there is room, and how many solicitations were sent after the first
+-- a resolution: its moment, the RetransTimer in force then, for how many packets there is room, how many solicitations were sent after the first, and
+-- whether a caller waits for its outcome
 pub record Resolution : Type 0 where
   pub at : ℕ
   pub retrans : ℕ
   pub room : ℕ
   pub more : ℕ
+  pub wanted : Bool
 
 -- a further solicitation is sent
 abbrev pub one_more : Option Resolution → Option Resolution
 one_more None = None
-one_more (Some r) = Some (record { at = r.at; retrans = r.retrans; room = r.room; more = r.more + 1 })
+one_more (Some r) = Some (record { at = r.at; retrans = r.retrans; room = r.room; more = r.more + 1; wanted = r.wanted })
+
+-- a caller waits for its outcome
+abbrev pub with_wish : Option Resolution → Option Resolution
+with_wish None = None
+with_wish (Some r) = Some (record { at = r.at; retrans = r.retrans; room = r.room; more = r.more; wanted = true })
 
 -- the last resolution
 abbrev pub resolution_of : Story → Option Resolution
 resolution_of [] = None
-resolution_of ((at, Asked retrans room) ∷ s) = Some (record { at = at; retrans = retrans; room = room; more = 0 })
+resolution_of ((at, Asked retrans room) ∷ s) = Some (record { at = at; retrans = retrans; room = room; more = 0; wanted = false })
 resolution_of ((at, Solicited) ∷ s) = one_more (resolution_of s)
+resolution_of ((at, Wanted) ∷ s) = with_wish (resolution_of s)
 resolution_of ((at, _) ∷ s) = resolution_of s
 
 -- the packets that were to wait since the resolution began, the oldest first
@@ -55,6 +63,11 @@ retrans_in (Some r) = r.retrans
 abbrev pub more_in : Option Resolution → ℕ
 more_in None = 0
 more_in (Some r) = r.more
+
+-- whether a caller waits for its outcome
+abbrev pub wanted_in : Option Resolution → Bool
+wanted_in None = false
+wanted_in (Some r) = r.wanted
 
 -- the second solicitation is due one RetransTimer after the first, the third after two, and the failure after three
 abbrev pub resolution_due : Option Resolution → ℕ

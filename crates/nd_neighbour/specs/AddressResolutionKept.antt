@@ -5,4 +5,4 @@ use Rattle.nd_neighbour.specs.EntryKept.{NeighbourEntry, Resolving}
 -- a resolution begins with a packet that waits, with room for so many
 abbrev pub asked_entry : ℕ → ℕ → ℕ → ℕ → List ℕ → NeighbourEntry
 asked_entry key at retrans room packet =
-    record { key = key; router = false; due = at + retrans; stage = Resolving retrans 0 (record { room = max 1 room; packets = packet ∷ [] }) }
+    record { key = key; router = false; due = at + retrans; stage = Resolving retrans 0 false (record { room = max 1 room; packets = packet ∷ [] }) }

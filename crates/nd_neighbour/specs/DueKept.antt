@@ -9,7 +9,7 @@ use Rattle.nd_neighbour.specs.Due.{Falls, Multicasts, Unicasts, Fails, Ages}
 
 -- the same of what is kept
 abbrev pub falls_to : ℕ → Stage → Falls
-falls_to key (Resolving retrans sent waiting) = if nat_lt sent max_more then Multicasts key else Fails key waiting.packets
+falls_to key (Resolving retrans sent wanted waiting) = if nat_lt sent max_more then Multicasts key else Fails key waiting.packets
 falls_to key (Known mac confirmed since None) = Ages key
 falls_to key (Known mac confirmed since (Some probing)) = if nat_lt probing.sent max_unicast_solicit then Unicasts key mac else Fails key []
 
@@ -26,8 +26,8 @@ stays (Ages key) = false
 
 -- a solicitation that was due is sent: one more was, and the next is due a RetransTimer later
 abbrev pub solicited_to : Stage → ℕ → NeighbourEntry → NeighbourEntry
-solicited_to (Resolving retrans sent waiting) at n =
-    record { key = n.key; router = n.router; due = at + retrans; stage = Resolving retrans (sent + 1) waiting }
+solicited_to (Resolving retrans sent wanted waiting) at n =
+    record { key = n.key; router = n.router; due = at + retrans; stage = Resolving retrans (sent + 1) wanted waiting }
 solicited_to (Known mac confirmed since None) at n = n
 solicited_to (Known mac confirmed since (Some probing)) at n =
     record {
@@ -59,7 +59,7 @@ NoneBefore entries now = NotBefore now (next_in entries)
 
 -- how many turns a neighbour can still take, where nothing else happens
 abbrev pub turns_to : Stage → ℕ
-turns_to (Resolving retrans sent waiting) = max_more - sent + 1
+turns_to (Resolving retrans sent wanted waiting) = max_more - sent + 1
 turns_to (Known mac confirmed since None) = 1
 turns_to (Known mac confirmed since (Some probing)) = max_unicast_solicit - probing.sent + 1
 

@@ -6,8 +6,8 @@ use Rattle.nd_neighbour.specs.UnreachabilityDetection.{stale_lifetime}
 
 -- what is kept of a neighbour, besides its address and its mark
 pub data Stage : Type 0 where
-  -- no address is known (INCOMPLETE): the time between two solicitations, how many were sent after the first, what waits
-  Resolving : (retrans sent : ℕ) (waiting : Waiting) → Stage
+  -- no address is known (INCOMPLETE): the time between two solicitations, how many were sent after the first, whether a caller waits, what packets do
+  Resolving : (retrans sent : ℕ) (wanted : Bool) (waiting : Waiting) → Stage
   -- an address is known (REACHABLE, STALE, DELAY or PROBE): whether the last word is a confirmation, until or from when, and the use afterwards
   Known : (mac : ℕ) (confirmed : Bool) (since : ℕ) (probing : Option Probing) → Stage
 
@@ -20,13 +20,18 @@ pub record NeighbourEntry : Type 0 where
 
 -- the link-layer address, if it is known
 abbrev pub known_mac : Stage → Option ℕ
-known_mac (Resolving retrans sent waiting) = None
+known_mac (Resolving retrans sent wanted waiting) = None
 known_mac (Known mac confirmed since probing) = Some mac
 
 -- what waits
 abbrev pub waiting_in : Stage → List (List ℕ)
-waiting_in (Resolving retrans sent waiting) = waiting.packets
+waiting_in (Resolving retrans sent wanted waiting) = waiting.packets
 waiting_in (Known mac confirmed since probing) = []
+
+-- a caller waits for the address
+abbrev pub is_wanted : Stage → Bool
+is_wanted (Resolving retrans sent wanted waiting) = wanted
+is_wanted (Known mac confirmed since probing) = false
 
 -- what is released: where an address is known after the change, all that waited
 abbrev pub released : NeighbourEntry → NeighbourEntry → List (List ℕ)
@@ -34,7 +39,7 @@ released old new = if is_some (known_mac new.stage) then waiting_in old.stage el
 
 -- the neighbour is reachable at the moment
 abbrev pub is_reachable : Stage → ℕ → Bool
-is_reachable (Resolving retrans sent waiting) t = false
+is_reachable (Resolving retrans sent wanted waiting) t = false
 is_reachable (Known mac confirmed since probing) t = confirmed && nat_lt t since
 
 -- a message says whether it is a router

@@ -28,6 +28,8 @@ pub data RowKind : Type 0 where
   Solicited : RowKind
   -- a packet for it was kept until its address is known
   Waits : (packet : List ℕ) → RowKind
+  -- a caller waits until its address is known
+  Wanted : RowKind
   -- a packet was sent to it, at a RetransTimer
   Used : (retrans : ℕ) → RowKind
   -- a unicast solicitation was sent

@@ -24,6 +24,8 @@ pub mod News
 pub mod NewsKept
 pub mod Sending
 pub mod SendingKept
+pub mod Wanting
+pub mod WantingKept
 pub mod Room
 pub mod RoomKept
 pub mod Removal

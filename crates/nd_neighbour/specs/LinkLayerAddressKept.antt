@@ -8,7 +8,7 @@ mark_or mark router = unwrap_or mark router
 
 -- what it makes of what is kept: a first address, or another one, makes it STALE; the one that is known only marks it
 abbrev pub given_to : Stage → NeighbourEntry → ℕ → ℕ → Bool → NeighbourEntry
-given_to (Resolving retrans sent waiting) n at mac router = stale_entry n.key router at mac
+given_to (Resolving retrans sent wanted waiting) n at mac router = stale_entry n.key router at mac
 given_to (Known known confirmed since probing) n at mac router =
     if mac == known then with_mark router n else stale_entry n.key router at mac
 

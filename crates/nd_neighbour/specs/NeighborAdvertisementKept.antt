@@ -14,8 +14,8 @@ conforming flags at reachable mac changed n =
 -- conforms. Else one conforms that gives no address, the one that is known, or another one with Override; another one
 -- without Override makes REACHABLE STALE, and is ignored in every other state.
 abbrev pub advertised_to : Stage → Flags → Option ℕ → ℕ → ℕ → NeighbourEntry → NeighbourEntry
-advertised_to (Resolving retrans sent waiting) flags None at reachable n = n
-advertised_to (Resolving retrans sent waiting) flags (Some mac) at reachable n = conforming flags at reachable mac true n
+advertised_to (Resolving retrans sent wanted waiting) flags None at reachable n = n
+advertised_to (Resolving retrans sent wanted waiting) flags (Some mac) at reachable n = conforming flags at reachable mac true n
 advertised_to (Known known confirmed since probing) flags None at reachable n = conforming flags at reachable known false n
 advertised_to (Known known confirmed since probing) flags (Some mac) at reachable n =
     if mac == known then conforming flags at reachable known false n

@@ -6,12 +6,12 @@ use Rattle.nd_neighbour.specs.TableKept.{entry_in, place_in, Alters}
 
 -- the same of what is kept
 abbrev pub is_stale : Stage → ℕ → Bool
-is_stale (Resolving retrans sent waiting) t = false
+is_stale (Resolving retrans sent wanted waiting) t = false
 is_stale (Known mac confirmed since None) t = not (confirmed && nat_lt t since)
 is_stale (Known mac confirmed since (Some probing)) t = false
 
 abbrev pub since_of : Stage → ℕ
-since_of (Resolving retrans sent waiting) = 0
+since_of (Resolving retrans sent wanted waiting) = 0
 since_of (Known mac confirmed since probing) = since
 
 -- the one of two that isn't reachable for longer, at a tie the first

@@ -14,7 +14,7 @@ count_of o = if is_some o then 1 else 0
 
 -- for how many packets an entry has room: where an address is known none waits
 abbrev pub room_of : Stage → ℕ
-room_of (Resolving retrans sent waiting) = waiting.room
+room_of (Resolving retrans sent wanted waiting) = waiting.room
 room_of (Known mac confirmed since probing) = 0
 
 -- no entry has room for more packets than this

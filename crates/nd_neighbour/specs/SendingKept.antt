@@ -1,7 +1,8 @@
 -- Only what is kept, in the code's terms: what a packet makes of an entry.
-use Rattle.std.specs.Prelude.{ℕ, List, Option, false, if◌then◌else◌, None, ◌+◌, nat_le, Some, true}
+use Rattle.std.specs.Prelude.{ℕ, Bool, List, Option, false, if◌then◌else◌, None, ◌+◌, nat_le, Some, true}
 use Rattle.nd_table.specs.HistoryKept.{GainsRowsMakingPlace}
 use Rattle.nd_neighbour.specs.History.{story}
+use Rattle.nd_neighbour.specs.declared.unreachability_detection.Probing.{Probing}
 use Rattle.nd_neighbour.specs.EntryKept.{Stage, Resolving, Known, NeighbourEntry}
 use Rattle.nd_packet.specs.Waiting.{replaced, then_waits}
 use Rattle.nd_neighbour.specs.UnreachabilityDetection.{delay_first_probe_time}
@@ -18,7 +19,7 @@ GainsPacket limit now key retrans room packet old new =
 
 -- the same by what is kept
 abbrev pub sending_to : Stage → List ℕ → Sending
-sending_to (Resolving retrans sent waiting) packet = Queues false (replaced waiting.room waiting.packets packet)
+sending_to (Resolving retrans sent wanted waiting) packet = Queues false (replaced waiting.room waiting.packets packet)
 sending_to (Known mac confirmed since probing) packet = Sends mac packet
 
 -- and of a neighbour that may not be there
@@ -26,17 +27,9 @@ abbrev pub sending_in : Option NeighbourEntry → List ℕ → Sending
 sending_in None packet = Queues true None
 sending_in (Some n) packet = sending_to n.stage packet
 
--- what a packet makes of what is kept: in INCOMPLETE it waits; in STALE the first one leads to DELAY; in REACHABLE, DELAY
--- and PROBE nothing changes
-abbrev pub used_to : Stage → ℕ → ℕ → List ℕ → NeighbourEntry → NeighbourEntry
-used_to (Resolving retrans sent waiting) at new_retrans packet n =
-    record {
-      key = n.key;
-      router = n.router;
-      due = n.due;
-      stage = Resolving retrans sent (record { room = waiting.room; packets = then_waits waiting.room waiting.packets packet });
-    }
-used_to (Known mac confirmed since None) at retrans packet n =
+-- what a use makes of a neighbour whose address is known: in STALE the first one leads to DELAY; in REACHABLE, DELAY and PROBE nothing changes
+abbrev pub known_used : ℕ → Bool → ℕ → Option Probing → ℕ → ℕ → NeighbourEntry → NeighbourEntry
+known_used mac confirmed since None at retrans n =
     if nat_le since at
     then record {
       key = n.key;
@@ -45,7 +38,18 @@ used_to (Known mac confirmed since None) at retrans packet n =
       stage = Known mac confirmed since (Some (record { from = at + delay_first_probe_time; retrans = retrans; sent = 0 }));
     }
     else n
-used_to (Known mac confirmed since (Some probing)) at retrans packet n = n
+known_used mac confirmed since (Some probing) at retrans n = n
+
+-- what a packet makes of what is kept: in INCOMPLETE it waits; otherwise it is a use
+abbrev pub used_to : Stage → ℕ → ℕ → List ℕ → NeighbourEntry → NeighbourEntry
+used_to (Resolving retrans sent wanted waiting) at new_retrans packet n =
+    record {
+      key = n.key;
+      router = n.router;
+      due = n.due;
+      stage = Resolving retrans sent wanted (record { room = waiting.room; packets = then_waits waiting.room waiting.packets packet });
+    }
+used_to (Known mac confirmed since probing) at retrans packet n = known_used mac confirmed since probing at retrans n
 
 -- the same of a neighbour
 abbrev pub used : ℕ → ℕ → List ℕ → NeighbourEntry → NeighbourEntry

@@ -1,10 +1,10 @@
 -- What is shown of a neighbour at a moment, and its reachability state (RFC 4861, sections 5.1 and 7.3.2).
-use Rattle.std.specs.Prelude.{ℕ, ◌+◌, nat_lt, if◌then◌else◌, Option, Some, None, Bool, ◌≡◌, List}
+use Rattle.std.specs.Prelude.{ℕ, ◌+◌, ◌-◌, nat_lt, if◌then◌else◌, Option, Some, None, Bool, ◌≡◌, List}
 use Rattle.nd_table.specs.Keyed.{at_key, Rises}
 use Rattle.nd_neighbour.specs.declared.shown.Reachability.{Reachability}
 use Rattle.nd_neighbour.specs.declared.shown.Reachability.TheVariants.{Stale, Delay, Probe, Incomplete, Reachable}
 use Rattle.nd_neighbour.specs.History.{Story, Row, story}
-use Rattle.nd_neighbour.specs.ReachabilityConfirmation.{Evidence, holds}
+use Rattle.nd_neighbour.specs.ReachabilityConfirmation.{Evidence, Confirms, holds}
 use Rattle.nd_neighbour.specs.UnreachabilityDetection.{delay_first_probe_time, Use}
 use Rattle.nd_neighbour.specs.Story.{mac_of, evidence_of, use_of, is_present, is_router}
 
@@ -22,17 +22,27 @@ state_by (Some mac) evidence use' t = if holds (Some mac) evidence t then Reacha
 abbrev pub state_of : Story → ℕ → Reachability
 state_of s t = state_by (mac_of s) (evidence_of s) (use_of s) t
 
--- a neighbour: its address, its link-layer address, its mark and its state
+-- how long the confirmation still holds at a moment, if it does
+abbrev pub left_by : Option ℕ → Option Evidence → ℕ → Option ℕ
+left_by (Some mac) (Some (Confirms at reachable)) t = if nat_lt t (at + reachable) then Some (at + reachable - t) else None
+left_by _ _ t = None
+
+-- the same by the story
+abbrev pub reachable_left : Story → ℕ → Option ℕ
+reachable_left s t = left_by (mac_of s) (evidence_of s) t
+
+-- a neighbour: its address, its link-layer address, its mark, its state, and how long it still is REACHABLE
 pub record Seen : Type 0 where
   pub key : ℕ
   pub mac : Option ℕ
   pub router : Bool
   pub state : Reachability
+  pub left : Option ℕ
 
 -- what the story says at the moment
 abbrev pub seen_of : ℕ → Story → ℕ → Option Seen
 seen_of key s t =
-    if is_present s then Some (record { key = key; mac = mac_of s; router = is_router s; state = state_of s t }) else None
+    if is_present s then Some (record { key = key; mac = mac_of s; router = is_router s; state = state_of s t; left = reachable_left s t }) else None
 
 -- its address
 abbrev pub seen_key : Seen → ℕ

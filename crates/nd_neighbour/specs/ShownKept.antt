@@ -1,5 +1,5 @@
 -- Only what is kept, in the code's terms: what an entry shows at a moment.
-use Rattle.std.specs.Prelude.{ℕ, nat_lt, if◌then◌else◌, Option, Some, None, ◌&&◌}
+use Rattle.std.specs.Prelude.{ℕ, ◌-◌, nat_lt, if◌then◌else◌, Option, Some, None, ◌&&◌}
 use Rattle.nd_neighbour.specs.declared.shown.Reachability.{Reachability}
 use Rattle.nd_neighbour.specs.declared.shown.Reachability.TheVariants.{Stale, Delay, Probe, Incomplete, Reachable}
 use Rattle.nd_neighbour.specs.declared.unreachability_detection.Probing.{Probing}
@@ -13,9 +13,14 @@ probing_state (Some probing) t = if nat_lt t probing.from then Delay else Probe
 
 -- the state by what is kept
 abbrev pub state_in : Stage → ℕ → Reachability
-state_in (Resolving retrans sent waiting) t = Incomplete
+state_in (Resolving retrans sent wanted waiting) t = Incomplete
 state_in (Known mac confirmed since probing) t = if confirmed && nat_lt t since then Reachable else probing_state probing t
+
+-- how long the confirmation still holds
+abbrev pub left_in : Stage → ℕ → Option ℕ
+left_in (Resolving retrans sent wanted waiting) t = None
+left_in (Known mac confirmed since probing) t = if confirmed && nat_lt t since then Some (since - t) else None
 
 -- a neighbour at the moment
 abbrev pub seen : ℕ → NeighbourEntry → Seen
-seen t n = record { key = n.key; mac = known_mac n.stage; router = n.router; state = state_in n.stage t }
+seen t n = record { key = n.key; mac = known_mac n.stage; router = n.router; state = state_in n.stage t; left = left_in n.stage t }

@@ -5,7 +5,7 @@ use Rattle.nd_neighbour.specs.History.{Given, Asked, Story, Advertised, Marked, 
 use Rattle.nd_neighbour.specs.LinkLayerAddress.{changes}
 use Rattle.nd_neighbour.specs.ReachabilityConfirmation.{Evidence, Confirms, Disturbs}
 use Rattle.nd_neighbour.specs.NeighborAdvertisement.{taken, conforms, advert_says}
-use Rattle.nd_neighbour.specs.AddressResolution.{waiting_of, Resolution, resolution_due, resolution_of}
+use Rattle.nd_neighbour.specs.AddressResolution.{waiting_of, Resolution, resolution_due, resolution_of, wanted_in}
 use Rattle.nd_neighbour.specs.UnreachabilityDetection.{Use, goes_on, reach_due}
 
 -- there is an entry from the first row on that gives an address or begins a resolution
@@ -65,6 +65,15 @@ waits_by (Some mac) waiting = []
 -- the same by the story
 abbrev pub waits_of : Story → List (List ℕ)
 waits_of s = if is_present s then waits_by (mac_of s) (waiting_of s) else []
+
+-- a caller waits for its address, while it isn't known
+abbrev pub awaited_by : Option ℕ → Bool → Bool
+awaited_by None wanted = wanted
+awaited_by (Some mac) wanted = false
+
+-- the same by the story
+abbrev pub is_awaited : Story → Bool
+is_awaited s = is_present s && awaited_by (mac_of s) (wanted_in (resolution_of s))
 
 -- the moment at which something is due: of the resolution without an address, of reachability with one
 abbrev pub due_by : Option ℕ → Option Evidence → Option Use → Option Resolution → ℕ

@@ -3,14 +3,14 @@ use Rattle.std.specs.Prelude.{ℕ, if◌then◌else◌, Option, Some, None, List
 use Rattle.nd_neighbour.specs.History.{Story}
 use Rattle.nd_neighbour.specs.EntryKept.{Stage, Resolving, Known, NeighbourEntry}
 use Rattle.nd_neighbour.specs.ReachabilityConfirmation.{Evidence, is_confirmed, since_in}
-use Rattle.nd_neighbour.specs.AddressResolution.{waiting_of, Resolution, retrans_in, room_in, more_in, resolution_of}
+use Rattle.nd_neighbour.specs.AddressResolution.{waiting_of, Resolution, retrans_in, room_in, more_in, wanted_in, resolution_of}
 use Rattle.nd_neighbour.specs.UnreachabilityDetection.{Use, probing_of}
 use Rattle.nd_neighbour.specs.Story.{is_present, mac_of, is_router, evidence_of, use_of, due_of}
 
 -- what is kept: of the resolution without an address, of reachability with one
 abbrev pub stage_by : Option ℕ → Option Evidence → Option Use → Option Resolution → List (List ℕ) → Stage
 stage_by None evidence use' resolution waiting =
-    Resolving (retrans_in resolution) (more_in resolution) (record { room = room_in resolution; packets = waiting })
+    Resolving (retrans_in resolution) (more_in resolution) (wanted_in resolution) (record { room = room_in resolution; packets = waiting })
 stage_by (Some mac) evidence use' resolution waiting = Known mac (is_confirmed evidence) (since_in evidence) (probing_of use')
 
 -- what the story says of a neighbour that is present

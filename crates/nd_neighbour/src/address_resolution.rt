@@ -69,8 +69,9 @@ impl<A: Allocator> Entry<A> {
             router: false,
             due: now + u64::from(retrans),
             stage: Stage::Resolving {
-                retrans,
                 sent: 0,
+                wanted: false,
+                retrans,
                 waiting: ring.with(packet),
             },
         }

@@ -32,6 +32,8 @@ pub(crate) enum Stage<A: Allocator> {
     Resolving {
         /// The number of solicitations sent after the first. It stands before `retrans`, so that an entry takes 72 bytes and not 80.
         sent: u8,
+        /// A caller waits for the link-layer address.
+        wanted: bool,
         /// RetransTimer when it began: the time between two solicitations, in milliseconds.
         retrans: u32,
         waiting: Waiting<A>,
@@ -79,7 +81,7 @@ impl<A: Allocator> Dated<()> for Entry<A> {
 }
 
 impl<A: Allocator> Entry<A> {
-    ghost use Rattle.nd_neighbour.specs.EntryKept.{Known, is_reachable, known_mac, waiting_in};
+    ghost use Rattle.nd_neighbour.specs.EntryKept.{Known, is_reachable, is_wanted, known_mac, waiting_in};
     ghost use Rattle.nd_neighbour.specs.UnreachabilityDetection.{stale_lifetime};
 
     /// Returns the link-layer address, if it is known.
@@ -99,6 +101,16 @@ impl<A: Allocator> Entry<A> {
         match &self.stage {
             Stage::Resolving { .. } => false,
             Stage::Known { .. } => true,
+        }
+    }
+
+    /// Returns true if a caller waits for the link-layer address.
+    pub(crate) fn is_wanted(&self) -> bool
+        ensures { result ≡ is_wanted self.now.stage }
+    {
+        match &self.stage {
+            Stage::Resolving { wanted, .. } => *wanted,
+            Stage::Known { .. } => false,
         }
     }
 

@@ -7,7 +7,7 @@ ghost use Rattle.nd_packet.specs.Waiting.{replaced, then_waits};
 ghost use Rattle.nd_neighbour.specs.declared.news.News.{News};
 ghost use Rattle.nd_neighbour.specs.declared.news.Times.{Times};
 ghost use Rattle.nd_neighbour.specs.News.{mac_given, news_row, released_by};
-ghost use Rattle.nd_neighbour.specs.Story.{mac_of};
+ghost use Rattle.nd_neighbour.specs.Story.{is_awaited, mac_of};
 ghost use Rattle.nd_neighbour.specs.History.{Row, RowKind, Story, Waits};
 ghost use Rattle.nd_neighbour.specs.RoomKept.{has_room};
 ghost use Rattle.nd_neighbour.specs.EntryKept.{NeighbourEntry};
@@ -55,8 +55,10 @@ pub fn no_packet_is_lost()
     ensures kept { (room : ℕ) (waiting : List (List ℕ)) (packet : List ℕ) → length waiting ≤ room → waiting ++ packet ∷ [] ≡ option_to_list (replaced room waiting packet) ++ then_waits room waiting packet }
 {}
 
-/// A message releases no more packets than there was room for, and they go to the address that it gives: if any are released, that is the address known afterwards.
+/// A message releases no more packets than there was room for, and they go to the address that it gives: if any are released, or if a caller waits,
+/// that is the address known afterwards.
 pub fn released_to_the_given_address()
     ensures few { (now : ℕ) (news : News) (times : Times) (s : Story) → length (released_by now (news_row news times) s) ≤ room_in (resolution_of s) }
+    ensures awaited { (now : ℕ) (news : News) (times : Times) (s : Story) → is_awaited s ≡ true → mac_of ((now, news_row news times) ∷ s) ≡ option_map (λ mac. number_of mac.0) (mac_given news) }
     ensures given { (now : ℕ) (news : News) (times : Times) (s : Story) → (released_by now (news_row news times) s ≡ []) ⊎ (mac_of ((now, news_row news times) ∷ s) ≡ option_map (λ mac. number_of mac.0) (mac_given news)) }
 {}

@@ -2,7 +2,7 @@
 //!
 //! Each event has a file, and its definition in `specs/` has the same name: a message gives a link-layer address (`link_layer_address`), an
 //! advertisement is received (`neighbor_advertisement`: 7.2.5), an upper layer confirms reachability (`reachability_confirmation`: 7.3.1), a packet
-//! is sent (`sending`, with `address_resolution`: 7.2.2, and `unreachability_detection`: 7.3.3), and time passes (`due`).
+//! is sent, or its sender keeps it (`sending` and `wanting`, with `address_resolution`: 7.2.2, and `unreachability_detection`: 7.3.3), and time passes (`due`).
 #![tactic(auto)]
 
 mod address_resolution;
@@ -22,6 +22,7 @@ mod room;
 mod sending;
 mod shown;
 mod unreachability_detection;
+mod wanting;
 
 pub use cache::{Cache, MAX_NEIGHBOURS};
 pub use due::Due;
@@ -31,3 +32,4 @@ pub use news::{Flags, News, Times, Touched};
 pub use refusal::CacheRefusal;
 pub use sending::Use;
 pub use shown::{Neighbour, Neighbours, Reachability};
+pub use wanting::Want;

@@ -8,7 +8,7 @@ ghost use Rattle.nd_neighbour.specs.LinkLayerAddressKept.{given, mark_or};
 ghost use Rattle.nd_neighbour.specs.TableKept.{entry_in, Alters};
 ghost use Rattle.nd_neighbour.specs.Planned.{IsPlanned};
 ghost use Rattle.nd_neighbour.specs.PlaceKept.{Gives, NoPlace};
-ghost use Rattle.nd_neighbour.specs.NewsKept.{told_released, told_turned, was_known};
+ghost use Rattle.nd_neighbour.specs.NewsKept.{told_released, told_turned, was_known, was_wanted};
 
 use crate::entry::{Entry, STALE_LIFETIME, Stage, is_same_mac};
 use crate::news::Touched;
@@ -39,6 +39,7 @@ pub(crate) fn give_or_enter<A: Allocator>(
     ensures gives { OnOk result (Gives limit now (number_of addr.0) (λ n. given now (number_of mac.0) mark n) (stale_entry (number_of addr.0) (mark_or mark false) now (number_of mac.0)) entries.old.items entries.new.items) }
     ensures released { IfOk result (λ touched. touched.released ≡ told_released (λ n. given now (number_of mac.0) mark n) (entry_in (number_of addr.0) entries.old.items)) }
     ensures was_known { IfOk result (λ touched. touched.was_known ≡ was_known (entry_in (number_of addr.0) entries.old.items)) }
+    ensures was_wanted { IfOk result (λ touched. touched.was_wanted ≡ was_wanted (entry_in (number_of addr.0) entries.old.items)) }
     ensures ends_router { IfOk result (λ touched. touched.ends_router ≡ told_turned (λ n. given now (number_of mac.0) mark n) (entry_in (number_of addr.0) entries.old.items)) }
     ensures full { IsErr result ↔ NoPlace limit now (number_of addr.0) entries.old.items }
     ensures err { IfErr result (λ refusal. refusal ≡ CacheRefusal.Full) }
@@ -80,6 +81,7 @@ pub(crate) fn give<A: Allocator>(
     ensures alters { Alters (number_of addr.0) (λ n. given now (number_of mac.0) mark n) entries.old.items entries.new.items }
     ensures released { result.released ≡ told_released (λ n. given now (number_of mac.0) mark n) (entry_in (number_of addr.0) entries.old.items) }
     ensures was_known { result.was_known ≡ was_known (entry_in (number_of addr.0) entries.old.items) }
+    ensures was_wanted { result.was_wanted ≡ was_wanted (entry_in (number_of addr.0) entries.old.items) }
     ensures ends_router { result.ends_router ≡ told_turned (λ n. given now (number_of mac.0) mark n) (entry_in (number_of addr.0) entries.old.items) }
     ensures planned { IsPlanned entries.new.items dates.new }
     ensures room { dates.new.room ≡ dates.old.room }
@@ -89,10 +91,11 @@ pub(crate) fn give<A: Allocator>(
     let entry = &mut entries[i];
     let was = entry.date();
     let was_known = entry.is_known();
+    let was_wanted = entry.is_wanted();
     let was_router = entry.router();
     let released = entry.given(now, mac, mark);
     dates.change(was, entry.date(), addr);
-    Touched::new(released, was_known, was_router, entry.router())
+    Touched::new(released, was_known, was_wanted, was_router, entry.router())
 }
 
 impl<A: Allocator> Entry<A> {

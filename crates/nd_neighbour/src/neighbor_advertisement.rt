@@ -7,7 +7,7 @@ ghost use Rattle.nd_table.specs.Moment.{IsMoment};
 ghost use Rattle.nd_neighbour.specs.NeighborAdvertisementKept.{advertised};
 ghost use Rattle.nd_neighbour.specs.TableKept.{entry_in, Alters};
 ghost use Rattle.nd_neighbour.specs.Planned.{IsPlanned};
-ghost use Rattle.nd_neighbour.specs.NewsKept.{told_released, told_turned, was_known};
+ghost use Rattle.nd_neighbour.specs.NewsKept.{told_released, told_turned, was_known, was_wanted};
 
 use crate::entry::{Entry, is_same_mac};
 use crate::news::{Flags, Touched};
@@ -32,6 +32,7 @@ pub(crate) fn advertise<A: Allocator>(
     ensures alters { Alters (number_of addr.0) (λ n. advertised now flags (option_map (λ m. number_of m.0) mac) reachable n) entries.old.items entries.new.items }
     ensures released { result.released ≡ told_released (λ n. advertised now flags (option_map (λ m. number_of m.0) mac) reachable n) (entry_in (number_of addr.0) entries.old.items) }
     ensures was_known { result.was_known ≡ was_known (entry_in (number_of addr.0) entries.old.items) }
+    ensures was_wanted { result.was_wanted ≡ was_wanted (entry_in (number_of addr.0) entries.old.items) }
     ensures ends_router { result.ends_router ≡ told_turned (λ n. advertised now flags (option_map (λ m. number_of m.0) mac) reachable n) (entry_in (number_of addr.0) entries.old.items) }
     ensures planned { IsPlanned entries.new.items dates.new }
     ensures room { dates.new.room ≡ dates.old.room }
@@ -44,10 +45,11 @@ pub(crate) fn advertise<A: Allocator>(
     let entry = &mut entries[i];
     let was = entry.date();
     let was_known = entry.is_known();
+    let was_wanted = entry.is_wanted();
     let was_router = entry.router();
     let released = entry.advertised(now, flags, mac, reachable);
     dates.change(was, entry.date(), addr);
-    Touched::new(released, was_known, was_router, entry.router())
+    Touched::new(released, was_known, was_wanted, was_router, entry.router())
 }
 
 impl<A: Allocator> Entry<A> {

@@ -22,6 +22,8 @@ pub struct Neighbour {
     /// IsRouter: it is known to be a router.
     pub router: bool,
     pub state: Reachability,
+    /// The time for which it still is REACHABLE, in milliseconds, if it is.
+    pub reachable_left: Option<u64>,
 }
 
 /// What is known of the reachability of a neighbour (RFC 4861, section 7.3.2).
@@ -124,7 +126,7 @@ pub(crate) fn show<A: Allocator>(entries: &[Entry<A>], now: u64, addr: Addr) -> 
 }
 
 impl<A: Allocator> Entry<A> {
-    ghost use Rattle.nd_neighbour.specs.ShownKept.{seen, state_in};
+    ghost use Rattle.nd_neighbour.specs.ShownKept.{left_in, seen, state_in};
     ghost use Rattle.nd_neighbour.specs.View.{seen_in};
 
     /// Returns what is shown of it at `now`, in milliseconds (RFC 4861, section 7.3.2).
@@ -136,6 +138,21 @@ impl<A: Allocator> Entry<A> {
             mac: self.mac(),
             router: self.router,
             state: self.state(now),
+            reachable_left: self.reachable_left(now),
+        }
+    }
+
+    /// Returns the time for which a confirmation still holds at `now`, if one does, both in milliseconds (RFC 4861, section 7.3.2).
+    fn reachable_left(&self, now: u64) -> Option<u64>
+        ensures { result ≡ left_in self.now.stage now }
+    {
+        match &self.stage {
+            Stage::Known {
+                confirmed: true,
+                since,
+                ..
+            } if now < *since => Some(*since - now),
+            _ => None,
         }
     }
 

@@ -59,7 +59,7 @@ use Rattle.nd_chronicle.specs.RouterAdvertisement.{redrawing, with_delay, formin
 use Rattle.nd_chronicle.specs.Told.{Told, items_at, items}
 use Rattle.nd_out.specs.declared.out.Out.{Out}
 use Rattle.nd_steps.specs.DefaultRouterList.{with_left, with_gone, left_told}
-use Rattle.nd_steps.specs.NeighbourCache.{PreparesFor, released_frames, HearsOf}
+use Rattle.nd_steps.specs.NeighbourCache.{PreparesFor, released_rows, HearsOf}
 use Rattle.nd_steps.specs.Parameters.{then_parameters, HearsParameters}
 use Rattle.nd_steps.specs.OwnAddresses.{Forms}
 use Rattle.nd_nexthop.specs.Memo.{is_asked}
@@ -419,7 +419,7 @@ module _ {R A : Type 0} (stream : R → Stream) (old new : Node R A) (before aft
   c = (now, Passed) ∷ below
 
   meets : (made : List neighbour_rows.Row) × PreparesFor start.limits.neighbours now of_sender (neighbour_history c) made × cache.Stands new.neighbours.entries (then_neighbour now of_sender made)
-      × (told.happenings t.between ≡ told.happenings before ++ at_moment now (released_frames now of_sender (neighbour_history c)))
+      × (told.happenings t.between ≡ told.happenings before ++ at_moment now (released_rows now of_sender (neighbour_history c)))
   meets =
       let h = t.neighbours.each (neighbour_history c) s.neighbours in
       (h.0, subst (λ (n : ℕ). PreparesFor n now of_sender (neighbour_history c) h.0) s.limits.neighbours h.1, h.2, h.3)
@@ -589,11 +589,11 @@ module _ {R A : Type 0} (stream : R → Stream) (old new : Node R A) (before aft
 
   tells_released : Tells ((now, Heard source destination (advertised ra options)) ∷ c) released before t.between
   tells_released = record {
-    newer = at_moment now (released_frames now of_sender (neighbour_history c));
+    newer = at_moment now (released_rows now of_sender (neighbour_history c));
     told = releasing_items now of_sender (neighbour_history placed) begun
-        ∙ (ap (λ (x : List (ℕ × Told)). x ++ flat_map items_at (at_moment now (released_frames now of_sender (neighbour_history placed)))) items_begun
+        ∙ (ap (λ (x : List (ℕ × Told)). x ++ flat_map items_at (at_moment now (released_rows now of_sender (neighbour_history placed)))) items_begun
         ∙ ap (λ (f : List Happening). items ((now, Heard source destination (advertised ra options)) ∷ c) ++ flat_map items_at (at_moment now f))
-        (ap (λ (h : List neighbour_rows.Row). released_frames now of_sender h) place.history ∙ released_kept start.limits.neighbours now of_sender (neighbour_history c) meets.0 meets.1));
+        (ap (λ (h : List neighbour_rows.Row). released_rows now of_sender h) place.history ∙ released_kept start.limits.neighbours now of_sender (neighbour_history c) meets.0 meets.1));
     outs = meets.3;
   }
 

@@ -39,7 +39,7 @@ use Rattle.nd_chronicle.specs.Told.{items_at, items}
 use Rattle.nd_out.specs.declared.out.Out.{Out}
 use Rattle.nd_out.specs.Out.{happening}
 use Rattle.nd_steps.specs.DefaultRouterList.{with_left, with_gone, Leaves, told_left}
-use Rattle.nd_steps.specs.NeighbourCache.{said_by, HasPlace, HearsOf, released_frames}
+use Rattle.nd_steps.specs.NeighbourCache.{said_by, HasPlace, HearsOf, released_rows}
 use Rattle.nd_steps.specs.OwnAddresses.{Conflicts, with_conflict, told_conflict}
 use Rattle.nd_steps.specs.Outputs.{at_moment, happenings, Tells}
 use Rattle.nd_steps.proofs.Quiet.{Quiet}
@@ -216,7 +216,7 @@ module _ {R A : Type 0} (stream : R → Stream) (old new : Node R A) (x room y1 
           outs = ap happenings told ∙ (ap (λ r. happenings (r ++ (now, heard) ∷ [])) reserved ∙ (one_more x (x ++ (now, heard) ∷ []) now heard refl ∙ ap (λ w. happenings x ++ (now, w) ∷ []) heard_is));
         } in
         let conflict_items : Tells e0 e1 y1 y2 = record { newer = told_conflict now t key; told = k1.told; outs = conflicts.told ∙ ap (λ (b : Bool). happenings y1 ++ told_conflict now b key) cf.0 } in
-        let frames_items : Tells e1 e2 y2 y3 = record { newer = at_moment now (released_frames now this history); told = releasing_items now this history e1; outs = h.3 } in
+        let frames_items : Tells e1 e2 y2 y3 = record { newer = at_moment now (released_rows now this history); told = releasing_items now this history e1; outs = h.3 } in
         let left_items : Tells e2 d y3 z = record { newer = told_left now l key; told = k3.told; outs = leaves.told ∙ ap (λ (b : Bool). happenings y3 ++ told_left now b key) left_is } in (
           d,
           (

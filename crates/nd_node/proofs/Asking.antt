@@ -40,7 +40,7 @@ use Rattle.nd_chronicle.specs.Due.{assigned_at}
 use Rattle.nd_chronicle.specs.Told.{Told, items_at, items}
 use Rattle.nd_out.specs.declared.out.Out.{Out}
 use Rattle.nd_out.specs.Out.{happening}
-use Rattle.nd_steps.specs.NeighbourCache.{said_by, HasPlace, HearsOf, released_frames}
+use Rattle.nd_steps.specs.NeighbourCache.{said_by, HasPlace, HearsOf, released_rows}
 use Rattle.nd_steps.specs.Outputs.{at_moment, happenings, Tells}
 use Rattle.nd_steps.proofs.Quiet.{Quiet}
 use Rattle.nd_steps.proofs.Saying.{NoneOverdueStill, OneGoes, Others, OverdueByTable, none_before_said, placed_by, released_kept, releasing_is_quiet, releasing_items}
@@ -238,18 +238,18 @@ module _ {R A : Type 0} (stream : R → Stream) (old mid : Node R A) (x room y z
       let b : Beside later before = beside_then later p.placed before (others_beside later p.placed p.others) (heard_beside now source destination ns options p.placed) in
       let stands_before : Stands stream start mid before =
       stands_neighbours stream start base mid later before now same b stands_base refl refl addresses_same p.others.addresses n none may in
-      let kept : released_frames now this (neighbour_history p.placed) ≡ released_frames now this history =
-      ap (λ (l : List rows.Row). released_frames now this l) p.history ∙ released_kept limit now this history made h.1 in
+      let kept : released_rows now this (neighbour_history p.placed) ≡ released_rows now this history =
+      ap (λ (l : List rows.Row). released_rows now this l) p.history ∙ released_kept limit now this history made h.1 in
       let row : List (ℕ × Told) = items_at (now, Heard source destination message) in
       record {
         placed = p.placed;
         place = p.place;
         stands = stands_quiet stream start mid before after q stands_before;
         tells = record {
-          newer = (now, Heard source destination (record { body = bodies.Ns ns; options = [] })) ∷ at_moment now (released_frames now this history);
-          told = items_behind now (items c) (items p.placed) row (items after) (released_frames now this history) (released_frames now this (neighbour_history p.placed))
+          newer = (now, Heard source destination (record { body = bodies.Ns ns; options = [] })) ∷ at_moment now (released_rows now this history);
+          told = items_behind now (items c) (items p.placed) row (items after) (released_rows now this history) (released_rows now this (neighbour_history p.placed))
               (p.others.told ∙ append-nil (items c)) kept (releasing_items now this (neighbour_history p.placed) before);
-          outs = told_behind x room y z now heard (Heard source destination (record { body = bodies.Ns ns; options = [] })) (at_moment now (released_frames now this history)) reserved told heard_is h.3;
+          outs = told_behind x room y z now heard (Heard source destination (record { body = bodies.Ns ns; options = [] })) (at_moment now (released_rows now this history)) reserved told heard_is h.3;
         };
       }
 

@@ -1,6 +1,6 @@
 -- What an address that is given by hand, or withdrawn, makes of the chronicle that a node stands for.
-use Rattle.std.proofs.Common.{◌≡◌, ℕ, ◌<◌, ◌≤◌, Bool, true, false, cond, eqb, ltb, List, [], ◌∷◌, ◌++◌, append-nil, length, Option, Some, None, Result, Ok, Err, refl, sym, ◌∙◌, ap, subst, arith, inl, inr}
-use Rattle.std.specs.Prelude.{◌↔◌, ◌==◌, ◌&&◌, not, nat_lt, MatchBool}
+use Rattle.std.proofs.Common.{◌≡◌, ℕ, ◌<◌, ◌≤◌, Bool, true, false, cond, ltb, List, [], ◌∷◌, ◌++◌, append-nil, length, Option, Some, None, Result, Ok, Err, refl, sym, ◌∙◌, ap, subst, arith, inl, inr}
+use Rattle.std.specs.Prelude.{◌==◌, ◌&&◌, not, MatchBool}
 use Rattle.std.proofs.lemmas.Bool.{cases_Bool}
 use Rattle.rand_core.specs.Stream.{Stream}
 use Rattle.nd_addr.specs.declared.addr.Addr.{Addr}
@@ -25,10 +25,10 @@ use Rattle.nd_chronicle.specs.Happening as happening
 use Rattle.nd_chronicle.specs.Happening.{Address, Chronicle, Passed, Refusal, Refused, last_moment}
 use Rattle.nd_chronicle.specs.Histories.{address_history, neighbour_history}
 use Rattle.nd_chronicle.specs.InForce.{retrans_timer}
-use Rattle.nd_chronicle.specs.OwnAddress.{story_of}
-use Rattle.nd_chronicle.specs.ByHand.{AddressAdds, FormsByHand, no_room, refusal_of_address, setting, withdrawing}
+use Rattle.nd_chronicle.specs.OwnAddress.{refusal_unless_up, story_of}
+use Rattle.nd_chronicle.specs.ByHand.{AddressAdds, FormsByHand, setting}
 use Rattle.nd_chronicle.specs.RouterAdvertisement.{forming}
-use Rattle.nd_chronicle.specs.Refused.{UnlessFull, UnlessRefused}
+use Rattle.nd_chronicle.specs.Refused.{UnlessRefused}
 use Rattle.nd_chronicle.specs.Event as events
 use Rattle.nd_chronicle.specs.Told.{Told, items, items_at}
 use Rattle.nd_chronicle.specs.Answer as answers
@@ -170,7 +170,7 @@ module _ {R A : Type 0} (stream : R → Stream) (old new : Node R A) (x y : List
       → r ≡ set_of old.addresses.limit (key_of == link_local_of old.addresses.mac) (is_known (story key_of history)) (length old.addresses.addresses)
 
   abbrev SaysRefusal : Option Refusal → Type 0
-  SaysRefusal refusal = (start : Start) (at : ℕ) (c : Chronicle) → Stands stream start old c → refusal ≡ refusal_of_address start at c
+  SaysRefusal refusal = (start : Start) (c : Chronicle) → Stands stream start old c → refusal ≡ refusal_unless_up start c
 
   set_in : (start : Start) (c : Chronicle) → Stands stream start old c → (r : Result Taken Full) → SaysSet r
       → r ≡ set_of start.limits.addresses (key_of == link_local_key start) (is_known (story_of c key_of)) (length old.addresses.addresses)
@@ -189,7 +189,7 @@ module _ {R A : Type 0} (stream : R → Stream) (old new : Node R A) (x y : List
         let later : Chronicle = (now, Passed) ∷ c in
         let d : Chronicle = (now, Refused refusal) ∷ later in (
           d,
-          subst (λ (o : Option Refusal). UnlessRefused now o (λ e. AddressAdds start now key_of own.lifetimes later e) later d) (says start now c s) refl,
+          subst (λ (o : Option Refusal). UnlessRefused now o (λ e. AddressAdds start now key_of own.lifetimes later e) later d) (says start c s) refl,
           a.0,
           a.1,
           refl,
@@ -205,7 +205,7 @@ module _ {R A : Type 0} (stream : R → Stream) (old new : Node R A) (x y : List
         let later : Chronicle = (now, Passed) ∷ c in
         let d : Chronicle = (now, Refused (happening.Full happening.Addresses)) ∷ later in (
           d,
-          subst (λ (o : Option Refusal). UnlessRefused now o (λ e. AddressAdds start now key_of own.lifetimes later e) later d) (unrefused start now c s)
+          subst (λ (o : Option Refusal). UnlessRefused now o (λ e. AddressAdds start now key_of own.lifetimes later e) later d) (unrefused start c s)
               (full_case start now key_of own.lifetimes later old.addresses.addresses s.addresses full (key_of == link_local_key start) (is_known (story_of c key_of)) (sym is ∙ set_in start c s r says)),
           a.0,
           a.1,
@@ -234,7 +234,7 @@ module _ {R A : Type 0} (stream : R → Stream) (old new : Node R A) (x y : List
           let none = none_added still start.transmits now key_of timer own.lifetimes history t ((table start.transmits old.addresses.addresses history now s.addresses).0 (addresses_before old now not_past)) in
           let later' = (table start.transmits new.addresses.addresses (with_set now key_of own.lifetimes timer (did t) history) now with_timer).1 none in (
             d,
-            subst (λ (o : Option Refusal). UnlessRefused now o (λ e. AddressAdds start now key_of own.lifetimes later e) later d) (unrefused start now c s)
+            subst (λ (o : Option Refusal). UnlessRefused now o (λ e. AddressAdds start now key_of own.lifetimes later e) later d) (unrefused start c s)
                 (adds_cases start now key_of own.lifetimes later old.addresses.addresses s.addresses t (key_of == link_local_key start) (is_known (story_of c key_of)) (sym is ∙ set_in start c s r says)),
             stands_addresses stream start (record old { last = now }) new later d now same (beside_added start now key_of own.lifetimes later t) (passed stream start old (record old { last = now }) c now s le settled refl)
                 refl (last_added start now key_of own.lifetimes later t refl) others (neighbours_added start now key_of own.lifetimes later t) stands' later' forgot,

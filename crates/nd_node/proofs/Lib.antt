@@ -23,6 +23,8 @@ pub mod Advertised
 pub mod TakenOrRefused
 pub mod Memory
 pub mod OutgoingPackets
+pub mod Wishes
+pub mod Paths
 pub mod Commands
 pub mod ClearedTables
 pub mod RouterRows

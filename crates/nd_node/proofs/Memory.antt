@@ -1,5 +1,5 @@
 -- What asks for no memory.
-use Rattle.std.proofs.Common.{◌≡◌, ℕ, List, length, Option, Some, None, true, sym, ap, subst}
+use Rattle.std.proofs.Common.{◌≡◌, ℕ, List, Option, Some, None, true, sym, ap, subst}
 use Rattle.std.specs.Option.{option_map}
 use Rattle.nd_addr.specs.declared.addr.Addr.{Addr}
 use Rattle.nd_addr.specs.declared.mac.Mac.{Mac}
@@ -13,7 +13,7 @@ use Rattle.nd_neighbour.specs.declared.news.Times.{Times}
 use Rattle.nd_neighbour.specs.EntryKept as neighbour_entries
 use Rattle.nd_neighbour.specs.History as rows
 use Rattle.nd_neighbour.specs.News.{news_key}
-use Rattle.nd_neighbour.specs.Removal.{waiting_at}
+use Rattle.nd_neighbour.specs.NewsKept.{told_at}
 use Rattle.nd_neighbour.specs.TableKept.{entry_in}
 use Rattle.nd_addr.specs.declared.role.Role.{Role}
 use Rattle.nd_addr.specs.declared.why.Why.{Why}
@@ -22,11 +22,11 @@ use Rattle.nd_chronicle.specs.Start.{Start}
 use Rattle.nd_chronicle.specs.Happening.{Chronicle}
 use Rattle.nd_chronicle.specs.Hearing.{IsForUs, IsInTransit, IsPacketForUs, IsHeard, Judges, IsStrange, IsMisdirected, IsStrangePacket, NotFromFirstHop, drops}
 use Rattle.nd_chronicle.specs.Histories.{given_or_marked}
-use Rattle.nd_steps.specs.NeighbourCache.{said_by, waiting_for}
+use Rattle.nd_steps.specs.NeighbourCache.{said_by, told_for}
 use Rattle.nd_node.specs.declared.node.Node.{Node}
 use Rattle.nd_node.specs.Memory.{IsNameless, AddsNoName}
 
--- ---- the packets that an advertisement may release wait for its sender
+-- ---- what an advertisement may tell of its sender
 
 of_sender : (times : Times) (key : ℕ) (mac : Option Mac) (n : News) → Some (said_by times n) ≡ given_or_marked key mac (Some true) → news_key n ≡ key
 of_sender times key (Some mac) n e =
@@ -36,11 +36,11 @@ of_sender times key None n e =
     let pair : said_by times n ≡ (key, rows.Marked true) = cc in
     ap (λ (p : ℕ × rows.RowKind). p.0) pair
 
-pub waits_for_sender : (times : Times) (key : ℕ) (mac : Option Mac) (news : Option News) (entries : List neighbour_entries.NeighbourEntry) → option_map (said_by times) news ≡ given_or_marked key mac (Some true)
-    → waiting_for news entries ≡ length (waiting_at (entry_in key entries))
-waits_for_sender times key (Some mac) None entries e = let no : ⊥ = cc in absurd no
-waits_for_sender times key None None entries e = let no : ⊥ = cc in absurd no
-waits_for_sender times key mac (Some n) entries e = ap (λ (k : ℕ). length (waiting_at (entry_in k entries))) (of_sender times key mac n e)
+pub told_of_sender : (times : Times) (key : ℕ) (mac : Option Mac) (news : Option News) (entries : List neighbour_entries.NeighbourEntry) → option_map (said_by times) news ≡ given_or_marked key mac (Some true)
+    → told_for news entries ≡ told_at (entry_in key entries)
+told_of_sender times key (Some mac) None entries e = let no : ⊥ = cc in absurd no
+told_of_sender times key None None entries e = let no : ⊥ = cc in absurd no
+told_of_sender times key mac (Some n) entries e = ap (λ (k : ℕ). told_at (entry_in k entries)) (of_sender times key mac n e)
 
 -- ---- what is dropped
 

@@ -11,9 +11,9 @@ use Rattle.nd_addr.specs.Number.{holds, number_of}
 use Rattle.nd_compose.specs.Frames.{multicast_mac, open_mac}
 use Rattle.nd_neighbour.specs.Place.{WouldBeFull}
 use Rattle.nd_neighbour.specs.RoomKept.{has_room}
-use Rattle.nd_nexthop.specs.NextHop.{NextHop, direct, no_route}
+use Rattle.nd_nexthop.specs.NextHop.{NextHop, direct}
 use Rattle.nd_chronicle.specs.Start.{Start}
-use Rattle.nd_chronicle.specs.Happening.{Chronicle, Passed, Refused, Refusal, Full, Neighbours, Loss, Lost, NoRoute, Sent, last_moment}
+use Rattle.nd_chronicle.specs.Happening.{Chronicle, Passed, Refused, Refusal, Full, Neighbours, Loss, Lost, Sent, last_moment}
 use Rattle.nd_chronicle.specs.Histories.{neighbour_history}
 use Rattle.nd_chronicle.specs.NextHop.{IsHopOf}
 use Rattle.nd_chronicle.specs.Event as events

@@ -44,20 +44,20 @@ use Rattle.nd_node.proofs.Turns.{neighbours_before}
 
 -- ---- a neighbour that is pushed out
 
-pushed_addresses : (at : ℕ) (pushed : Option ℕ) (c : Chronicle) → address_history (with_pushed at pushed c) ≡ address_history c
+pub pushed_addresses : (at : ℕ) (pushed : Option ℕ) (c : Chronicle) → address_history (with_pushed at pushed c) ≡ address_history c
 pushed_addresses at None c = refl
 pushed_addresses at (Some key) c = refl
 
-pushed_beside : (at : ℕ) (pushed : Option ℕ) (c : Chronicle) → Beside c (with_pushed at pushed c)
+pub pushed_beside : (at : ℕ) (pushed : Option ℕ) (c : Chronicle) → Beside c (with_pushed at pushed c)
 pushed_beside at None c = record { parameters = refl; routers = refl; prefixes = refl; servers = refl; names = refl; redirects = refl; assigned = λ k. refl; solicited = refl; router = λ start'. refl; stream = λ start. refl }
 pushed_beside at (Some key) c = beside_neighbour at key (rows.Forgot rows.PushedOut) c (λ h. refl) (λ h. refl)
 
 -- nothing is told of it
-pushed_items : (at : ℕ) (pushed : Option ℕ) (c : Chronicle) → items (with_pushed at pushed c) ≡ items c
+pub pushed_items : (at : ℕ) (pushed : Option ℕ) (c : Chronicle) → items (with_pushed at pushed c) ≡ items c
 pushed_items at None c = refl
 pushed_items at (Some key) c = append-nil (items c)
 
-pushed_later : NoneOverdueStill → (at : ℕ) (pushed : Option ℕ) (history : List rows.Row) → NoneOverdue history at → NoneOverdue (pushing at pushed history) at
+pub pushed_later : NoneOverdueStill → (at : ℕ) (pushed : Option ℕ) (history : List rows.Row) → NoneOverdue history at → NoneOverdue (pushing at pushed history) at
 pushed_later still at None history none = none
 pushed_later still at (Some key) history none = still history at key (rows.Forgot rows.PushedOut) none
 
@@ -67,7 +67,7 @@ pushed_later still at (Some key) history none = still history at key (rows.Forgo
 below_silent : {A : Type 0} (t u row : List A) → u ≡ t → (u ++ row) ++ [] ≡ t ++ (row ++ [])
 below_silent t u row same = append-nil (u ++ row) ∙ (ap (λ l. l ++ row) same ∙ one t row)
 
-above_silent : {A : Type 0} (t u row : List A) → u ≡ t → (u ++ []) ++ row ≡ t ++ (row ++ [])
+pub above_silent : {A : Type 0} (t u row : List A) → u ≡ t → (u ++ []) ++ row ≡ t ++ (row ++ [])
 above_silent t u row same = ap (λ l. l ++ row) (append-nil u ∙ same) ∙ one t row
 
 among_silent : {A : Type 0} (t u row : List A) → u ≡ t → ((u ++ []) ++ row) ++ [] ≡ t ++ (row ++ [])

@@ -39,7 +39,7 @@ use Rattle.nd_chronicle.specs.NeighborSolicitation.{is_router}
 use Rattle.nd_chronicle.specs.Told.{items_at, items}
 use Rattle.nd_out.specs.declared.out.Out.{Out}
 use Rattle.nd_out.specs.Out.{happening}
-use Rattle.nd_steps.specs.NeighbourCache.{said_by, HearsOf, released_frames}
+use Rattle.nd_steps.specs.NeighbourCache.{said_by, HearsOf, released_rows}
 use Rattle.nd_steps.specs.RouterTables.{Plans, plans}
 use Rattle.nd_steps.specs.declared.router_tables.RouterTables.{RouterTables}
 use Rattle.nd_steps.specs.Outputs.{at_moment, happenings, Tells}
@@ -236,15 +236,15 @@ module _ {R A : Type 0} (stream : R → Stream) (old : Node R A) (now : ℕ) (so
           (subst (λ l. routers.Stands new.routers l) (sym (plain.routers p.placed ∙ p.others.routers)) (rw routers_same s.routers)) (rw routers_same (routers_before old now not_past))
           (subst (λ l. addresses.Stands new.addresses.addresses l) (sym p.others.addresses) (rw addresses_same s.addresses)) (rw addresses_same (addresses_before old now not_past))
           neighbours' none redirects' (recalls start c s le) in
-          let kept : released_frames now this (neighbour_history p.placed) ≡ released_frames now this history =
-          ap (λ (l : List rows.Row). released_frames now this l) p.history ∙ released_kept limit now this history made h.1 in
+          let kept : released_rows now this (neighbour_history p.placed) ≡ released_rows now this history =
+          ap (λ (l : List rows.Row). released_rows now this l) p.history ∙ released_kept limit now this history made h.1 in
           let heard_items : Tells c before x y = record {
             newer = (now, Heard source destination (record { body = body; options = [] })) ∷ [];
             told = ap (λ t. t ++ items_at (now, Heard source destination message)) (p.others.told ∙ append-nil (items c)) ∙ one (items c) (items_at (now, Heard source destination message));
             outs = ap happenings told ∙ (ap (λ l. happenings (l ++ (now, heard) ∷ [])) reserved ∙ (one_more x (x ++ (now, heard) ∷ []) now heard refl ∙ ap (λ w. happenings x ++ (now, w) ∷ []) heard_is));
           } in
           let frames_items : Tells before after y z = record {
-            newer = at_moment now (released_frames now this (neighbour_history p.placed));
+            newer = at_moment now (released_rows now this (neighbour_history p.placed));
             told = releasing_items now this (neighbour_history p.placed) before;
             outs = h.3 ∙ ap (λ l. happenings y ++ at_moment now l) (sym kept);
           } in

@@ -25,7 +25,6 @@ use Rattle.nd_slaac.specs.declared.destination.Counted.TheVariants.{Own}
 use Rattle.nd_slaac.specs.Destination.{counts}
 use Rattle.nd_slaac.specs.TableKept as addresses
 use Rattle.nd_nexthop.specs.Choice.{Redirects, Table, target_in}
-use Rattle.nd_routers.specs.PrefixesKept.{Prefixes}
 use Rattle.nd_nexthop.specs.DefaultRouter.{DefaultRouter}
 use Rattle.nd_nexthop.specs.Memo.{is_asked}
 use Rattle.nd_nexthop.specs.NextHop.{hop}

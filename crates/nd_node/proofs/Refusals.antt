@@ -17,7 +17,7 @@ use Rattle.nd_neighbour.specs.News.{released_by}
 use Rattle.nd_neighbour.specs.Room.{HasRoom}
 use Rattle.nd_neighbour.specs.RoomKept.{has_room}
 use Rattle.nd_neighbour.specs.Sending.{Sending, Sends, Queues, sending_of_story}
-use Rattle.nd_neighbour.specs.Story.{mac_of, waits_of}
+use Rattle.nd_neighbour.specs.Story.{is_awaited, mac_of, waits_of}
 use Rattle.nd_slaac.specs.PrefixOption.{is_taken, lifetimes_of, named_by, prefixes_in}
 use Rattle.nd_slaac.specs.State.{is_by_hand, is_known}
 use Rattle.nd_nexthop.specs.NextHop.{NextHop, direct}
@@ -28,10 +28,11 @@ use Rattle.nd_chronicle.specs.Event as events
 use Rattle.nd_chronicle.specs.Event.{EventAdds, MessageAdds, PacketAdds, packet_frame, refusal_of_packet, VerdictAdds, FrameAdds, packet_bytes, Clearable, clearing}
 use Rattle.nd_chronicle.specs.Histories.{neighbour_history, route_history}
 use Rattle.nd_chronicle.specs.InForce.{base_reachable_time, retrans_timer}
-use Rattle.nd_chronicle.specs.Message.{leaving, releasing, said, sending_if_known}
+use Rattle.nd_chronicle.specs.Message.{leaving, releasing, said, sending_if_known, telling_if_known}
 use Rattle.nd_chronicle.specs.NeighborAdvertisement.{conflicting, ends_in_list}
 use Rattle.nd_chronicle.specs.NeighborSolicitation.{Answers, then_tried}
-use Rattle.nd_chronicle.specs.OwnAddress.{is_assigned, is_tentative, story_of, is_own}
+use Rattle.nd_chronicle.specs.Resolve.{PathAdds, Wants, WantsIfPlaced}
+use Rattle.nd_chronicle.specs.OwnAddress.{refusal_unless_up, is_assigned, is_tentative, story_of, is_own}
 use Rattle.nd_chronicle.specs.Packet.{Goes, GoesIfPlaced, HasPlace, losing, no_place, sending, then_packet, HavePlace}
 use Rattle.nd_chronicle.specs.NextHop.{IsHopOf}
 use Rattle.nd_chronicle.specs.Refused.{UnlessFull, UnlessRefused}
@@ -89,9 +90,17 @@ module _ (at : ℕ) where
   sending_known_adds None packets c h = h
   sending_known_adds (Some mac) packets c h = sending_adds mac packets c h
 
+  telling_adds : (key : ℕ) (mac : Option ℕ) (awaited : Bool) (c : Chronicle) → is_refusal c ≡ false → is_refusal (telling_if_known at key mac awaited c) ≡ false
+  telling_adds key None awaited c h = h
+  telling_adds key (Some mac) true c h = refl
+  telling_adds key (Some mac) false c h = h
+
   releasing_adds : (news : Option (ℕ × RowKind)) (history : List rows.Row) (c : Chronicle) → is_refusal c ≡ false → is_refusal (releasing at news history c) ≡ false
   releasing_adds None history c h = h
-  releasing_adds (Some news) history c h = sending_known_adds (mac_of ((at, news.1) ∷ story news.0 history)) (released_by at news.1 (story news.0 history)) c h
+  releasing_adds (Some news) history c h =
+      let this = story news.0 history in
+      let known = mac_of ((at, news.1) ∷ this) in
+      telling_adds news.0 known (is_awaited this) (sending_if_known at known (released_by at news.1 this) c) (sending_known_adds known (released_by at news.1 this) c h)
 
   leaving_adds : (leaves : Bool) (key : ℕ) (c : Chronicle) → is_refusal c ≡ false → is_refusal (leaving at leaves key c) ≡ false
   leaving_adds true key c h = refl
@@ -213,6 +222,47 @@ module _ (start : Start) (now : ℕ) (source destination : Addr) (next_header : 
       by None is h =
           let same : h.0 ≡ hop = one_hop later now start start.role destination h.0 hop h.1 (subst (λ (r : Role). IsHopOf start r later now destination hop) role_is next) in
           subst (λ (n : NextHop). PacketAdds start now n source destination next_header payload later refused) same h.2
+      by (Some refusal) is h = let never : ⊥ = cc in absurd never
+
+-- ---- a caller that keeps its packets
+
+module _ (start : Start) (now : ℕ) (destination : Addr) where
+  wish_adds : (key : ℕ) (c d : Chronicle) → Wants start destination c now key d → is_refusal d ≡ false
+  wish_adds key c d w = ap is_refusal w.wants
+
+  wish_placed : (key : ℕ) (c : Chronicle) (why : Refusal) (place : Bool) → HasPlace start c now key true place → UnlessFull now (no_place place) (Wants start destination c now key) c ((now, Refused why) ∷ c) → HasPlace start c now key true false
+  wish_placed key c why true has adds = absurd (not_refused now why c _ (wish_adds key c _ adds) refl)
+  wish_placed key c why false has adds = has
+
+  -- the wish for a neighbour adds a refusal alone where that has no place
+  pub wish_refused : (key : ℕ) (c : Chronicle) → AddsRefusal now c (WantsIfPlaced start now destination key) → HasPlace start ((now, Passed) ∷ c) now key true false
+  wish_refused key c adds = wish_placed key ((now, Passed) ∷ c) adds.0 adds.1.0 adds.1.1 adds.1.2
+
+  -- a path on the link to a destination that isn't multicast is that of a neighbour
+  pub path_to_destination : (c : Chronicle) → holds multicast_prefix destination.0 ≡ false → AddsRefusal now c (PathAdds start now direct destination)
+      → AddsRefusal now c (WantsIfPlaced start now destination (number_of destination.0))
+  path_to_destination c single adds = (adds.0, goes _ _ (holds multicast_prefix destination.0) single adds.1)
+    where
+      goes : (Others Goes' : Type 0) (multicast : Bool) → multicast ≡ false → MatchBool multicast Others Goes' → Goes'
+      goes Others Goes' true is h = let never : ⊥ = cc in absurd never
+      goes Others Goes' false is h = h
+
+  -- a question that isn't refused itself is answered by the next hop
+  pub path_to_hop : (c : Chronicle) (hop : NextHop) → None ≡ refusal_unless_up start c → IsHopOf start start.role ((now, Passed) ∷ c) now destination hop
+      → AddsRefusal now c (EventAdds start now (events.Resolves destination)) → AddsRefusal now c (PathAdds start now hop destination)
+  path_to_hop c hop says next adds = (adds.0, by (refusal_unless_up start later) says adds.1)
+    where
+      later : Chronicle
+      later = (now, Passed) ∷ c
+
+      refused : Chronicle
+      refused = (now, Refused adds.0) ∷ later
+
+      by : (o : Option Refusal) → None ≡ o → UnlessRefused now o (λ e. (next' : NextHop) × IsHopOf start start.role later now destination next' × PathAdds start now next' destination later e) later refused
+          → PathAdds start now hop destination later refused
+      by None is h =
+          let same : h.0 ≡ hop = one_hop later now start start.role destination h.0 hop h.1 next in
+          subst (λ (n : NextHop). PathAdds start now n destination later refused) same h.2
       by (Some refusal) is h = let never : ⊥ = cc in absurd never
 
 -- ---- a packet in transit

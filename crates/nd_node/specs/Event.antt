@@ -12,7 +12,7 @@ use Rattle.nd_node.specs.declared.clearing.Clearable.TheVariants as clearables
 use Rattle.nd_node.specs.declared.event.Table.{Table}
 use Rattle.nd_node.specs.declared.event.Table.TheVariants.{Neighbours, Routers, Prefixes, Addresses, Dns, Redirects, Params, Advertise, Routes}
 use Rattle.nd_node.specs.declared.event.Event.{Event}
-use Rattle.nd_node.specs.declared.event.Event.TheVariants.{Passes, Receives, Sends, Confirms, Forgets, Clears, Shows, Advertises, Offers, PutsRoute, Stops, Sets, Withdraws}
+use Rattle.nd_node.specs.declared.event.Event.TheVariants.{Passes, Receives, Sends, Resolves, Confirms, Forgets, Clears, Shows, Advertises, Offers, PutsRoute, Stops, Sets, Withdraws}
 use Rattle.nd_node.specs.Time.{Onward}
 
 abbrev pub table_of : Table → shown.Table
@@ -37,6 +37,7 @@ abbrev pub event_of : {A : Type 0} → Event A → events.Event
 event_of Passes = events.Passes
 event_of (Receives frame) = events.Receives frame.items
 event_of (Sends packet) = events.Sends packet.source packet.destination packet.next_header packet.payload.items
+event_of (Resolves destination) = events.Resolves destination
 event_of (Confirms neighbour) = events.Confirms neighbour
 event_of (Forgets neighbour) = events.Forgets neighbour
 event_of (Clears table) = events.Clears (clearable_of table)

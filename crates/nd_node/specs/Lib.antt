@@ -14,4 +14,6 @@ pub mod Event
 pub mod EventKept
 pub mod Frame
 pub mod OutgoingPacket
+pub mod Resolve
+pub mod Path
 pub mod Forwarding

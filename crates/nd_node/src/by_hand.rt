@@ -1,13 +1,8 @@
 //! Addresses that are given by hand, and withdrawn (RFC 4862, section 5.4).
 
-ghost use Rattle.std.specs.Prelude.{◌≡◌, ◌<◌, ◌≤◌, ℕ, IfOk, IsOk, OnErr, vec_capacity, vec_len};
-ghost use Rattle.std.specs.Option.{option_map};
+ghost use Rattle.std.specs.Prelude.{◌≡◌, ◌<◌, ◌≤◌, IfOk, IsOk, OnErr, vec_capacity, vec_len};
 ghost use Rattle.nd_table.specs.Moment.{IsMoment};
-ghost use Rattle.nd_chronicle.specs.ByHand.{refusal_of_address};
 ghost use Rattle.nd_chronicle.specs.Event as events;
-ghost use Rattle.nd_chronicle.specs.Happening.{Chronicle};
-ghost use Rattle.nd_chronicle.specs.Start.{Start};
-ghost use Rattle.nd_out.specs.Out.{refusal_of};
 ghost use Rattle.nd_node.specs.Answer.{answer_of};
 ghost use Rattle.nd_node.specs.EventKept.{AddsEvent};
 
@@ -15,27 +10,12 @@ use crate::answer::Answer;
 use crate::node::Node;
 use nd_addr::Addr;
 use nd_out::{Limit, Out, Refusal};
-use nd_slaac::{Counted, OwnAddress};
+use nd_slaac::OwnAddress;
 use rand_core::Rng;
 use std::alloc::{AllocError, Allocator};
 
 impl<R: Rng + Drop, A: Allocator + Clone> Node<R, A> {
-    ghost use Rattle.nd_node.specs.NodeKept.{Stands, next_of};
-
-    /// Returns why the node takes no address by hand, the first reason that holds: its link-local address is a duplicate (RFC 4862, section 5.4.5),
-    /// or isn't assigned yet.
-    fn refusal_of_address(&self) -> Option<Refusal>
-        ensures { (start : Start) (now : ℕ) (c : Chronicle) → Stands R.stream start self.now c → option_map refusal_of result ≡ refusal_of_address start now c }
-    {
-        let own = self.addresses.link_local();
-        if self.addresses.is_duplicate(own) {
-            return Some(Refusal::Disabled);
-        }
-        if !self.addresses.counts(Counted::Assigned, own) {
-            return Some(Refusal::Tentative);
-        }
-        None
-    }
+    ghost use Rattle.nd_node.specs.NodeKept.{next_of};
 
     /// Gives the node an address at `now`, in milliseconds: it is tried as any other (RFC 4862, section 5.4), or has other lifetimes from now on if
     /// it is known. The link-local address stays as it is. Returns an error if out of memory; nothing has changed then.
@@ -55,7 +35,7 @@ impl<R: Rng + Drop, A: Allocator + Clone> Node<R, A> {
         ensures ready { vec_len outs.old < vec_capacity outs.old → IsOk result }
     {
         nd_slaac::laws::none_overdue();
-        if let Some(refusal) = self.refusal_of_address() {
+        if let Some(refusal) = self.refusal_unless_up() {
             return self.refuse(now, refusal, outs);
         }
         let retrans = self.params.retrans_timer();

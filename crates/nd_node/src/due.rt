@@ -95,7 +95,7 @@ impl<R: Rng + Drop, A: Allocator + Clone> Node<R, A> {
 }
 
 /// Returns the earlier of two moments, of which `a` may be missing.
-fn earlier(a: Option<u64>, b: u64) -> u64
+pub(crate) fn earlier(a: Option<u64>, b: u64) -> u64
     ensures { result ≡ earlier a b }
 {
     match a {

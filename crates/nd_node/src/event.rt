@@ -57,6 +57,8 @@ pub enum Event<A: Allocator> {
     Receives(Vec<u8, A>),
     /// The upper layer sends a packet (RFC 4861, section 5.2).
     Sends(OutgoingPacket<A>),
+    /// A caller that keeps its packets asks where those to a destination go (RFC 4861, sections 5.2, 7.2.2 and 7.3.3).
+    Resolves(Addr),
     /// An upper layer confirms that a neighbour is reachable (RFC 4861, section 7.3.1).
     Confirms(Addr),
     /// A command removes a neighbour.
@@ -232,6 +234,7 @@ impl<R: Rng + Drop, A: Allocator + Clone> Node<R, A> {
             }
             Event::Receives(frame) => self.judge_frame(now, frame, outs),
             Event::Sends(outgoing) => self.send_packet(now, outgoing, outs),
+            Event::Resolves(destination) => self.resolve(now, *destination, outs),
             Event::Confirms(neighbour) => {
                 self.confirm(now, *neighbour);
                 Ok(Answer::Done)

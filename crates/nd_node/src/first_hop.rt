@@ -24,6 +24,7 @@ impl<R: Rng + Drop, A: Allocator + Clone> Node<R, A> {
         ensures next { (start : Start) (c : Chronicle) → Stands R.stream start self.old c → last_moment start.at c ≤ now → IsNextHop start c now destination (hop_of result) }
         ensures stands { (start : Start) (c : Chronicle) → Stands R.stream start self.old c → Stands R.stream start self.new c }
         ensures due { next_of self.new ≡ next_of self.old }
+        ensures neighbours { self.new.neighbours.entries ≡ self.old.neighbours.entries }
     {
         nd_addr::laws::addresses_are_told_by_numbers();
         let _bytes = destination.as_bytes();
@@ -62,6 +63,7 @@ impl<R: Rng + Drop, A: Allocator + Clone> Node<R, A> {
         ensures next { (start : Start) (c : Chronicle) → Stands R.stream start self.old c → last_moment start.at c ≤ now → IsHopOf start start.role c now destination (hop_of result) }
         ensures stands { (start : Start) (c : Chronicle) → Stands R.stream start self.old c → Stands R.stream start self.new c }
         ensures due { next_of self.new ≡ next_of self.old }
+        ensures neighbours { self.new.neighbours.entries ≡ self.old.neighbours.entries }
     {
         match self.role {
             Role::Host => self.next_hop(now, destination),

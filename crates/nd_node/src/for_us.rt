@@ -50,7 +50,7 @@ impl<R: Rng + Drop, A: Allocator + Clone> Node<R, A> {
     }
 
     /// Returns true if the link-local address is assigned.
-    fn is_up(&self) -> bool
+    pub(crate) fn is_up(&self) -> bool
         ensures { (start : Start) (c : Chronicle) → Stands R.stream start self.now c → result ≡ is_up start c }
     {
         let own = self.addresses.link_local();

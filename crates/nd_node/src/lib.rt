@@ -26,7 +26,7 @@
 //! - `next_due` returns the moment at which something is due next, `settled` whether nothing is due up to a moment, and `last_moment` the moment
 //!   up to which time has passed.
 //! - `neighbours`, `default_routers`, `prefixes`, `addresses`, `servers`, `search_names`, `redirects`, `parameters`, `advertising`, `offers` and
-//!   `routes` return what the node knows, row by row. `neighbour` and `next_hop_to` look one thing up; `counts` and `waiting_at` return numbers of
+//!   `routes` return what the node knows, row by row. `neighbour`, `next_hop_to` and `path` look one thing up; `counts` and `waiting_at` return numbers of
 //!   entries and of waiting packets. The event `Shows` returns the rows of a table as text, and so does `rows`.
 //!
 //! # What may fail
@@ -37,7 +37,7 @@
 //!
 //! Memory is taken for frames that are sent, packets that wait for a neighbour's link-layer address, new search names, a redirect or a next hop
 //! that is new, the list of outputs and text. If the list has room, none is taken for a frame that is dropped, a Router Advertisement that adds no
-//! search name, a refusal, an address that is given by hand or withdrawn, `Passes` and `Confirms` (the clauses `quiet`, `late` and `refused` of `event`
+//! search name, a refusal, an address that is given by hand or withdrawn, a path that needs no new neighbour, `Passes` and `Confirms` (the clauses `quiet`, `late` and `refused` of `event`
 //! and `receive`), nor for any question.
 //!
 //! # What is proved
@@ -67,10 +67,12 @@ mod neighbor_solicitation;
 mod node;
 mod outgoing_packet;
 mod packet;
+mod path;
 mod reachability_confirmation;
 mod redirect;
 mod refusal;
 mod removal;
+mod resolve;
 mod room;
 mod router_advertisement;
 mod router_solicitation;
@@ -87,4 +89,6 @@ pub use event::{Event, Table};
 pub use limits::{Limits, USUAL_NEIGHBOURS, USUAL_ROUTERS};
 pub use nd_steps::{OutgoingPacket, Turned};
 pub use node::Node;
+pub use path::Path;
+pub use resolve::Resolution;
 pub use version::{VERSION, VERSION_NUMBER};

@@ -25,9 +25,9 @@ use nd_validity::Heard;
 use rand_core::Rng;
 use std::alloc::{AllocError, Allocator};
 
-/// The most rows that a message adds, besides those of the packets that it releases: itself, a duplicate address or an answer, and a router that
-/// leaves the list.
-pub(crate) const MOST_ROWS: usize = 3;
+/// The most rows that a message adds, besides those of the packets that it releases: itself, a duplicate address or an answer, the address for which a
+/// caller waited, and a router that leaves the list.
+pub(crate) const MOST_ROWS: usize = 4;
 
 /// Reports a valid message for this node, at `now` in milliseconds, into room that was made before.
 pub(crate) fn push_heard<A: Allocator>(

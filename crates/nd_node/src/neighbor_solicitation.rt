@@ -157,7 +157,7 @@ fn make_room<A: Allocator + Clone>(
     news: Option<News>,
     outs: &mut Vec<(u64, Out<A>), A>,
 ) -> Result<AnswerRoom<A>, AllocError>
-    ensures places { OnOk result (vec_len outs.new + max_waiting + 2 ≤ vec_capacity outs.new) }
+    ensures places { OnOk result (vec_len outs.new + max_waiting + 3 ≤ vec_capacity outs.new) }
     ensures ring { OnOk result (news ≡ None → entry_in (number_of asker.0) neighbours.old.entries ≡ None → 0 < neighbours.new.rings) }
     ensures solicitation { IfOk result (λ room. news ≡ None → entry_in (number_of asker.0) neighbours.old.entries ≡ None → is_some room.solicitation ≡ true) }
     ensures entries { neighbours.new.entries ≡ neighbours.old.entries }

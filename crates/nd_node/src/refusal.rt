@@ -1,7 +1,10 @@
-//! Reports a refusal.
+//! Why a node refuses what needs its link-local address, and the report of a refusal.
 
 ghost use Rattle.std.specs.Prelude.{◌≡◌, ◌<◌, IsOk, OnErr, OnOk, vec_capacity, vec_len, IfOk};
-ghost use Rattle.nd_chronicle.specs.Happening.{Refused};
+ghost use Rattle.std.specs.Option.{option_map};
+ghost use Rattle.nd_chronicle.specs.Happening.{Chronicle, Refused};
+ghost use Rattle.nd_chronicle.specs.OwnAddress.{refusal_unless_up};
+ghost use Rattle.nd_chronicle.specs.Start.{Start};
 ghost use Rattle.nd_node.specs.Frame.{AddsAlone};
 ghost use Rattle.nd_out.specs.Out.{refusal_of};
 
@@ -12,7 +15,22 @@ use rand_core::Rng;
 use std::alloc::{AllocError, Allocator};
 
 impl<R: Rng + Drop, A: Allocator + Clone> Node<R, A> {
-    ghost use Rattle.nd_node.specs.NodeKept.{next_of};
+    ghost use Rattle.nd_node.specs.NodeKept.{Stands, next_of};
+
+    /// Returns why the node refuses what needs its link-local address, the first reason that holds: the address is a duplicate (RFC 4862, section 5.4.5),
+    /// or isn't assigned yet.
+    pub(crate) fn refusal_unless_up(&self) -> Option<Refusal>
+        ensures { (start : Start) (c : Chronicle) → Stands R.stream start self.now c → option_map refusal_of result ≡ refusal_unless_up start c }
+    {
+        let own = self.addresses.link_local();
+        if self.addresses.is_duplicate(own) {
+            return Some(Refusal::Disabled);
+        }
+        if !self.is_up() {
+            return Some(Refusal::Tentative);
+        }
+        None
+    }
 
     /// Reports at `now`, in milliseconds, that the node refuses what was asked, with the reason. Returns an error if out of memory; nothing has
     /// changed then.

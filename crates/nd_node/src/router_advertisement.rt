@@ -11,7 +11,7 @@ ghost use Rattle.nd_chronicle.specs.Histories.{said_of_neighbour};
 ghost use Rattle.nd_chronicle.specs.Full.{Fills};
 ghost use Rattle.nd_chronicle.specs.Happening.{Chronicle, Limit as Table, Passed, last_moment};
 ghost use Rattle.nd_chronicle.specs.Start.{Start};
-ghost use Rattle.nd_steps.specs.NeighbourCache.{said_by, HasPlace, waiting_for};
+ghost use Rattle.nd_steps.specs.NeighbourCache.{said_by, HasPlace, told_for};
 ghost use Rattle.nd_node.specs.RouterAdvertisement.{TakesAdvertisement};
 ghost use Rattle.nd_node.specs.Hearing.{AddsMessage};
 ghost use Rattle.nd_node.specs.Memory.{AddsNoName};
@@ -27,7 +27,7 @@ use nd_neighbour::{News, Times};
 use nd_out::{Out, Refusal};
 use nd_steps::{
     has_place, hear_dns, hear_of_neighbour, hear_parameters, hear_prefix_options, hear_prefixes,
-    hear_router, keep_until_a_prefix_ends, news_of, tell_left, waiting_for,
+    hear_router, keep_until_a_prefix_ends, news_of, tell_left, told_for,
 };
 use nd_validity::Heard;
 use rand_core::Rng;
@@ -56,7 +56,7 @@ impl<R: Rng + Drop, A: Allocator + Clone> Node<R, A> {
         requires place { HasPlace self.old.neighbours.limit now news self.old.neighbours.entries }
         requires news { (times : Times) → option_map (said_by times) news ≡ said_of_neighbour heard.now.source (bodies.Ra ra.now) (options_left heard.now.message.options) times.reachable }
         requires names { names ≡ new_names now (options_left heard.now.message.options) self.old.dns }
-        requires space { vec_len outs.old + waiting_for news self.old.neighbours.entries + 1 ≤ vec_capacity outs.old }
+        requires space { vec_len outs.old + told_for news self.old.neighbours.entries + 1 ≤ vec_capacity outs.old }
         ensures { TakesAdvertisement R.stream self.old self.new outs.old.items outs.new.items now heard.now.source heard.now.destination ra.now (options_left heard.now.message.options) }
     {
         nd_neighbour::laws::one_is_pushed_out();
@@ -154,8 +154,8 @@ impl<R: Rng + Drop, A: Allocator + Clone> Node<R, A> {
         } else {
             self.dns.new_names(now, options)?
         };
-        let waiting = waiting_for(&self.neighbours, news);
-        outs.reserve(waiting + BESIDE_FRAMES)?;
+        let told = told_for(&self.neighbours, news);
+        outs.reserve(told + BESIDE_FRAMES)?;
         push_heard(outs, now, heard);
         self.take_router_advertisement(now, heard, ra, news, names, outs);
         Ok(Answer::Done)

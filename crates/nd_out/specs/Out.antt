@@ -1,6 +1,7 @@
 -- What a node reports: what happened, as values of Rust, with their moments, the oldest first, and their text.
 use Rattle.std.specs.Prelude.{ℕ, List, [], map, string_bytes}
 use Rattle.std.specs.List.{flat_map}
+use Rattle.std.specs.Option.{option_map}
 use Rattle.nd_addr.specs.Number.{number_of}
 use Rattle.nd_slaac.specs.History as addresses
 use Rattle.nd_neighbour.specs.History as neighbours
@@ -10,6 +11,8 @@ use Rattle.nd_out.specs.declared.out.Limit as limits
 use Rattle.nd_out.specs.declared.out.Limit.TheVariants as limit
 use Rattle.nd_out.specs.declared.out.Refusal as refusals
 use Rattle.nd_out.specs.declared.out.Refusal.TheVariants as refusal
+use Rattle.nd_out.specs.declared.out.Way as ways
+use Rattle.nd_out.specs.declared.out.Way.TheVariants as way
 use Rattle.nd_out.specs.declared.out.Out.{Out}
 use Rattle.nd_out.specs.declared.out.Out.TheVariants as outs
 use Rattle.nd_chronicle.specs.Happening as happenings
@@ -44,6 +47,11 @@ refusal_of (refusal.NotOurs source) = happenings.NotOurs source
 refusal_of refusal.TooLong = happenings.TooLong
 refusal_of (refusal.Full full) = happenings.Full (limit_of full)
 
+-- where packets go
+abbrev pub way_of : ways.Way → happenings.Way
+way_of way.NoRoute = happenings.NoWay
+way_of (way.To neighbour mac) = happenings.WayTo (number_of neighbour.0) (option_map (λ m. number_of m.0) mac)
+
 -- what happened: of a message its fields, since its options aren't reported
 abbrev pub happening : {A : Type 0} → Out A → Happening
 happening (outs.Frame packet) = happenings.Sent packet
@@ -56,6 +64,8 @@ happening (outs.EndedAddress addr) = happenings.Address (number_of addr.0) addre
 happening (outs.EndedRouter addr) = happenings.LeftRouter (number_of addr.0)
 happening (outs.Failed addr) = happenings.Neighbour (number_of addr.0) (neighbours.Forgot neighbours.Failed)
 happening (outs.Lost why packet) = happenings.Lost (loss_of why) packet
+happening (outs.Path destination way) = happenings.Path destination (way_of way)
+happening (outs.Resolved addr mac) = happenings.Resolved (number_of addr.0) (number_of mac.0)
 happening (outs.Shown rows) = happenings.Shown (map string_bytes rows.items)
 happening (outs.Refused why) = happenings.Refused (refusal_of why)
 happening (outs.Past last) = happenings.TooLate last

@@ -13,6 +13,7 @@ ghost use Rattle.nd_out.specs.Out.{happening, loss_of, out_lines, told};
 use crate::line::{write_address, write_front, write_line, write_moment, write_number};
 use crate::lost::{loss_word, write_way};
 use crate::out::{Loss, Out};
+use crate::path::{write_path, write_resolved};
 use crate::reasons::{write_dropped, write_heard, write_refused};
 use nd_addr::Addr;
 use nd_text::write_hex;
@@ -135,6 +136,8 @@ fn write_out<A: Allocator, B: Allocator>(
         Out::EndedRouter(addr) => write_named(text, at, "ended router ", *addr),
         Out::Failed(addr) => write_named(text, at, "failed ", *addr),
         Out::Lost(why, packet) => write_lost(text, at, *why, packet.as_bytes()),
+        Out::Path(destination, way) => write_path(text, at, *destination, *way),
+        Out::Resolved(addr, mac) => write_resolved(text, at, *addr, *mac),
         Out::Shown(rows) => write_rows(text, None, at, rows),
         Out::Refused(why) => write_refused(text, at, *why),
         Out::Past(last) => write_counted(text, at, "refused past ", *last),

@@ -35,7 +35,10 @@ fn write_mac<A: Allocator>(text: &mut String<A>, mac: Mac) -> Result<(), AllocEr
 }
 
 /// Writes a link-layer address, or `-` if none is known.
-fn write_mac_or_none<A: Allocator>(text: &mut String<A>, mac: Option<Mac>) -> Result<(), AllocError>
+pub(crate) fn write_mac_or_none<A: Allocator>(
+    text: &mut String<A>,
+    mac: Option<Mac>,
+) -> Result<(), AllocError>
     ensures { OnOk result (string_bytes text.new ≡ string_bytes text.old ++ mac_or_none_text (option_map (λ mac. number_of mac.0) mac)) }
 {
     match mac {

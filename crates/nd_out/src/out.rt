@@ -1,4 +1,4 @@
-use nd_addr::{Addr, Why};
+use nd_addr::{Addr, Mac, Why};
 use nd_decode::Body;
 use nd_packet::Packet;
 use std::alloc::Allocator;
@@ -46,7 +46,7 @@ pub enum Refusal {
     WrongRole,
     /// The link-local address of the node is a duplicate (RFC 4862, section 5.4.5).
     Disabled,
-    /// An address was given by hand before the link-local address of the node was assigned (RFC 4862, section 5.4).
+    /// An address was given by hand, or a path was asked for, before the link-local address of the node was assigned (RFC 4862, section 5.4).
     Tentative,
     /// The source of a packet is not an assigned address of the node.
     NotOurs(Addr),
@@ -54,6 +54,15 @@ pub enum Refusal {
     TooLong,
     /// A table would pass its limit.
     Full(Limit),
+}
+
+/// Where packets to a destination go (RFC 4861, section 5.2).
+#[derive(Clone, Copy, Debug, PartialEq, Eq)]
+pub enum Way {
+    /// There is no next hop for them.
+    NoRoute,
+    /// They go to this neighbour, or to this multicast address, at this link-layer address, if it is known.
+    To(Addr, Option<Mac>),
 }
 
 /// What a node reports of what happened at it.
@@ -86,6 +95,10 @@ pub enum Out<A: Allocator> {
     Failed(Addr),
     /// A packet was lost.
     Lost(Loss, Packet<A>),
+    /// A caller that keeps its packets learned where those to a destination go.
+    Path(Addr, Way),
+    /// The link-layer address of a neighbour is known for which such a caller waited (RFC 4861, section 7.2.2).
+    Resolved(Addr, Mac),
     /// These rows of a table were shown.
     Shown(Vec<String<A>, A>),
     /// An event was refused.

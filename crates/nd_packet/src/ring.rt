@@ -24,6 +24,14 @@ impl<A: Allocator> Ring<A> {
         })
     }
 
+    /// Returns the packets of the neighbour, of which there is none yet.
+    pub fn empty(self) -> Waiting<A>
+        ensures value { result ≡ record { room = self.waiting.room; packets = [] } }
+        ensures least { 1 ≤ result.room }
+    {
+        self.waiting
+    }
+
     /// Returns the packets of the neighbour, of which `packet` is the first.
     pub fn with(self, packet: Packet<A>) -> Waiting<A>
         ensures value { result ≡ record { room = self.waiting.room; packets = packet ∷ [] } }

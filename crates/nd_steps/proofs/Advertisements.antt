@@ -1,5 +1,5 @@
 -- The steps of a Neighbor Advertisement: an address that another node has, and a router that is none any more.
-use Rattle.std.proofs.Common.{◌≡◌, ℕ, Bool, true, List, [], ◌∷◌, ◌++◌, Option, sym, ◌∙◌, ap}
+use Rattle.std.proofs.Common.{◌≡◌, ℕ, Bool, true, List, [], ◌∷◌, ◌++◌, sym, ◌∙◌, ap}
 use Rattle.std.specs.Prelude.{◌&&◌}
 use Rattle.nd_table.specs.Announcements.{stands}
 use Rattle.nd_routers.specs.History as router_rows

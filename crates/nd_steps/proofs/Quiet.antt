@@ -1,7 +1,7 @@
--- What concerns no table: frames that are sent, packets that are lost.
+-- What concerns no table: frames that are sent, packets that are lost, an address that is told.
 use Rattle.std.proofs.Common.{◌≡◌, ℕ, List, [], ◌∷◌, refl, sym, ◌∙◌}
 use Rattle.nd_chronicle.specs.Start.{Start}
-use Rattle.nd_chronicle.specs.Happening.{Chronicle, Lost, Loss, Sent, last_moment}
+use Rattle.nd_chronicle.specs.Happening.{Chronicle, Lost, Loss, Resolved, Sent, last_moment}
 use Rattle.nd_chronicle.specs.Histories.{parameter_history, neighbour_history, router_history, prefix_history, address_history, server_history, name_history, redirect_history}
 use Rattle.nd_chronicle.specs.Generator.{stream_left}
 use Rattle.nd_chronicle.specs.Due.{solicited_routers}
@@ -53,6 +53,39 @@ sent_is_quiet at frame c now = record {
   router = λ start. refl;
   stream = λ start. refl;
   last = λ start. sym (now start);
+}
+
+pub resolved_is_quiet : (at key mac : ℕ) (c : Chronicle) → ((start : ℕ) → last_moment start c ≡ at) → Quiet c ((at, Resolved key mac) ∷ c)
+resolved_is_quiet at key mac c now = record {
+  parameters = refl;
+  neighbours = refl;
+  routers = refl;
+  prefixes = refl;
+  addresses = refl;
+  servers = refl;
+  names = refl;
+  redirects = refl;
+  solicited = refl;
+  router = λ start. refl;
+  stream = λ start. refl;
+  last = λ start. sym (now start);
+}
+
+-- one after the other
+pub quiet_then : (c d e : Chronicle) → Quiet c d → Quiet d e → Quiet c e
+quiet_then c d e q r = record {
+  parameters = r.parameters ∙ q.parameters;
+  neighbours = r.neighbours ∙ q.neighbours;
+  routers = r.routers ∙ q.routers;
+  prefixes = r.prefixes ∙ q.prefixes;
+  addresses = r.addresses ∙ q.addresses;
+  servers = r.servers ∙ q.servers;
+  names = r.names ∙ q.names;
+  redirects = r.redirects ∙ q.redirects;
+  solicited = r.solicited ∙ q.solicited;
+  router = λ start. r.router start ∙ q.router start;
+  stream = λ start. r.stream start ∙ q.stream start;
+  last = λ at. r.last at ∙ q.last at;
 }
 
 pub losing_is_quiet : (at : ℕ) (why : Loss) (packets : List (List ℕ)) (c : Chronicle) → ((start : ℕ) → last_moment start c ≡ at) → Quiet c (losing at why packets c)

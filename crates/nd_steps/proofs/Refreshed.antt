@@ -1,6 +1,6 @@
 -- What is remembered behind the parts of an advertisement.
-use Rattle.std.proofs.Common.{◌≡◌, ℕ, Bool, true, false, List, [], ◌∷◌, map, Option, Some, None, refl, sym, ◌∙◌, ap, subst, inl, inr, arith}
-use Rattle.std.specs.Prelude.{◌==◌, ◌&&◌, not, is_some, if◌then◌else◌}
+use Rattle.std.proofs.Common.{◌≡◌, ℕ, Bool, true, false, List, [], refl, sym, ◌∙◌, ap, inl, inr}
+use Rattle.std.specs.Prelude.{◌==◌, not, is_some, if◌then◌else◌}
 use Rattle.std.proofs.lemmas.Bool.Decides.{eqb_tells}
 use Rattle.nd_addr.specs.Prefix.{PrefixValue}
 use Rattle.nd_addr.specs.Same.{same_prefix}
@@ -21,7 +21,7 @@ use Rattle.nd_routers.proofs.Refreshing.{held_by_keys}
 use Rattle.nd_routers.proofs.Settled.{open_each}
 use Rattle.nd_nexthop.specs.Choice.{Stands, Table}
 use Rattle.nd_nexthop.specs.History.{RedirectRow}
-use Rattle.nd_nexthop.specs.Memo.{Memory, forgotten}
+use Rattle.nd_nexthop.specs.Memo.{forgotten}
 use Rattle.nd_steps.specs.DestinationCache.{AsListed, AsStanding, Recollects, Refreshes}
 
 -- nothing is remembered

@@ -1,8 +1,8 @@
 -- What a choice remembers stays what the tables say.
-use Rattle.std.proofs.Common.{◌≡◌, ◌≤◌, ◌<◌, ℕ, zero, suc, Bool, true, false, List, [], ◌∷◌, map, Contains, ◌⊎◌, inl, inr, Option, Some, None, refl, sym, ◌∙◌, ap, subst, arith}
-use Rattle.std.specs.Prelude.{◌-◌, ◌&&◌, if◌then◌else◌, nat_le, nat_lt, min, filter}
+use Rattle.std.proofs.Common.{◌≡◌, ◌≤◌, ℕ, Bool, true, false, List, [], ◌∷◌, map, Contains, inl, inr, Option, Some, None, refl, sym, ◌∙◌, ap, subst, arith}
+use Rattle.std.specs.Prelude.{◌-◌}
 use Rattle.std.specs.Option.{option_map}
-use Rattle.std.proofs.lemmas.Bool.{cond-true, cond-false, and_parts, lt-ltb}
+use Rattle.std.proofs.lemmas.Bool.{cond-true, cond-false}
 use Rattle.std.proofs.lemmas.Bool.Decides.{nat_tests}
 use Rattle.nd_addr.specs.declared.addr.Addr.{Addr}
 use Rattle.nd_addr.specs.Number.{addr_at, number_of}
@@ -11,7 +11,6 @@ use Rattle.nd_table.specs.declared.lasting.Lasting.{Lasting}
 use Rattle.nd_table.specs.Listing.{open_at}
 use Rattle.nd_neighbour.specs.EntryKept.{NeighbourEntry}
 use Rattle.nd_neighbour.specs.TableKept.{entry_in}
-use Rattle.nd_routers.specs.OnLink.{is_held}
 use Rattle.nd_routers.specs.OnLinkKept.{least_end}
 use Rattle.nd_routers.specs.RouterFailures.{place_among}
 use Rattle.nd_routers.specs.Preferences.{preference_among}
@@ -23,14 +22,14 @@ use Rattle.nd_slaac.specs.TableKept.{address_in}
 use Rattle.nd_table.specs.Due.{lesser}
 use Rattle.nd_table.specs.Ends.{is_before}
 use Rattle.nd_nexthop.specs.Choice.{Table, Agrees, target_in}
-use Rattle.nd_nexthop.specs.DefaultRouter.{DefaultRouter, chosen_router}
-use Rattle.nd_nexthop.specs.Memo.{IsHop, forgotten, is_asked}
-use Rattle.nd_nexthop.specs.NextHop.{hop, is_own_or_none}
+use Rattle.nd_nexthop.specs.DefaultRouter.{DefaultRouter}
+use Rattle.nd_nexthop.specs.Memo.{IsHop, is_asked}
+use Rattle.nd_nexthop.specs.NextHop.{hop}
 use Rattle.nd_nexthop.specs.NextHopKept.{hop_of}
 use Rattle.nd_nexthop.specs.declared.next_hop.Hop.{Hop}
 use Rattle.nd_nexthop.proofs.Recalled as recalled
 use Rattle.nd_steps.specs.NextHop.{candidate_in, candidates_in, is_resolved}
-use Rattle.nd_steps.specs.DestinationCache.{AsResolved, MayRemember, Forgets, Keeps, Remembers, last_before_end, linked_by, own_in}
+use Rattle.nd_steps.specs.DestinationCache.{Remembers, last_before_end, linked_by, own_in}
 
 -- ---- time passes
 

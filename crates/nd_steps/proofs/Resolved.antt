@@ -1,8 +1,7 @@
 -- Which neighbours are resolved is a matter of their link-layer addresses alone, by what happened.
-use Rattle.std.proofs.Common.{◌≡◌, ℕ, Bool, true, false, List, [], ◌∷◌, Option, Some, None, refl, sym, ◌∙◌, ap, subst, inl, inr, arith}
+use Rattle.std.proofs.Common.{◌≡◌, ℕ, Bool, true, false, List, [], ◌∷◌, Option, Some, None, refl, sym, ◌∙◌, ap, subst}
 use Rattle.std.specs.Prelude.{◌&&◌, not, is_some, ◌==◌, if◌then◌else◌, MatchBool}
-use Rattle.std.proofs.lemmas.Bool.{cases_Bool, cond-true, cond-false, eqb-true}
-use Rattle.nd_neighbour.specs.declared.news.Flags.{Flags}
+use Rattle.std.proofs.lemmas.Bool.{cond-true, cond-false, eqb-true}
 use Rattle.nd_neighbour.specs.declared.news.News.{News}
 use Rattle.nd_neighbour.specs.declared.news.News.TheVariants as news
 use Rattle.nd_neighbour.specs.declared.news.Times.{Times}
@@ -15,13 +14,15 @@ use Rattle.nd_neighbour.specs.NewsKept.{GainsNews, was_known}
 use Rattle.nd_neighbour.specs.Sending.{Sending, then_packet}
 use Rattle.nd_neighbour.specs.SendingKept.{GainsPacket, sending_in, sending_to}
 use Rattle.nd_neighbour.specs.Story.{is_present, mac_of}
+use Rattle.nd_neighbour.specs.Wanting.{Wanting, then_wanted}
+use Rattle.nd_neighbour.specs.WantingKept.{GainsWish, wanting_in, wanting_to}
 use Rattle.nd_neighbour.specs.StoryKept.{entry_of}
 use Rattle.nd_neighbour.specs.TableKept as neighbours
 use Rattle.nd_neighbour.specs.TableKept.{entry_in}
 use Rattle.nd_nexthop.specs.Choice.{Table}
 use Rattle.nd_nexthop.specs.Memo.{forgotten}
 use Rattle.nd_steps.specs.NextHop.{is_resolved}
-use Rattle.nd_steps.specs.DestinationCache.{AsResolved, MayRemember, Forgets, Keeps, begins}
+use Rattle.nd_steps.specs.DestinationCache.{AsResolved, MayRemember, Forgets, Keeps, begins, begins_by}
 
 -- a neighbour whose link-layer address was known was resolved
 pub was_resolved : (found : Option NeighbourEntry) → was_known found ≡ is_resolved found
@@ -38,6 +39,7 @@ absent_unknown ((at, rows.Advertised flags mac reachable) ∷ s) h = rw h refl
 absent_unknown ((at, rows.Marked router) ∷ s) h = absent_unknown s h
 absent_unknown ((at, rows.Solicited) ∷ s) h = absent_unknown s h
 absent_unknown ((at, rows.Waits packet) ∷ s) h = absent_unknown s h
+absent_unknown ((at, rows.Wanted) ∷ s) h = absent_unknown s h
 absent_unknown ((at, rows.Used retrans) ∷ s) h = absent_unknown s h
 absent_unknown ((at, rows.Probed) ∷ s) h = absent_unknown s h
 absent_unknown ((at, rows.Confirmed reachable) ∷ s) h = absent_unknown s h
@@ -156,8 +158,8 @@ pub packet_may_remember : (old_choice new_choice : Table) (limit at key retrans 
 packet_may_remember old_choice new_choice limit at key retrans room packet old new sending is choice_is gains = by (entry_in key old) refl
   where
     by_stage : (n : NeighbourEntry) → entry_in key old ≡ Some n → (st : Stage) → n.stage ≡ st → MayRemember old_choice new_choice old new
-    by_stage n there (Resolving r sent waiting) e =
-        let sent_is : sending ≡ sending_to (Resolving r sent waiting) packet = is ∙ (ap (λ (o : Option NeighbourEntry). sending_in o packet) there ∙ ap (λ (x : Stage). sending_to x packet) e) in
+    by_stage n there (Resolving r sent wanted waiting) e =
+        let sent_is : sending ≡ sending_to (Resolving r sent wanted waiting) packet = is ∙ (ap (λ (o : Option NeighbourEntry). sending_in o packet) there ∙ ap (λ (x : Stage). sending_to x packet) e) in
         Keeps (choice_is ∙ ap (λ (x : Sending). if begins x then record old_choice { memory = forgotten old_choice.memory } else old_choice) sent_is) (packet_as_resolved limit at key retrans room packet old new n there gains)
     by_stage n there (Known mac confirmed since probing) e =
         let sent_is : sending ≡ sending_to (Known mac confirmed since probing) packet = is ∙ (ap (λ (o : Option NeighbourEntry). sending_in o packet) there ∙ ap (λ (x : Stage). sending_to x packet) e) in
@@ -169,9 +171,49 @@ packet_may_remember old_choice new_choice limit at key retrans room packet old n
 
 -- a resolution begins only of a neighbour that isn't there
 begins_of : (s : Stage) (packet : List ℕ) → begins (sending_to s packet) ≡ true → ⊥
-begins_of (Resolving retrans sent waiting) packet h = let never : ⊥ = cc in never
+begins_of (Resolving retrans sent wanted waiting) packet h = let never : ⊥ = cc in never
 begins_of (Known mac confirmed since probing) packet h = let never : ⊥ = cc in never
 
 pub begins_absent : (found : Option NeighbourEntry) (packet : List ℕ) → begins (sending_in found packet) ≡ true → found ≡ None
 begins_absent None packet h = refl
 begins_absent (Some n) packet h = absurd (begins_of n.stage packet h)
+
+-- ---- the wish for a neighbour's address
+
+-- of one that is there
+wish_as_known : (known : Option ℕ) (at key retrans room : ℕ) (history : List rows.Row) → AsKnown history (then_wanted true known at key retrans room history)
+wish_as_known None at key retrans room history = row_as_known at key rows.Wanted history refl refl
+wish_as_known (Some mac) at key retrans room history = row_as_known at key (rows.Used retrans) history refl refl
+
+wish_as_resolved : (limit at key retrans room : ℕ) (old new : List NeighbourEntry) (n : NeighbourEntry) → entry_in key old ≡ Some n → GainsWish limit at key retrans room old new → AsResolved old new
+wish_as_resolved limit at key retrans room old new n there gains = λ history s k.
+    let this = story key history in
+    let present : is_present this ≡ true = present_in key this n (sym (s.each key) ∙ there) in
+    let g = gains.stands history s in
+    let made_is : g.0 ≡ history = no_place_made true (is_present this) _ history g.0 present g.1 in
+    let t : neighbours.Stands new (then_wanted true (mac_of this) at key retrans room history) =
+    subst (λ (made : List rows.Row). neighbours.Stands new (then_wanted true (mac_of this) at key retrans room made)) made_is
+    (subst (λ (b : Bool). neighbours.Stands new (then_wanted b (mac_of this) at key retrans room g.0)) present g.2) in
+    resolved_as old new history (then_wanted true (mac_of this) at key retrans room history) s t (wish_as_known (mac_of this) at key retrans room history) k
+
+-- nothing is remembered where a resolution begins
+pub wish_may_remember : (old_choice new_choice : Table) (limit at key retrans room : ℕ) (old new : List NeighbourEntry) (want : Wanting) → want ≡ wanting_in (entry_in key old)
+    → new_choice ≡ (if begins_by want then record old_choice { memory = forgotten old_choice.memory } else old_choice) → GainsWish limit at key retrans room old new → MayRemember old_choice new_choice old new
+wish_may_remember old_choice new_choice limit at key retrans room old new want is choice_is gains = by (entry_in key old) refl
+  where
+    none_begins : (s : Stage) → begins_by (wanting_to s) ≡ false
+    none_begins (Resolving retrans' sent wanted waiting) = refl
+    none_begins (Known mac confirmed since probing) = refl
+
+    by : (o : Option NeighbourEntry) → entry_in key old ≡ o → MayRemember old_choice new_choice old new
+    by None e = Forgets (choice_is ∙ ap (λ (w : Wanting). if begins_by w then record old_choice { memory = forgotten old_choice.memory } else old_choice) (is ∙ ap wanting_in e))
+    by (Some n) e = Keeps (choice_is ∙ (ap (λ (w : Wanting). if begins_by w then record old_choice { memory = forgotten old_choice.memory } else old_choice) (is ∙ ap wanting_in e) ∙ ap (λ (b : Bool). if b then record old_choice { memory = forgotten old_choice.memory } else old_choice) (none_begins n.stage))) (wish_as_resolved limit at key retrans room old new n e gains)
+
+-- a resolution begins only of a neighbour that isn't there
+pub begins_by_absent : (found : Option NeighbourEntry) → begins_by (wanting_in found) ≡ true → found ≡ None
+begins_by_absent None h = refl
+begins_by_absent (Some n) h = absurd (of_stage n.stage h)
+  where
+    of_stage : (s : Stage) → begins_by (wanting_to s) ≡ true → ⊥
+    of_stage (Resolving retrans sent wanted waiting) h = let never : ⊥ = cc in never
+    of_stage (Known mac confirmed since probing) h = let never : ⊥ = cc in never

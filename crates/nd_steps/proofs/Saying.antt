@@ -10,20 +10,22 @@ use Rattle.nd_neighbour.specs.Due as dates
 use Rattle.nd_neighbour.specs.DueKept as kept_dates
 use Rattle.nd_neighbour.specs.News.{released_by}
 use Rattle.nd_neighbour.specs.Place.{MakesPlace, HadPlace, Pushed, Prepares, pushing}
-use Rattle.nd_neighbour.specs.Story.{is_present, mac_of}
+use Rattle.nd_neighbour.specs.Story.{is_awaited, is_present, mac_of}
 use Rattle.nd_neighbour.specs.TableKept.{Stands}
 use Rattle.nd_chronicle.specs.Start.{Start}
-use Rattle.nd_chronicle.specs.Happening.{Chronicle, Sent, last_moment}
+use Rattle.nd_chronicle.specs.Happening.{Chronicle, Happening, Resolved, Sent, last_moment}
 use Rattle.nd_chronicle.specs.Histories.{parameter_history, neighbour_history, router_history, prefix_history, address_history, server_history, name_history, redirect_history, then_neighbour}
 use Rattle.nd_chronicle.specs.Generator.{stream_left}
 use Rattle.nd_chronicle.specs.Due.{solicited_routers}
-use Rattle.nd_chronicle.specs.Message.{lets_enter, PlaceFor, releasing, sending_if_known}
+use Rattle.nd_chronicle.specs.Message.{lets_enter, PlaceFor, releasing, sending_if_known, telling_if_known}
 use Rattle.nd_chronicle.specs.Packet.{with_pushed, sending}
 use Rattle.nd_chronicle.specs.Told.{items_at, items}
-use Rattle.nd_steps.specs.NeighbourCache.{PreparesFor, sent_if_known, released_frames}
+use Rattle.nd_steps.specs.NeighbourCache.{PreparesFor, sent_if_known, told_if_known, released_rows}
 use Rattle.nd_steps.specs.RouterTables.{router_side}
 use Rattle.nd_steps.specs.Outputs.{at_moment}
-use Rattle.nd_steps.proofs.Quiet.{Quiet, quiet_same}
+use Rattle.nd_steps.proofs.Quiet.{Quiet, quiet_same, quiet_then, resolved_is_quiet}
+use Rattle.std.proofs.lemmas.Grind.{flat_map-append}
+use Rattle.std.proofs.lemmas.List.{map-append}
 
 -- ---- what makes place
 
@@ -51,10 +53,10 @@ module _ (limit now key : ℕ) (enters : Bool) (history made : List Row) where
   story_kept h = kept_by (enters && not (is_present (story key history))) refl h
 
 -- what is released is the same behind what makes place
-pub released_kept : (limit now : ℕ) (said : Option (ℕ × RowKind)) (history made : List Row) → PreparesFor limit now said history made → released_frames now said made ≡ released_frames now said history
+pub released_kept : (limit now : ℕ) (said : Option (ℕ × RowKind)) (history made : List Row) → PreparesFor limit now said history made → released_rows now said made ≡ released_rows now said history
 released_kept limit now None history made is = refl
 released_kept limit now (Some said) history made place =
-    ap (λ s. sent_if_known (mac_of ((now, said.1) ∷ s)) (released_by now said.1 s)) (story_kept limit now said.0 (lets_enter said.1) history made place)
+    ap (λ s. sent_if_known (mac_of ((now, said.1) ∷ s)) (released_by now said.1 s) ++ told_if_known said.0 (mac_of ((now, said.1) ∷ s)) (is_awaited s)) (story_kept limit now said.0 (lets_enter said.1) history made place)
 
 -- a neighbour that may be pushed out concerns no other table, and isn't told
 pub record Others (c d : Chronicle) : Type 0 where
@@ -190,12 +192,20 @@ sending_if_known_is_quiet : (at : ℕ) (known : Option ℕ) (packets : List (Lis
 sending_if_known_is_quiet at None packets c now = quiet_same c
 sending_if_known_is_quiet at (Some mac) packets c now = sending_is_quiet at mac packets c now
 
+telling_if_known_is_quiet : (at key : ℕ) (known : Option ℕ) (awaited : Bool) (c : Chronicle) → ((start : ℕ) → last_moment start c ≡ at) → Quiet c (telling_if_known at key known awaited c)
+telling_if_known_is_quiet at key None awaited c now = quiet_same c
+telling_if_known_is_quiet at key (Some mac) true c now = resolved_is_quiet at key mac c now
+telling_if_known_is_quiet at key (Some mac) false c now = quiet_same c
+
 -- it concerns no table
 pub releasing_is_quiet : (at : ℕ) (said : Option (ℕ × RowKind)) (history : List Row) (c : Chronicle) → ((start : ℕ) → last_moment start c ≡ at) → Quiet c (releasing at said history c)
 releasing_is_quiet at None history c now = quiet_same c
 releasing_is_quiet at (Some said) history c now =
     let s = story said.0 history in
-    sending_if_known_is_quiet at (mac_of ((at, said.1) ∷ s)) (released_by at said.1 s) c now
+    let known = mac_of ((at, said.1) ∷ s) in
+    let sent = sending_if_known at known (released_by at said.1 s) c in
+    let q = sending_if_known_is_quiet at known (released_by at said.1 s) c now in
+    quiet_then c sent (telling_if_known at said.0 known (is_awaited s) sent) q (telling_if_known_is_quiet at said.0 known (is_awaited s) sent (λ start. q.last start ∙ now start))
 
 sending_items : (at mac : ℕ) (packets : List (List ℕ)) (c : Chronicle) → items (sending at mac packets c) ≡ items c ++ flat_map items_at (at_moment at (map (λ packet. Sent (addressed (mac_at mac) packet)) packets))
 sending_items at mac [] c = sym (append-nil (items c))
@@ -207,9 +217,23 @@ sending_if_known_items : (at : ℕ) (known : Option ℕ) (packets : List (List �
 sending_if_known_items at None packets c = sym (append-nil (items c))
 sending_if_known_items at (Some mac) packets c = sending_items at mac packets c
 
--- and is told by its frames
-pub releasing_items : (at : ℕ) (said : Option (ℕ × RowKind)) (history : List Row) (c : Chronicle) → items (releasing at said history c) ≡ items c ++ flat_map items_at (at_moment at (released_frames at said history))
+telling_if_known_items : (at key : ℕ) (known : Option ℕ) (awaited : Bool) (c : Chronicle) → items (telling_if_known at key known awaited c) ≡ items c ++ flat_map items_at (at_moment at (told_if_known key known awaited))
+telling_if_known_items at key None awaited c = sym (append-nil (items c))
+telling_if_known_items at key (Some mac) true c = ap (λ l. items c ++ l) (sym (append-nil (items_at (at, Resolved key mac))))
+telling_if_known_items at key (Some mac) false c = sym (append-nil (items c))
+
+-- rows of a moment, one list behind the other
+items_of_both : (at : ℕ) (a b : List Happening) → flat_map items_at (at_moment at (a ++ b)) ≡ flat_map items_at (at_moment at a) ++ flat_map items_at (at_moment at b)
+items_of_both at a b = ap (flat_map items_at) (map-append (λ h. (at, h)) a b) ∙ flat_map-append items_at (at_moment at a) (at_moment at b)
+
+-- and is told by its frames, and by the address
+pub releasing_items : (at : ℕ) (said : Option (ℕ × RowKind)) (history : List Row) (c : Chronicle) → items (releasing at said history c) ≡ items c ++ flat_map items_at (at_moment at (released_rows at said history))
 releasing_items at None history c = sym (append-nil (items c))
 releasing_items at (Some said) history c =
     let s = story said.0 history in
-    sending_if_known_items at (mac_of ((at, said.1) ∷ s)) (released_by at said.1 s) c
+    let known = mac_of ((at, said.1) ∷ s) in
+    let packets = released_by at said.1 s in
+    telling_if_known_items at said.0 known (is_awaited s) (sending_if_known at known packets c)
+    ∙ (ap (λ l. l ++ flat_map items_at (at_moment at (told_if_known said.0 known (is_awaited s)))) (sending_if_known_items at known packets c)
+    ∙ (append_assoc (items c) (flat_map items_at (at_moment at (sent_if_known known packets))) (flat_map items_at (at_moment at (told_if_known said.0 known (is_awaited s))))
+    ∙ ap (λ l. items c ++ l) (sym (items_of_both at (sent_if_known known packets) (told_if_known said.0 known (is_awaited s))))))

@@ -10,6 +10,7 @@ use Rattle.nd_neighbour.specs.EntryKept.{NeighbourEntry}
 use Rattle.nd_neighbour.specs.History.{Row}
 use Rattle.nd_neighbour.specs.Sending.{Sending, Sends, Queues}
 use Rattle.nd_neighbour.specs.TableKept.{entry_in}
+use Rattle.nd_neighbour.specs.Wanting.{Wanting, IsKnown, Awaits}
 use Rattle.nd_routers.specs.OnLink.{is_held}
 use Rattle.nd_routers.specs.OnLinkKept.{least_end}
 use Rattle.nd_routers.specs.Preferences.{preference_among}
@@ -65,6 +66,11 @@ Remembering _ old new old_routers new_routers = (new ≡ old) × (new_routers �
 abbrev pub begins : Sending → Bool
 begins (Sends mac packet) = false
 begins (Queues solicit replaced) = solicit
+
+-- the wish for a neighbour's address begins one
+abbrev pub begins_by : Wanting → Bool
+begins_by (IsKnown mac) = false
+begins_by (Awaits solicit) = solicit
 
 -- What is remembered after a change: nothing, or the same where the change leaves all next hops.
 pub record Recollects (old new : Table) (Same : Type 0) : Type 0 where

@@ -2,7 +2,6 @@
 use Rattle.std.specs.Prelude.{◌≡◌, ℕ, List, [], ◌∷◌, ◌++◌, map}
 use Rattle.std.specs.List.{flat_map}
 use Rattle.nd_chronicle.specs.Happening.{Chronicle, Happening, Sent}
-use Rattle.nd_chronicle.specs.Due.{What}
 use Rattle.nd_chronicle.specs.Told.{items, items_at}
 use Rattle.nd_out.specs.declared.out.Out.{Out}
 use Rattle.nd_out.specs.Out.{happening}

@@ -1,6 +1,5 @@
 -- What happens to the node's own addresses (RFC 4862, section 5), and which of them count for a frame.
 use Rattle.std.specs.Prelude.{◌≡◌, ℕ, Bool, true, false, List, [], ◌∷◌, ◌++◌}
-use Rattle.nd_table.specs.Announcements.{stands}
 use Rattle.nd_slaac.specs.AddressKept.{Address}
 use Rattle.nd_slaac.specs.History.{Row, Conflict, story}
 use Rattle.nd_slaac.specs.State.{is_tentative}

@@ -36,8 +36,8 @@ pub use draws::{
 };
 pub use due_rows::{MOST_TOLD, tell, tell_advertisement, tell_lost};
 pub use neighbour_cache::{
-    has_place, hear_of_neighbour, note_use, ready_for, ready_for_two, tell_packets, tell_use,
-    waiting_for,
+    has_place, hear_of_neighbour, note_use, note_wish, ready_for, ready_for_two, ready_for_wish,
+    tell_packets, tell_use, tell_wish, told_for,
 };
 pub use news::news_of;
 pub use next_hop::{Tables, is_via};

@@ -1,29 +1,28 @@
 //! The Neighbor Cache (RFC 4861, section 5.1): what messages and packets do to it, and what the node reports of them.
 
-ghost use Rattle.std.specs.Prelude.{◌≡◌, List, Some, None, true, false, ◌+◌, ◌<◌, ◌≤◌, length, IfOk, OnOk, vec_capacity, vec_len, ◌-◌, ◌++◌, ◌^◌, IfSome, if◌then◌else◌, is_some, map};
+ghost use Rattle.std.specs.Prelude.{◌≡◌, List, Some, None, true, false, ◌+◌, ◌<◌, ◌≤◌, length, IfOk, IsOk, OnOk, vec_capacity, vec_len, ◌-◌, ◌++◌, ◌^◌, IfSome, if◌then◌else◌, is_some, map, [], ◌∷◌};
 ghost use Rattle.std.specs.Option.{option_map};
 ghost use Rattle.nd_neighbour.specs.declared.news.Times.{Times};
 ghost use Rattle.nd_neighbour.specs.History.{Row};
 ghost use Rattle.nd_neighbour.specs.TableKept.{Stands, entry_in};
 ghost use Rattle.nd_chronicle.specs.Start.{Start};
-ghost use Rattle.nd_chronicle.specs.Happening.{Chronicle, Sent, Forgotten, Lost};
+ghost use Rattle.nd_chronicle.specs.Happening.{Chronicle, Sent, Forgotten, Lost, Resolved};
 ghost use Rattle.nd_chronicle.specs.Histories.{neighbour_history};
 ghost use Rattle.nd_chronicle.specs.Full.{entering, Placed};
-ghost use Rattle.nd_steps.specs.NeighbourCache.{said_by, HasPlace, HasRoomFor, waiting_for, HearsOf, PlacedBy, told_of_packet};
+ghost use Rattle.nd_steps.specs.NeighbourCache.{said_by, HasPlace, HasRoomFor, most_told, told_for, HearsOf, PlacedBy, rows_of_wish, told_of_packet, told_of_wish};
 ghost use Rattle.nd_addr.specs.Number.{number_of};
 ghost use Rattle.nd_addr.specs.Frame.{addressed};
 ghost use Rattle.nd_table.specs.Moment.{IsMoment};
 ghost use Rattle.nd_neighbour.specs.News.{lets_enter, news_key};
-ghost use Rattle.nd_packet.specs.Waiting.{max_waiting};
-ghost use Rattle.nd_steps.specs.DestinationCache.{MayRemember, begins};
+ghost use Rattle.nd_steps.specs.DestinationCache.{MayRemember, begins, begins_by};
 ghost use Rattle.nd_steps.specs.Outputs.{at_moment, happenings};
-ghost use Rattle.nd_neighbour.specs.View.{sending_of};
+ghost use Rattle.nd_neighbour.specs.View.{sending_of, wanting_of};
 ghost use Rattle.nd_nexthop.specs.Memo.{forgotten};
 
 use crate::destination_cache::keep_if;
 use nd_addr::{Addr, Mac};
 use nd_compose::FrameRoom;
-use nd_neighbour::{Cache, News, Times, Use};
+use nd_neighbour::{Cache, News, Times, Use, Want};
 use nd_nexthop::Choice;
 use nd_out::{Loss, Out};
 use nd_packet::{Packet, Packets};
@@ -64,6 +63,9 @@ pub fn ready_for<A: Allocator + Clone>(
     ensures ring { OnOk result (entry_in (number_of to.0) neighbours.old.entries ≡ None → 0 < neighbours.new.rings) }
     ensures solicitation { IfOk result (λ room. entry_in (number_of to.0) neighbours.old.entries ≡ None → is_some room ≡ true) }
     ensures none { IfOk result (λ room. is_some (entry_in (number_of to.0) neighbours.old.entries) ≡ true → is_some room ≡ false) }
+
+    // If the neighbour is there, it asks for no memory where there is a place.
+    ensures ready { is_some (entry_in (number_of to.0) neighbours.old.entries) ≡ true → vec_len outs.old < vec_capacity outs.old → IsOk result }
     ensures entries { neighbours.new.entries ≡ neighbours.old.entries }
     ensures limit { neighbours.new.limit ≡ neighbours.old.limit }
     ensures waiting { neighbours.new.waiting ≡ neighbours.old.waiting }
@@ -78,6 +80,33 @@ pub fn ready_for<A: Allocator + Clone>(
         return Err(AllocError);
     }
     Ok(Some(solicitation))
+}
+
+/// Makes room for the wish for a neighbour's link-layer address: for the row of the answer and, if the neighbour isn't there, for that of the solicitation of
+/// the address, which is returned, and a ring. Returns an error if out of memory; no more than room has been made then.
+pub fn ready_for_wish<A: Allocator + Clone>(
+    neighbours: &mut Cache<A>,
+    to: Addr,
+    outs: &mut Vec<(u64, Out<A>), A>,
+) -> Result<Option<FrameRoom<A>>, AllocError>
+    ensures place { IfOk result (λ room. vec_len outs.new + rows_of_wish room ≤ vec_capacity outs.new) }
+    ensures ring { OnOk result (entry_in (number_of to.0) neighbours.old.entries ≡ None → 0 < neighbours.new.rings) }
+    ensures solicitation { IfOk result (λ room. entry_in (number_of to.0) neighbours.old.entries ≡ None → is_some room ≡ true) }
+
+    // If the neighbour is there, it asks for no memory where there is a place.
+    ensures ready { is_some (entry_in (number_of to.0) neighbours.old.entries) ≡ true → vec_len outs.old < vec_capacity outs.old → IsOk result }
+    ensures entries { neighbours.new.entries ≡ neighbours.old.entries }
+    ensures limit { neighbours.new.limit ≡ neighbours.old.limit }
+    ensures waiting { neighbours.new.waiting ≡ neighbours.old.waiting }
+    ensures same { outs.new.items ≡ outs.old.items }
+{
+    match ready_for(neighbours, to, outs)? {
+        None => Ok(None),
+        Some(solicitation) => {
+            outs.reserve(2)?;
+            Ok(Some(solicitation))
+        }
+    }
 }
 
 /// Makes room for a packet to one neighbour and then one to a second: for each, the solicitation of its link-layer address, what is reported, and a
@@ -111,14 +140,15 @@ fn neighbour_in(news: &News) -> Addr
     }
 }
 
-/// Returns the number of packets that wait for the neighbour of these news, and 0 if there are none.
-pub fn waiting_for<A: Allocator>(neighbours: &Cache<A>, news: Option<News>) -> usize
-    ensures value { result ≡ waiting_for news neighbours.now.entries }
-    ensures few { result ≤ max_waiting }
-    ensures limit { result ≤ neighbours.now.waiting }
+/// Returns the number of rows that tell that the link-layer address of the neighbour of these news is known, if they give it, and 0 if there are no
+/// news.
+pub fn told_for<A: Allocator>(neighbours: &Cache<A>, news: Option<News>) -> usize
+    ensures value { result ≡ told_for news neighbours.now.entries }
+    ensures few { result ≤ most_told }
+    ensures limit { result ≤ neighbours.now.waiting + 1 }
 {
     match news {
-        Some(news) => neighbours.waiting_at(neighbour_in(&news)),
+        Some(news) => neighbours.told_at(neighbour_in(&news)),
         None => 0,
     }
 }
@@ -136,8 +166,30 @@ fn send_each<A: Allocator>(outs: &mut Vec<(u64, Out<A>), A>, at: u64, mac: Mac, 
     }
 }
 
-/// Takes what a message says of a neighbour, and sends the packets that waited for the address that it gives. Returns true if it says that a
-/// router is no longer one.
+/// Reports that the link-layer address of a neighbour is known: its packets are sent there, the oldest first, and behind them the address is reported if a
+/// caller wanted it.
+fn tell_known<A: Allocator>(
+    outs: &mut Vec<(u64, Out<A>), A>,
+    at: u64,
+    neighbour: Addr,
+    mac: Mac,
+    packets: Packets<A>,
+    wanted: bool,
+)
+    requires { vec_len outs.old + length packets + (if wanted then 1 else 0) ≤ vec_capacity outs.old }
+    ensures told { happenings outs.new.items ≡ happenings outs.old.items ++ at_moment at (map (λ packet. Sent (addressed mac packet)) packets ++ (if wanted then Resolved (number_of neighbour.0) (number_of mac.0) ∷ [] else [])) }
+    ensures len { vec_len outs.new ≤ vec_len outs.old + length packets + (if wanted then 1 else 0) }
+    ensures capacity { vec_capacity outs.new ≡ vec_capacity outs.old }
+{
+    send_each(outs, at, mac, packets);
+    if !wanted {
+        return;
+    }
+    outs.push_reserved((at, Out::Resolved(neighbour, mac)));
+}
+
+/// Takes what a message says of a neighbour, sends the packets that waited for the address that it gives, and tells the address if a caller waited.
+/// Returns true if it says that a router is no longer one.
 fn hear_news<A: Allocator>(
     neighbours: &mut Cache<A>,
     choice: &mut Choice<A>,
@@ -153,8 +205,8 @@ fn hear_news<A: Allocator>(
     ensures hears { HearsOf neighbours.old.limit now (Some (said_by times news)) neighbours.old.entries neighbours.new.entries outs.old.items outs.new.items result }
     ensures remembers { MayRemember choice.old choice.new neighbours.old.entries neighbours.new.entries }
     ensures there { lets_enter news ≡ true → is_some (entry_in (news_key news) neighbours.new.entries) ≡ true }
-    ensures len { vec_len outs.new ≤ vec_len outs.old + waiting_for (Some news) neighbours.old.entries }
-    ensures most { vec_len outs.new ≤ vec_len outs.old + max_waiting }
+    ensures len { vec_len outs.new ≤ vec_len outs.old + told_for (Some news) neighbours.old.entries }
+    ensures most { vec_len outs.new ≤ vec_len outs.old + most_told }
     ensures capacity { vec_capacity outs.new ≡ vec_capacity outs.old }
     ensures limit { neighbours.new.limit ≡ neighbours.old.limit }
     ensures waiting { neighbours.new.waiting ≡ neighbours.old.waiting }
@@ -168,8 +220,16 @@ fn hear_news<A: Allocator>(
             keep_if(choice, touched.was_known);
             let _few = touched.released.len();
             let ends_router = touched.ends_router;
+            let wanted = touched.was_wanted;
             match mac {
-                Some(mac) => send_each(outs, now, mac, touched.released),
+                Some(mac) => tell_known(
+                    outs,
+                    now,
+                    neighbour_in(&news),
+                    mac,
+                    touched.released,
+                    wanted,
+                ),
                 None => {}
             }
             ends_router
@@ -178,9 +238,9 @@ fn hear_news<A: Allocator>(
     }
 }
 
-/// Takes what a message says of a neighbour at `now`, if it says anything, with the times in force, and sends the packets that waited for the
-/// address that it gives (RFC 4861, sections 6.2.6, 6.3.4, 7.2.3, 7.2.5 and 8.3). Moment and times are in milliseconds. Returns true if the message
-/// says that a router is no longer one. Remembered next hops are forgotten if the neighbour's link-layer address wasn't known. It takes no memory:
+/// Takes what a message says of a neighbour at `now`, if it says anything, with the times in force, sends the packets that waited for the address that
+/// it gives, and tells the address behind them if a caller waited (RFC 4861, sections 6.2.6, 6.3.4, 7.2.3, 7.2.5 and 8.3). Moment and times are in
+/// milliseconds. Returns true if the message says that a router is no longer one. Remembered next hops are forgotten if the neighbour's link-layer address wasn't known. It takes no memory:
 /// the caller has made room.
 pub fn hear_of_neighbour<A: Allocator>(
     neighbours: &mut Cache<A>,
@@ -202,8 +262,8 @@ pub fn hear_of_neighbour<A: Allocator>(
     ensures unsaid { news ≡ None → neighbours.new.entries ≡ neighbours.old.entries }
 
     // The room that was made for other rows is left.
-    ensures len { vec_len outs.new ≤ vec_len outs.old + waiting_for news neighbours.old.entries }
-    ensures most { vec_len outs.new ≤ vec_len outs.old + max_waiting }
+    ensures len { vec_len outs.new ≤ vec_len outs.old + told_for news neighbours.old.entries }
+    ensures most { vec_len outs.new ≤ vec_len outs.old + most_told }
     ensures capacity { vec_capacity outs.new ≡ vec_capacity outs.old }
 
     ensures limit { neighbours.new.limit ≡ neighbours.old.limit }
@@ -261,6 +321,47 @@ pub fn tell_use<A: Allocator>(
             ..
         } => outs.push_reserved((at, Out::Lost(Loss::Replaced, oldest))),
         Use::Queued { replaced: None, .. } => {}
+    }
+}
+
+/// Forgets remembered next hops if the wish for a neighbour's address began its resolution, as `note_use` does.
+pub fn note_wish<A: Allocator>(choice: &mut Choice<A>, want: Want)
+    ensures { choice.new ≡ (if begins_by (wanting_of want) then record choice.old { memory = forgotten choice.old.memory } else choice.old) }
+{
+    match want {
+        Want::Waits { solicit: true } => choice.changed(),
+        Want::Waits { .. } | Want::Known(_) => {}
+    }
+}
+
+/// Reports at `at`, in milliseconds, the solicitation that the resolution of `to` began with, if the wish for its link-layer address began it (RFC 4861,
+/// section 7.2.2). `mac` and `own` are the node's link-layer address and its link-local address. It takes no memory: the caller has made room for the
+/// solicitation, and for one row more, which is left.
+pub fn tell_wish<A: Allocator>(
+    outs: &mut Vec<(u64, Out<A>), A>,
+    at: u64,
+    room: Option<FrameRoom<A>>,
+    mac: Mac,
+    own: Addr,
+    to: Addr,
+    want: Want,
+)
+    requires room { vec_len outs.old + rows_of_wish room ≤ vec_capacity outs.old }
+    requires ready { begins_by (wanting_of want) ≡ true → is_some room ≡ true }
+    ensures told { happenings outs.new.items ≡ happenings outs.old.items ++ at_moment at (told_of_wish mac own (number_of to.0) (wanting_of want)) }
+    ensures left { vec_len outs.new < vec_capacity outs.new }
+{
+    nd_addr::laws::addresses_are_told_by_numbers();
+    match want {
+        Want::Waits { solicit: true } => match room {
+            Some(room) => {
+                let _bytes = to.as_bytes();
+                outs.push_reserved((at, Out::Frame(room.resolution(mac, own, to))));
+            }
+            None => unreachable!(),
+        },
+        Want::Waits { solicit: false } => {}
+        Want::Known(_) => {}
     }
 }
 

@@ -6,10 +6,10 @@ use Rattle.nd_decode.specs.declared.prefix_info.PrefixInfo.{PrefixInfo}
 use Rattle.nd_advertiser.specs.Config.{Settings}
 use Rattle.nd_forwarding.specs.declared.route.Route as routes
 use Rattle.nd_slaac.specs.ByHand.{AddressByHand}
-use Rattle.nd_chronicle.specs.Event.{Clearable, Event, Passes, Receives, Sends, Confirms, Forgets, Clears, Shows, Advertises, Offers, Routes, Stops, Sets, Withdraws}
+use Rattle.nd_chronicle.specs.Event.{Clearable, Event, Passes, Receives, Sends, Confirms, Forgets, Clears, Shows, Advertises, Offers, Routes, Stops, Sets, Withdraws, Resolves}
 use Rattle.nd_chronicle.specs.Shown as shown
 use Rattle.ndpctl_run.specs.declared.command.Command.{Command}
-use Rattle.ndpctl_run.specs.declared.command.Command.TheVariants.{Rx, Send, Confirm, Forget, Clear, Show, Advertise, Prefix, Route, Address, Withdraw}
+use Rattle.ndpctl_run.specs.declared.command.Command.TheVariants.{Rx, Send, Confirm, Forget, Clear, Show, Advertise, Prefix, Route, Address, Withdraw, Resolve}
 use Rattle.ndpctl_run.specs.Address.{IsAddressWord}
 use Rattle.ndpctl_run.specs.Bytes.{IsBytesWord}
 use Rattle.ndpctl_run.specs.Offer.{IsOffer}
@@ -33,6 +33,7 @@ command_word Prefix = codes "prefix"
 command_word Route = codes "route"
 command_word Address = codes "address"
 command_word Withdraw = codes "withdraw"
+command_word Resolve = codes "resolve"
 
 -- the words behind it spell the event
 abbrev pub AreArguments : Command → List ℕ → Event → Type 0
@@ -48,6 +49,7 @@ AreArguments Prefix words event = (info : PrefixInfo) × (event ≡ Offers info)
 AreArguments Route words event = (prefix : PrefixValue) × (route : routes.Route) × (event ≡ Routes prefix route) × IsRoute words prefix route
 AreArguments Address words event = (own : AddressByHand) × (event ≡ Sets own) × AreOwnAddressWords words own
 AreArguments Withdraw words event = (address : Addr) × (event ≡ Withdraws address) × IsAddressWord words address
+AreArguments Resolve words event = (destination : Addr) × (event ≡ Resolves destination) × IsAddressWord words destination
 
 -- the word is a command that acts on nothing: `at`, by which time passes, or `stop`, by which a router ceases to advertise
 abbrev pub IsWholeCommand : List ℕ → Event → Type 0

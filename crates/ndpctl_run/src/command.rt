@@ -43,9 +43,11 @@ pub enum Command {
     Address,
     /// An address of the node's own is withdrawn.
     Withdraw,
+    /// A caller that keeps its packets asks where those to a destination go.
+    Resolve,
 }
 
-const COMMANDS: [Command; 11] = [
+const COMMANDS: [Command; 12] = [
     Command::Rx,
     Command::Send,
     Command::Confirm,
@@ -57,6 +59,7 @@ const COMMANDS: [Command; 11] = [
     Command::Route,
     Command::Address,
     Command::Withdraw,
+    Command::Resolve,
 ];
 
 /// Returns the word that a command begins with.
@@ -75,6 +78,7 @@ fn command_word(command: Command) -> &'static str
         Command::Route => "route",
         Command::Address => "address",
         Command::Withdraw => "withdraw",
+        Command::Resolve => "resolve",
     }
 }
 
@@ -145,6 +149,10 @@ fn read_arguments<A: Allocator + Clone>(
         },
         Command::Withdraw => match read_address(words) {
             Some(address) => Ok(Some(Event::Withdraws(address))),
+            None => Ok(None),
+        },
+        Command::Resolve => match read_address(words) {
+            Some(destination) => Ok(Some(Event::Resolves(destination))),
             None => Ok(None),
         },
     }

@@ -130,6 +130,7 @@ fn commands_come_to_nodes(rt: HostRuntime) {
         "10 on 2 route 2001:db8::/64 direct",
         "10 on 2 address 2001:db8::5 - -",
         "10 on 2 withdraw 2001:db8::5",
+        "10 on 2 resolve 2001:db8::5",
     ] {
         says(&rt, line, Some((10, Said::CommandsOtherwise(2))));
     }
@@ -204,8 +205,10 @@ fn other_commands_are_malformed(rt: HostRuntime) {
         "0 on 0 address 2001:db8::5 -",
         "0 on 0 address ::1 - -",
         "0 on 0 withdraw",
+        "0 on 0 resolve",
         "0 address 2001:db8::5 - -",
         "0 withdraw 2001:db8::5",
+        "0 resolve 2001:db8::5",
         "0 ON 0 at",
         "0 deliver",
         "0 deliver 0",

@@ -1,7 +1,9 @@
 ghost use Rattle.std.specs.Prelude.{◌<◌, ◌^◌};
 ghost use Rattle.nd_node.specs.Event.{AreEarly};
 
-use nd_addr::{Mac, Role};
+use nd_addr::{Addr, Mac, Role};
+use nd_neighbour::Reachability;
+use nd_nexthop::Hop;
 use nd_node::*;
 use nd_out::write_outs;
 use nd_slaac::Transmits;
@@ -67,4 +69,80 @@ fn received(rt: &(impl Abort + AllocGlobal), bytes: &[u8]) -> Event<Global> {
     let mut frame = Vec::new(rt.alloc());
     frame.extend_from_slice(bytes).expect(rt, "memory");
     Event::Receives(frame)
+}
+
+/// A router, and a host that doesn't answer.
+const ROUTER: Addr = Addr([0xfe, 0x80, 0, 0, 0, 0, 0, 0, 0, 0, 0, 0xff, 0xfe, 0, 0, 1]);
+
+const SILENT: Addr = Addr([0xfe, 0x80, 0, 0, 0, 0, 0, 0, 0, 0, 0, 0, 0, 0, 0, 6]);
+
+/// The router is one for 1,800 seconds, has 02:00:00:00:00:01, and announces a prefix that is on the link for a second.
+const ADVERTISEMENT: [u8; 110] = [
+    0x33, 0x33, 0x00, 0x00, 0x00, 0x01, 0x02, 0x00, 0x00, 0x00, 0x00, 0x01, 0x86, 0xdd, 0x60, 0x00,
+    0x00, 0x00, 0x00, 0x38, 0x3a, 0xff, 0xfe, 0x80, 0x00, 0x00, 0x00, 0x00, 0x00, 0x00, 0x00, 0x00,
+    0x00, 0xff, 0xfe, 0x00, 0x00, 0x01, 0xff, 0x02, 0x00, 0x00, 0x00, 0x00, 0x00, 0x00, 0x00, 0x00,
+    0x00, 0x00, 0x00, 0x00, 0x00, 0x01, 0x86, 0x00, 0xc1, 0xbd, 0x40, 0x00, 0x07, 0x08, 0x00, 0x00,
+    0x00, 0x00, 0x00, 0x00, 0x00, 0x00, 0x01, 0x01, 0x02, 0x00, 0x00, 0x00, 0x00, 0x01, 0x03, 0x04,
+    0x40, 0x80, 0x00, 0x00, 0x00, 0x01, 0x00, 0x00, 0x00, 0x00, 0x00, 0x00, 0x00, 0x00, 0x20, 0x01,
+    0x0d, 0xb8, 0x00, 0x01, 0x00, 0x00, 0x00, 0x00, 0x00, 0x00, 0x00, 0x00, 0x00, 0x00,
+];
+
+/// The path at a moment up to which nothing is due.
+fn path(rt: &impl Abort, node: &Node<Pcg32, Global>, now: u64, destination: Addr) -> Path {
+    if !node.settled(now) {
+        panic!(rt; "something is due");
+    }
+    node.path(now, destination)
+}
+
+/// A lease ends where something is due next, where REACHABLE ends (RFC 4861, section 7.3.2), or where a prefix does (section 6.3.4).
+#[test]
+fn a_lease_ends_with_the_first_of_its_ends(rt: HostRuntime) {
+    let mut node = host(&rt);
+    let mut outs = Vec::new(rt.alloc());
+    let heard = node
+        .event(2000, &received(&rt, &ADVERTISEMENT), &mut outs)
+        .expect(&rt, "memory");
+    assert!(rt; heard == Answer::Done);
+    let stale = Path {
+        hop: Hop::Direct,
+        mac: Some(Mac([2, 0, 0, 0, 0, 1])),
+        state: Some(Reachability::Stale),
+        until: 2100,
+    };
+    assert!(rt; path(&rt, &node, 2100, ROUTER) == stale);
+    let confirmed = node
+        .event(2200, &Event::Confirms(ROUTER), &mut outs)
+        .expect(&rt, "memory");
+    assert!(rt; confirmed == Answer::Done);
+    // The prefix ends a second after its announcement.
+    let reachable = Path {
+        state: Some(Reachability::Reachable),
+        until: 3000,
+        ..stale
+    };
+    assert!(rt; path(&rt, &node, 2300, ROUTER) == reachable);
+    // Then REACHABLE ends, a ReachableTime after the confirmation.
+    let end = 2200 + node.parameters().reachable_time();
+    assert!(rt; path(&rt, &node, 3500, ROUTER).until == end);
+    // The second solicitation of the other host is due a RetransTimer after the first.
+    let asked = node
+        .event(3600, &Event::Resolves(SILENT), &mut outs)
+        .expect(&rt, "memory");
+    assert!(rt; asked == Answer::Done);
+    assert!(rt; path(&rt, &node, 3700, ROUTER).until == 4600);
+    let incomplete = Path {
+        hop: Hop::Direct,
+        mac: None,
+        state: Some(Reachability::Incomplete),
+        until: 3700,
+    };
+    assert!(rt; path(&rt, &node, 3700, SILENT) == incomplete);
+    let to_all = Path {
+        hop: Hop::Direct,
+        mac: Some(Mac([0x33, 0x33, 0, 0, 0, 1])),
+        state: None,
+        until: 4600,
+    };
+    assert!(rt; path(&rt, &node, 3700, Addr::ALL_NODES) == to_all);
 }

@@ -23,6 +23,7 @@ enum Said {
     Stops,
     Sets(OwnAddress),
     Withdraws(Addr),
+    Resolves(Addr),
 }
 
 /// The moment of a line and what it says, a frame by its bytes in lower case digits.
@@ -59,6 +60,7 @@ fn event_said(alloc: Global, event: Event<Global>) -> Result<Said, AllocError> {
         Event::Stops => Ok(Said::Stops),
         Event::Sets(own) => Ok(Said::Sets(own)),
         Event::Withdraws(address) => Ok(Said::Withdraws(address)),
+        Event::Resolves(destination) => Ok(Said::Resolves(destination)),
     }
 }
 
@@ -240,6 +242,27 @@ fn lines_of_withdrawing_are_read(rt: HostRuntime) -> Result<(), Fail> {
             "10 withdraw 2001:db8::5 -",
             "10 withdraw 2001:db8::5/128",
             "10 withdraws 2001:db8::5",
+        ],
+    )
+}
+
+#[test]
+fn lines_of_resolving_are_read(rt: HostRuntime) -> Result<(), Fail> {
+    let destination = Addr::from_bits(0xff02_0000_0000_0000_0000_0000_0000_0001);
+    assert_eq!(rt;
+        reading(rt.alloc(), b"10 resolve ff02::1")?,
+        Some((10, Said::Resolves(destination)))
+    );
+    malformed(
+        &rt,
+        rt.alloc(),
+        &[
+            "10 resolve",
+            "10 resolve ",
+            "10 resolve ff02::1 ",
+            "10 resolve ff02::1 -",
+            "10 resolve -",
+            "10 resolves ff02::1",
         ],
     )
 }

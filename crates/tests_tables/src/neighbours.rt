@@ -237,6 +237,12 @@ fn row_holds(
         mac: row.mac,
         router: router == row.marks,
         state: row.state.unwrap_or(before),
+        reachable_left: match (row.state, before) {
+            (Some(Reachability::Reachable), _) => Some(15_000),
+            // It was confirmed a second ago.
+            (None, Reachability::Reachable) => Some(14_000),
+            _ => None,
+        },
     };
     found == Some(before) && heard && cache.entry(20_000, a) == Some(after)
 }
@@ -256,6 +262,26 @@ fn every_advertisement_makes_of_an_entry_what_the_table_says(rt: HostRuntime) {
             assert!(rt; row_holds(&rt, Reachability::Probe, row, router));
         }
     }
+}
+
+#[test]
+fn an_address_that_is_wanted_is_told_once(rt: HostRuntime) {
+    let mut cache = Cache::new(rt.alloc(), 4, 3).expect(&rt, "memory");
+    let a = addr(1);
+    assert!(rt; cache.told_at(a) == 0);
+    assert!(rt; cache.want(1000, a, TIMES) == Ok(Want::Waits { solicit: true }));
+    assert!(rt; state(&cache, 1000, a) == Some(Reachability::Incomplete));
+    assert!(rt; cache.want(1500, a, TIMES) == Ok(Want::Waits { solicit: false }));
+    assert!(rt; cache.told_at(a) == 1);
+    let wanted = match cache.heard(1600, given(1), TIMES) {
+        Ok(touched) => touched.was_wanted,
+        Err(_) => false,
+    };
+    assert!(rt; wanted);
+    assert!(rt; cache.told_at(a) == 0);
+    assert!(rt; state(&cache, 1600, a) == Some(Reachability::Stale));
+    assert!(rt; cache.want(1700, a, TIMES) == Ok(Want::Known(MAC)));
+    assert!(rt; state(&cache, 1700, a) == Some(Reachability::Delay));
 }
 
 /// A packet whose last two bytes are this number.

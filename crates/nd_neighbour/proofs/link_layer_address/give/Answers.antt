@@ -3,7 +3,7 @@ use Rattle.std.specs.Prelude.{◌&&◌, not}
 use Rattle.nd_addr.specs.Number.{number_of}
 use Rattle.nd_neighbour.specs.LinkLayerAddressKept.{given}
 use Rattle.nd_neighbour.proofs.NewsCalls.{given_key}
-use Rattle.nd_neighbour.proofs.Finds.{alters, knew, releases, turns}
+use Rattle.nd_neighbour.proofs.Finds.{alters, knew, releases, turns, wished_for}
 use Rattle.nd_neighbour.proofs.Planning.{had_date, changed_planned, no_room}
 use Rattle.nd_neighbour.proofs.link_layer_address.give.Goals as goal
 
@@ -20,6 +20,11 @@ pub returns-clause-was_known : goal.returns-clause-was_known
 returns-clause-was_known g c =
     knew (number_of c.args.addr.0) (λ n. given c.args.now (number_of c.args.mac.0) c.args.mark n) c.args.entries.now.items c.args.entries.now.items c.args.i c.index_mut-entry.result.now c.given-released.new.self refl c.requires.within c.requires.found c.index_mut-entry.ensures.value c.given-released.ensures.entry
     _ (c.new.ensures.was_known ∙ c.is_known-was_known.ensures)
+
+pub returns-clause-was_wanted : goal.returns-clause-was_wanted
+returns-clause-was_wanted g c =
+    wished_for (number_of c.args.addr.0) (λ n. given c.args.now (number_of c.args.mac.0) c.args.mark n) c.args.entries.now.items c.args.entries.now.items c.args.i c.index_mut-entry.result.now c.given-released.new.self refl c.requires.within c.requires.found c.index_mut-entry.ensures.value c.given-released.ensures.entry
+    _ (c.new.ensures.was_wanted ∙ c.is_wanted-was_wanted.ensures)
 
 pub returns-clause-ends_router : goal.returns-clause-ends_router
 returns-clause-ends_router g c =

@@ -4,7 +4,7 @@ use Rattle.std.specs.Prelude.{◌&&◌, not}
 use Rattle.nd_addr.specs.Number.{number_of}
 use Rattle.nd_neighbour.specs.NeighborAdvertisementKept.{advertised}
 use Rattle.nd_neighbour.proofs.NewsCalls.{advertised_key}
-use Rattle.nd_neighbour.proofs.Finds.{alters, knew, releases, turns}
+use Rattle.nd_neighbour.proofs.Finds.{alters, knew, releases, turns, wished_for}
 use Rattle.nd_neighbour.proofs.Planning.{had_date, changed_planned, no_room}
 use Rattle.nd_neighbour.proofs.neighbor_advertisement.advertise.Goals as goal
 
@@ -21,6 +21,11 @@ pub returns-clause-was_known : goal.returns-clause-was_known
 returns-clause-was_known g c =
     knew (number_of c.args.addr.0) (λ n. advertised c.args.now c.args.flags (option_map (λ m. number_of m.0) c.args.mac) c.args.reachable n) c.args.entries.now.items c.deref.result.now c.in-Some.i c.index_mut-entry.result.now c.advertised-released.new.self c.deref.ensures.value c.in-Some.ensures.within c.in-Some.ensures.found c.index_mut-entry.ensures.value c.advertised-released.ensures.entry
     _ (c.new.ensures.was_known ∙ c.is_known-was_known.ensures)
+
+pub returns-clause-was_wanted : goal.returns-clause-was_wanted
+returns-clause-was_wanted g c =
+    wished_for (number_of c.args.addr.0) (λ n. advertised c.args.now c.args.flags (option_map (λ m. number_of m.0) c.args.mac) c.args.reachable n) c.args.entries.now.items c.deref.result.now c.in-Some.i c.index_mut-entry.result.now c.advertised-released.new.self c.deref.ensures.value c.in-Some.ensures.within c.in-Some.ensures.found c.index_mut-entry.ensures.value c.advertised-released.ensures.entry
+    _ (c.new.ensures.was_wanted ∙ c.is_wanted-was_wanted.ensures)
 
 pub returns-clause-ends_router : goal.returns-clause-ends_router
 returns-clause-ends_router g c =

@@ -1,4 +1,4 @@
-use Rattle.std.proofs.Common.{rules, ◌≡◌, ◌++◌, ◌∷◌, [], ℕ, List, map, sym, ap, ◌∙◌, append_assoc}
+use Rattle.std.proofs.Common.{◌≡◌, ◌++◌, ◌∷◌, [], ℕ, List, map, sym, ap, ◌∙◌, append_assoc}
 use Rattle.std.specs.Prelude.{string_bytes}
 use Rattle.nd_neighbour.specs.Left.{neighbours_left}
 use Rattle.nd_neighbour.specs.Shown.{Seen}

@@ -1,7 +1,7 @@
 use Rattle.std.proofs.Common.{Some, ap, refl, sym}
 use Rattle.nd_chronicle.specs.Event as events
 use Rattle.nd_node.specs.Event.{clearable_of, table_of}
-use Rattle.ndpctl_run.specs.declared.command.Command.TheVariants.{Rx, Send, Confirm, Forget, Clear, Show, Advertise, Prefix, Route, Address, Withdraw}
+use Rattle.ndpctl_run.specs.declared.command.Command.TheVariants.{Rx, Send, Confirm, Forget, Clear, Show, Advertise, Prefix, Route, Address, Withdraw, Resolve}
 use Rattle.ndpctl_run.specs.Bytes.{IsBytesWord}
 use Rattle.ndpctl_run.specs.Packet.{IsPacket}
 use Rattle.ndpctl_run.proofs.CommandWords.{of_command}
@@ -88,3 +88,8 @@ pub returns-in-Some-read_address-3-clause-malformed : goal.returns-in-Some-read_
 returns-in-Some-read_address-3-clause-malformed g c = λ none.
     let address = c.in-Some-read_address-3.address in
     absurd (none (events.Withdraws address) (of_command Withdraw c.args.command c.args.words.now (events.Withdraws address) (sym c.in-Withdraw.is) (address, refl, c.in-Some-read_address-3.ensures.found)))
+
+pub returns-in-Some-read_address-4-clause-malformed : goal.returns-in-Some-read_address-4-clause-malformed
+returns-in-Some-read_address-4-clause-malformed g c = λ none.
+    let destination = c.in-Some-read_address-4.destination in
+    absurd (none (events.Resolves destination) (of_command Resolve c.args.command c.args.words.now (events.Resolves destination) (sym c.in-Resolve.is) (destination, refl, c.in-Some-read_address-4.ensures.found)))

@@ -8,8 +8,8 @@ use Rattle.nd_neighbour.specs.LinkLayerAddressKept.{given, mark_or}
 use Rattle.nd_neighbour.specs.NeighborAdvertisementKept.{advertised}
 use Rattle.nd_neighbour.specs.TableKept.{Table, entry_in, Alters}
 use Rattle.nd_neighbour.specs.PlaceKept.{Gives}
-use Rattle.nd_neighbour.specs.NewsKept.{told_released, told_turned, was_known}
-use Rattle.nd_neighbour.proofs.Results.{if_ok_both}
+use Rattle.nd_neighbour.specs.NewsKept.{told_released, told_turned, was_known, was_wanted}
+use Rattle.nd_neighbour.proofs.Results.{if_ok_three}
 use Rattle.nd_neighbour.proofs.NewsCalls.{given_key, given_hears, advertised_gains, marked_gains, given_tells, advertised_tells, marked_tells, few_released}
 use Rattle.nd_neighbour.proofs.Second.{gives_there}
 use Rattle.nd_neighbour.proofs.Planning.{marked_planned}
@@ -30,9 +30,10 @@ returns-in-Given-clause-told g c =
     let key = number_of c.in-Given.addr.0 in
     let mac = number_of c.in-Given.mac.0 in
     let mark = c.in-Given.mark in
-    rw c.in-Given.is (if_ok_both c.give_or_enter.result _ _ _ (λ t p q. given_tells key c.args.now mac mark c.args.self.now.entries t.released t.ends_router p q)
+    rw c.in-Given.is (if_ok_three c.give_or_enter.result _ _ _ _ (λ t p q a. given_tells key c.args.now mac mark c.args.self.now.entries t.released t.ends_router t.was_wanted p q a)
     (subst (λ (t : Table). IfOk c.give_or_enter.result (λ touched. touched.released ≡ told_released (λ n. given c.args.now mac mark n) (entry_in key t.entries))) c.self.view_is c.give_or_enter.ensures.released)
-    (subst (λ (t : Table). IfOk c.give_or_enter.result (λ touched. touched.ends_router ≡ told_turned (λ n. given c.args.now mac mark n) (entry_in key t.entries))) c.self.view_is c.give_or_enter.ensures.ends_router))
+    (subst (λ (t : Table). IfOk c.give_or_enter.result (λ touched. touched.ends_router ≡ told_turned (λ n. given c.args.now mac mark n) (entry_in key t.entries))) c.self.view_is c.give_or_enter.ensures.ends_router)
+    (subst (λ (t : Table). IfOk c.give_or_enter.result (λ touched. touched.was_wanted ≡ was_wanted (entry_in key t.entries))) c.self.view_is c.give_or_enter.ensures.was_wanted))
 
 pub returns-in-Advert-clause-stands : goal.returns-in-Advert-clause-stands
 returns-in-Advert-clause-stands g c =
@@ -47,9 +48,10 @@ pub returns-in-Advert-clause-told : goal.returns-in-Advert-clause-told
 returns-in-Advert-clause-told g c =
     let key = number_of c.in-Advert.addr.0 in
     let mac = option_map (λ m. number_of m.0) c.in-Advert.mac in
-    rw c.in-Advert.is (advertised_tells key c.args.now c.in-Advert.flags mac c.args.times.reachable c.args.self.now.entries c.advertise.result.released c.advertise.result.ends_router
+    rw c.in-Advert.is (advertised_tells key c.args.now c.in-Advert.flags mac c.args.times.reachable c.args.self.now.entries c.advertise.result.released c.advertise.result.ends_router c.advertise.result.was_wanted
     (subst (λ (t : Table). c.advertise.result.released ≡ told_released (λ n. advertised c.args.now c.in-Advert.flags mac c.args.times.reachable n) (entry_in key t.entries)) c.self.view_is c.advertise.ensures.released)
-    (subst (λ (t : Table). c.advertise.result.ends_router ≡ told_turned (λ n. advertised c.args.now c.in-Advert.flags mac c.args.times.reachable n) (entry_in key t.entries)) c.self.view_is c.advertise.ensures.ends_router))
+    (subst (λ (t : Table). c.advertise.result.ends_router ≡ told_turned (λ n. advertised c.args.now c.in-Advert.flags mac c.args.times.reachable n) (entry_in key t.entries)) c.self.view_is c.advertise.ensures.ends_router)
+    (subst (λ (t : Table). c.advertise.result.was_wanted ≡ was_wanted (entry_in key t.entries)) c.self.view_is c.advertise.ensures.was_wanted))
 
 pub returns-in-Marked-clause-stands : goal.returns-in-Marked-clause-stands
 returns-in-Marked-clause-stands g c =
@@ -62,9 +64,10 @@ returns-in-Marked-clause-stands g c =
 pub returns-in-Marked-clause-told : goal.returns-in-Marked-clause-told
 returns-in-Marked-clause-told g c =
     let key = number_of c.in-Marked.addr.0 in
-    rw c.in-Marked.is (marked_tells key c.args.now c.in-Marked.router c.args.self.now.entries c.mark.result.released c.mark.result.ends_router
+    rw c.in-Marked.is (marked_tells key c.args.now c.in-Marked.router c.args.self.now.entries c.mark.result.released c.mark.result.ends_router c.mark.result.was_wanted
     (subst (λ (t : Table). c.mark.result.released ≡ told_released (λ n. with_mark c.in-Marked.router n) (entry_in key t.entries)) c.self.view_is c.mark.ensures.released)
-    (subst (λ (t : Table). c.mark.result.ends_router ≡ told_turned (λ n. with_mark c.in-Marked.router n) (entry_in key t.entries)) c.self.view_is c.mark.ensures.ends_router))
+    (subst (λ (t : Table). c.mark.result.ends_router ≡ told_turned (λ n. with_mark c.in-Marked.router n) (entry_in key t.entries)) c.self.view_is c.mark.ensures.ends_router)
+    (subst (λ (t : Table). c.mark.result.was_wanted ≡ was_wanted (entry_in key t.entries)) c.self.view_is c.mark.ensures.was_wanted))
 
 pub returns-in-Given-clause-there : goal.returns-in-Given-clause-there
 returns-in-Given-clause-there g c =
@@ -128,3 +131,15 @@ returns-in-Advert-clause-was_known g c =
 pub returns-in-Marked-clause-was_known : goal.returns-in-Marked-clause-was_known
 returns-in-Marked-clause-was_known g c =
     rw c.in-Marked.is (subst (λ (t : Table). c.mark.result.was_known ≡ was_known (entry_in (number_of c.in-Marked.addr.0) t.entries)) c.self.view_is c.mark.ensures.was_known)
+
+pub returns-in-Given-clause-was_wanted : goal.returns-in-Given-clause-was_wanted
+returns-in-Given-clause-was_wanted g c =
+    rw c.in-Given.is (subst (λ (t : Table). IfOk c.give_or_enter.result (λ touched. touched.was_wanted ≡ was_wanted (entry_in (number_of c.in-Given.addr.0) t.entries))) c.self.view_is c.give_or_enter.ensures.was_wanted)
+
+pub returns-in-Advert-clause-was_wanted : goal.returns-in-Advert-clause-was_wanted
+returns-in-Advert-clause-was_wanted g c =
+    rw c.in-Advert.is (subst (λ (t : Table). c.advertise.result.was_wanted ≡ was_wanted (entry_in (number_of c.in-Advert.addr.0) t.entries)) c.self.view_is c.advertise.ensures.was_wanted)
+
+pub returns-in-Marked-clause-was_wanted : goal.returns-in-Marked-clause-was_wanted
+returns-in-Marked-clause-was_wanted g c =
+    rw c.in-Marked.is (subst (λ (t : Table). c.mark.result.was_wanted ≡ was_wanted (entry_in (number_of c.in-Marked.addr.0) t.entries)) c.self.view_is c.mark.ensures.was_wanted)

@@ -1,4 +1,4 @@
-use Rattle.std.proofs.Common.{◌≡◌, ◌∙◌, ap, map}
+use Rattle.std.proofs.Common.{◌∙◌, ap, map}
 use Rattle.nd_neighbour.specs.Left.{neighbours_left}
 use Rattle.nd_neighbour.specs.ShownKept.{seen}
 use Rattle.nd_neighbour.specs.TableKept.{Table}

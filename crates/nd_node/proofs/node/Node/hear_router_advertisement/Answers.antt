@@ -8,7 +8,7 @@ use Rattle.nd_chronicle.specs.Happening.{Limit, Passed}
 use Rattle.nd_chronicle.specs.LinkLayerAddress.{first_slla}
 use Rattle.nd_chronicle.specs.Full.{AdvertisementFills}
 use Rattle.nd_node.specs.RouterAdvertisement.{advertised}
-use Rattle.nd_node.proofs.Memory.{waits_for_sender}
+use Rattle.nd_node.proofs.Memory.{told_of_sender}
 use Rattle.nd_node.proofs.TakenOrRefused.{sender_placed, refuses, takes}
 use Rattle.nd_node.proofs.Refusals.{router_advertisement_left}
 use Rattle.nd_node.specs.declared.answer.Answer.TheVariants.{Refused}
@@ -43,8 +43,8 @@ returns-clause-adds g c =
 pub returns-in_err-reserve-clause-quiet : goal.returns-in_err-reserve-clause-quiet
 returns-in_err-reserve-clause-quiet g c = λ adds.
     let options = options_left c.args.heard.now.message.options in
-    let waits = waits_for_sender (record { retrans = 0; reachable = 0 }) (number_of c.args.heard.now.source.0) (first_slla options) c.news_of-news.result c.args.self.now.neighbours.entries (rw c.requires.body at (c.news_of-news.ensures (record { retrans = 0; reachable = 0 }))) in
-    absurd (omega (arith, adds.told, waits, c.waiting_for-waiting.ensures.value, c.in_err-reserve.ensures.full))
+    let waits = told_of_sender (record { retrans = 0; reachable = 0 }) (number_of c.args.heard.now.source.0) (first_slla options) c.news_of-news.result c.args.self.now.neighbours.entries (rw c.requires.body at (c.news_of-news.ensures (record { retrans = 0; reachable = 0 }))) in
+    absurd (omega (arith, adds.told, waits, c.told_for-told.ensures.value, c.in_err-reserve.ensures.full))
 
 pub returns-in_err-names-clause-quiet : goal.returns-in_err-names-clause-quiet
 returns-in_err-names-clause-quiet g c = λ adds. let refused = c.in_err-names.ensures.quiet adds.names in let no : ⊥ = cc in absurd no

@@ -1,4 +1,4 @@
-use Rattle.std.proofs.Common.{refl, ap, ◌∙◌}
+use Rattle.std.proofs.Common.{refl, ap}
 use Rattle.nd_node.proofs.ByHand.{withdraws, withdraws_none}
 use Rattle.nd_node.proofs.node.Node.withdraw_address.Goals as goal
 

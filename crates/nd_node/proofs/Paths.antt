@@ -1,0 +1,81 @@
+-- The path of a destination, by what a node keeps, is that of the chronicle.
+use Rattle.std.proofs.Common.{◌≡◌, ◌≤◌, ℕ, Bool, true, false, List, Option, Some, None, refl, sym, ◌∙◌, ap, subst, arith}
+use Rattle.std.specs.Option.{option_map}
+use Rattle.std.proofs.lemmas.Bool.{cond-false, cond-true}
+use Rattle.rand_core.specs.Stream.{Stream}
+use Rattle.nd_addr.specs.declared.addr.Addr.{Addr}
+use Rattle.nd_addr.specs.declared.role.Role.{Role}
+use Rattle.nd_addr.specs.Kind.{multicast_prefix}
+use Rattle.nd_addr.specs.Number.{holds, number_of}
+use Rattle.nd_addr.specs.Prefix.{PrefixValue}
+use Rattle.nd_addr.specs.Same.{same_prefix}
+use Rattle.nd_table.specs.declared.lasting.Lasting.{Lasting}
+use Rattle.nd_table.specs.Listing.{Lists, open_at}
+use Rattle.nd_neighbour.specs.Shown.{Seen}
+use Rattle.nd_neighbour.specs.ShownKept.{seen}
+use Rattle.nd_neighbour.specs.TableKept.{entry_in}
+use Rattle.nd_neighbour.proofs.Forgetting.{seen_by_history}
+use Rattle.nd_nexthop.specs.NextHop.{NextHop, direct, via, no_route}
+use Rattle.nd_chronicle.specs.Start.{Start}
+use Rattle.nd_chronicle.specs.Happening.{Chronicle, last_moment}
+use Rattle.nd_chronicle.specs.Histories.{neighbour_history, prefix_history}
+use Rattle.nd_chronicle.specs.NextHop.{IsHopOf}
+use Rattle.nd_chronicle.specs.OwnAddress.{is_up}
+use Rattle.nd_node.specs.declared.node.Node.{Node}
+use Rattle.nd_node.specs.Node.{NextDue}
+use Rattle.nd_node.specs.NodeKept.{Stands}
+use Rattle.nd_node.specs.Path.{IsPath, PathSeen, first_end, neighbour_at, path_by, path_of, path_to_all}
+
+-- it goes by this next hop
+next_of_path : (up : Bool) (now due : ℕ) (end : Option ℕ) (next : NextHop) (found : Option Seen) → (path_by up now due end next found).next ≡ next
+next_of_path up now due end next None = refl
+next_of_path up now due end next (Some n) = refl
+
+module _ {R A : Type 0} (stream : R → Stream) (start : Start) (node : Node R A) (c : Chronicle) (now due : ℕ) (destination : Addr) (s : Stands stream start node c) (le : last_moment start.at c ≤ now) (next_due : NextDue start c due) where
+  kept : List (Lasting PrefixValue)
+  kept = open_at now node.prefixes.entries
+
+  standing : Lists same_prefix (prefix_history c) now kept
+  unfolding kept
+  standing = s.prefixes.lists now (omega (arith, s.prefixes_by_then, le))
+
+  by_next : (p : PathSeen) (next : NextHop) → IsHopOf start start.role c now destination next → p.next ≡ next → p ≡ path_of (is_up start c) c now due (first_end start.role kept) next destination → IsPath start c now destination p
+  by_next p next hop next_is is = record {
+    hop = subst (λ (n : NextHop). IsHopOf start start.role c now destination n) (sym next_is) hop;
+    prefixes = kept;
+    standing = standing;
+    due = due;
+    next_due = next_due;
+    path_is = is ∙ ap (λ (n : NextHop). path_of (is_up start c) c now due (first_end start.role kept) n destination) (sym next_is);
+  }
+
+  -- there is none
+  pub path_of_none : IsHopOf start start.role c now destination no_route → IsPath start c now destination (record { next = no_route; mac = None; state = None; until = now })
+  path_of_none hop = by_next _ no_route hop refl refl
+
+  module _ (p : PathSeen) (up : Bool) (up_is : up ≡ is_up start c) where
+    by_neighbour : (next : NextHop) (key : ℕ) → p ≡ path_by up now due (first_end node.role (open_at now node.prefixes.entries)) next (option_map (seen now) (entry_in key node.neighbours.entries))
+        → p ≡ path_by (is_up start c) now due (first_end start.role kept) next (neighbour_at c now key)
+    unfolding kept
+    by_neighbour next key is =
+        is ∙ (ap (λ (b : Bool). path_by b now due (first_end node.role (open_at now node.prefixes.entries)) next (option_map (seen now) (entry_in key node.neighbours.entries))) up_is
+        ∙ (ap (λ (r : Role). path_by (is_up start c) now due (first_end r (open_at now node.prefixes.entries)) next (option_map (seen now) (entry_in key node.neighbours.entries))) s.role
+        ∙ ap (λ (o : Option Seen). path_by (is_up start c) now due (first_end start.role (open_at now node.prefixes.entries)) next o) (seen_by_history key now node.neighbours.entries (neighbour_history c) s.neighbours)))
+
+    -- by a router
+    pub path_by_router : (key : ℕ) → IsHopOf start start.role c now destination (via key)
+        → p ≡ path_by up now due (first_end node.role (open_at now node.prefixes.entries)) (via key) (option_map (seen now) (entry_in key node.neighbours.entries)) → IsPath start c now destination p
+    path_by_router key hop is =
+        by_next p (via key) hop (ap (λ (q : PathSeen). q.next) is ∙ next_of_path up now due _ (via key) _) (by_neighbour (via key) key is)
+
+    -- on the link
+    pub path_to_one : holds multicast_prefix destination.0 ≡ false → IsHopOf start start.role c now destination direct
+        → p ≡ path_by up now due (first_end node.role (open_at now node.prefixes.entries)) direct (option_map (seen now) (entry_in (number_of destination.0) node.neighbours.entries)) → IsPath start c now destination p
+    path_to_one single hop is =
+        by_next p direct hop (ap (λ (q : PathSeen). q.next) is ∙ next_of_path up now due _ direct _)
+        (by_neighbour direct (number_of destination.0) is ∙ sym (cond-false (holds multicast_prefix destination.0) (path_to_all (is_up start c) now due destination) _ single))
+
+    pub path_of_all : holds multicast_prefix destination.0 ≡ true → IsHopOf start start.role c now destination direct → p ≡ path_to_all up now due destination → IsPath start c now destination p
+    path_of_all multicast hop is =
+        by_next p direct hop (ap (λ (q : PathSeen). q.next) is)
+        (is ∙ (ap (λ (b : Bool). path_to_all b now due destination) up_is ∙ sym (cond-true (holds multicast_prefix destination.0) (path_to_all (is_up start c) now due destination) _ multicast)))
