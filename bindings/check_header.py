@@ -21,7 +21,7 @@ STRUCTS = {"Slot": "nd_node", "Limits": "nd_limits", "Options": "nd_options", "R
            "RouterRow": "nd_router_row", "PrefixRow": "nd_prefix_row", "AddressRow": "nd_address_row", "ServerRow": "nd_server_row",
            "NameRow": "nd_name_row", "RedirectRow": "nd_redirect_row", "ParametersRow": "nd_parameters_row", "OfferRow": "nd_offer_row",
            "RouteRow": "nd_route_row", "Advertising": "nd_advertising", "CountsRow": "nd_counts_row", "NextHopRow": "nd_next_hop_row",
-           "OwnAddress": "nd_own_address", "Heard": "nd_heard"}
+           "OwnAddress": "nd_own_address", "PathRow": "nd_path", "Heard": "nd_heard"}
 # What the sources have as arrays, or have not: the memory functions are the toolchain's, which the archive calls.
 OTHER_STRUCTS = {"nd_addr", "nd_mac", "nd_block"}
 ALLOCATOR = """struct nd_block rattle_alloc(size_t, size_t);

@@ -1,8 +1,8 @@
 // A script of `ndpctl run`: its lines, done at a node, and the texts of what the node reports and of its tables (docs/FORMATS.md). The node is proved; its
 // records are put into words here.
 
-const KINDS = ['', 'tx', 'heard', 'drop', 'up', 'duplicate', 'assigned', 'ended address', 'ended router', 'failed', 'lost', 'refused'];
-const [TX, HEARD, DROP, UP, LOST, REFUSAL] = [1, 2, 3, 4, 10, 11];
+const KINDS = ['', 'tx', 'heard', 'drop', 'up', 'duplicate', 'assigned', 'ended address', 'ended router', 'failed', 'lost', 'refused', '', 'resolved'];
+const [TX, HEARD, DROP, UP, LOST, REFUSAL, RESOLVED] = [1, 2, 3, 4, 10, 11, 13];
 const MESSAGE_NAMES = ['rs', 'ra', 'ns', 'na', 'redirect'];
 const LOSSES = ['', 'unreachable', 'replaced', 'forgotten', 'no-route', 'hop-limit'];
 const REFUSALS = ['', 'wrong-role', 'disabled', 'not-ours', 'too-long', 'full', '', '', 'tentative'];
@@ -99,6 +99,7 @@ function recordText(record) {
         case DROP: return `${word} ${record.code} ${REASONS[record.code]}`;
         case LOST: return `${word} ${LOSSES[record.code]} ${addressText(record.bytes.subarray(8, 24))} ${addressText(record.bytes.subarray(24, 40))}`;
         case REFUSAL: return refusalText(record);
+        case RESOLVED: return `${word} ${addressText(record.address)} ${mac(record.bytes)}`;
         default: return `${word} ${addressText(record.address)}`;
     }
 }
@@ -106,6 +107,13 @@ function recordText(record) {
 function refusalText(record) {
     const why = REFUSALS[record.code];
     return `refused ${why}${why === 'not-ours' ? ` ${addressText(record.address)}` : ''}${why === 'full' ? ` ${LIMITS[record.limit]}` : ''}`;
+}
+
+// The text of a path, which no record has.
+function pathText(destination, status, path) {
+    if (status === REFUSED) return refusalText({ code: path.refusal, limit: path.limit });
+    if (status === NOTHING) return `path ${addressText(destination)} no-route`;
+    return `path ${addressText(destination)} ${addressText(path.next_hop)} ${path.has_mac ? mac(path.mac) : '-'}`;
 }
 
 // ---- tables
@@ -157,6 +165,13 @@ const EVENTS = {
         const source = words.address(), destination = words.address(), next = new Narrow(Number(words.number(256n))), payload = words.hex();
         words.end();
         return node.call('nd_send', now, node.place(source), node.place(destination, 16), next, node.place(payload, 32), payload.length);
+    },
+    resolve: (node, now, words) => {
+        const destination = words.address();
+        words.end();
+        const status = node.call('nd_resolve', now, node.place(destination), node.at);
+        node.answered = pathText(destination, status, node.read('path'));
+        return status;
     },
     confirm: ofAddress('nd_confirm'),
     forget: ofAddress('nd_forget'),
@@ -223,6 +238,7 @@ function answer(node, line) {
     if (status === INVALID) throw new Malformed('a value is outside its range');
     const records = node.records(), lines = records.map((it) => `${it.moment} ${recordText(it)}`);
     if (status === PAST) lines.push(`${now} refused past ${last}`);
+    if (verb === 'resolve' && status >= DONE) lines.push(`${now} ${node.answered}`);
     if (table && status !== PAST) {
         const rows = TABLES[table](node, now);
         lines.push(...rows.map((it) => `${now} ${it}`), `${now} end ${rows.length}`);

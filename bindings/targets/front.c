@@ -94,6 +94,7 @@ static void get_fields(void *to, uint32_t at, const char *fields)
 #define OPTIONS "4m11488" LIMITS
 #define COUNTS "4444444444" LIMITS
 #define OWN_ADDRESS "a44"
+#define PATH "8am114444"
 #define ADVERTISING "44444411114"
 #define OFFER "a4441111"
 #define ROUTE "aa44"
@@ -101,10 +102,10 @@ static void get_fields(void *to, uint32_t at, const char *fields)
 #define OUT "884444a"
 
 _Static_assert(sizeof(nd_limits) == 32 && sizeof(nd_options) == 64 && sizeof(nd_own_address) == 24 && sizeof(nd_advertising) == 32 &&
-                   sizeof(nd_offer_row) == 32 && sizeof(nd_route_row) == 40 && sizeof(nd_heard) == 108 && sizeof(nd_neighbour_row) == 32 &&
+                   sizeof(nd_offer_row) == 32 && sizeof(nd_route_row) == 40 && sizeof(nd_heard) == 108 && sizeof(nd_neighbour_row) == 40 &&
                    sizeof(nd_router_row) == 32 && sizeof(nd_prefix_row) == 32 && sizeof(nd_address_row) == 40 && sizeof(nd_server_row) == 24 &&
                    sizeof(nd_name_row) == 272 && sizeof(nd_redirect_row) == 32 && sizeof(nd_parameters_row) == 24 && sizeof(nd_counts_row) == 72 &&
-                   sizeof(nd_next_hop_row) == 24,
+                   sizeof(nd_next_hop_row) == 24 && sizeof(nd_path) == 48,
                "structures have no padding");
 
 /* ---- calls ----------------------------------------------------------------------------------- */
@@ -329,13 +330,23 @@ int32_t nd_next_hop(nd_node *node, uint64_t now, const nd_addr *destination, nd_
     return status;
 }
 
+int32_t nd_resolve(nd_node *node, uint64_t now, const nd_addr *destination, nd_path *path)
+{
+    enter(node);
+    put(first, destination, sizeof *destination);
+    int32_t status = leave(node, MODULE(nd_resolve)(&module, slot, now, first, structure));
+    if (status >= ND_DONE)
+        get_fields(path, structure, PATH);
+    return status;
+}
+
 int32_t nd_neighbour_of(nd_node *node, uint64_t now, const nd_addr *address, nd_neighbour_row *row)
 {
     enter(node);
     put(first, address, sizeof *address);
     int32_t status = leave(node, MODULE(nd_neighbour_of)(&module, slot, now, first, structure));
     if (status == ND_DONE)
-        get_fields(row, structure, "am1144");
+        get_fields(row, structure, "8am1144");
     return status;
 }
 
@@ -359,7 +370,7 @@ int32_t nd_neighbour_of(nd_node *node, uint64_t now, const nd_addr *address, nd_
         return status;                                                                                 \
     }
 
-ROW_AT(nd_neighbour_at, nd_neighbour_row, "am1144")
+ROW_AT(nd_neighbour_at, nd_neighbour_row, "8am1144")
 ROW_AT(nd_router_at, nd_router_row, "8a44")
 ROW_AT(nd_prefix_at, nd_prefix_row, "8a44")
 ROW_AT(nd_address_at, nd_address_row, "88a41111")

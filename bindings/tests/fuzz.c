@@ -7,11 +7,11 @@
 #include "heap.h"
 #include "fuzz.h"
 
-enum { LONGEST_INPUT = 1024, STATUSES = 8, KINDS = 12 };
+enum { LONGEST_INPUT = 1024, STATUSES = 8, KINDS = 14 };
 
 /* The calls by the value of a byte, the frequent ones more often. */
 static const enum call OFTEN[] = {TURN,  TURN,        RECEIVE,        RECEIVE,  RECEIVE,   RECEIVE, RECEIVE, RECEIVE, SEND, SEND, CONFIRM, FORGET,
-                                  CLEAR, ADD_ADDRESS, REMOVE_ADDRESS, NEXT_HOP, ADVERTISE, OFFER,   ROUTE,   STOP};
+                                  CLEAR, ADD_ADDRESS, REMOVE_ADDRESS, NEXT_HOP, RESOLVE,   RESOLVE, ADVERTISE, OFFER, ROUTE, STOP};
 
 static size_t done[CALLS][STATUSES], kinds[KINDS], inputs;
 static nd_node node;
@@ -32,6 +32,27 @@ static uint64_t a_moment(void)
 
 /* ---- calls ----------------------------------------------------------------------------------- */
 
+/* Asks where packets go, and requires that the path has what its status says. */
+static int32_t resolve(uint64_t at)
+{
+    static const nd_mac none = {{0}};
+    nd_path path;
+    memset(&path, 0xff, sizeof path);
+    int32_t status = nd_resolve(&node, at, &with.one, &path);
+    if (status < 0) {
+        require(path.reserved == 0xff && path.until == UINT64_MAX && path.limit == UINT32_MAX, "an error writes no path");
+        return status;
+    }
+    bool has_hop = status == ND_DONE || status == ND_WAITING;
+    require(path.reserved == 0 && (path.has_mac == 1) == (status == ND_DONE), "a path has the link-layer address where it is known");
+    require(path.has_mac == 1 || memcmp(&path.mac, &none, sizeof none) == 0, "and zeros where not");
+    require((path.hop != 0) == has_hop && (path.refusal != 0) == (status == ND_REFUSED), "a next hop, or the reason of a refusal");
+    require((path.limit != 0) == (path.refusal == ND_REFUSAL_FULL), "a limit where it is full");
+    require(path.until >= at && (status == ND_DONE || path.until == at), "a lease where the link-layer address is known");
+    require(path.until == at || path.until <= nd_next_due(&node), "a lease ends where something is due");
+    return status;
+}
+
 static int32_t act(enum call call, uint64_t at)
 {
     nd_next_hop_row hop;
@@ -45,6 +66,7 @@ static int32_t act(enum call call, uint64_t at)
     case ADD_ADDRESS: return nd_add_address(&node, at, &with.own);
     case REMOVE_ADDRESS: return nd_remove_address(&node, at, &with.one);
     case NEXT_HOP: return nd_next_hop(&node, at, &with.one, &hop);
+    case RESOLVE: return resolve(at);
     case ADVERTISE: return nd_advertise(&node, at, &with.settings);
     case OFFER: return nd_offer(&node, at, &with.offer);
     case ROUTE: return nd_route(&node, at, &with.route);
@@ -58,8 +80,9 @@ static bool is_allowed(enum call call, int32_t status)
 {
     if (call >= ADVERTISE && call <= STOP && options.role == ND_ROLE_HOST)
         return status == ND_REFUSED;
-    bool may_be_refused = call == RECEIVE || call == SEND || call == ADD_ADDRESS || call == OFFER || call == ROUTE;
-    return status == ND_DONE || (status == ND_REFUSED && may_be_refused) || (status == ND_NOTHING && call == NEXT_HOP);
+    bool may_be_refused = call == RECEIVE || call == SEND || call == ADD_ADDRESS || call == RESOLVE || call == OFFER || call == ROUTE;
+    return status == ND_DONE || (status == ND_REFUSED && may_be_refused) || (status == ND_NOTHING && (call == NEXT_HOP || call == RESOLVE)) ||
+           (status == ND_WAITING && call == RESOLVE);
 }
 
 /* ---- what is required ------------------------------------------------------------------------ */
@@ -75,11 +98,13 @@ static void check_frame(const uint8_t *frame, size_t length)
 
 static void check_record(const nd_out *out, const uint8_t *bytes)
 {
-    bool has_bytes = out->kind == ND_OUT_FRAME || out->kind == ND_OUT_UP || out->kind == ND_OUT_LOST;
+    bool has_packet = out->kind == ND_OUT_FRAME || out->kind == ND_OUT_UP || out->kind == ND_OUT_LOST;
+    bool has_bytes = has_packet || out->kind == ND_OUT_RESOLVED;
     require(out->moment >= last_record, "records are in the order of their moments");
     require(out->moment <= nd_last_moment(&node), "no record is after nd_last_moment");
     require(out->kind > 0 && out->kind < KINDS && (out->length > 0) == has_bytes && out->reserved == 0, "a record is of a kind");
-    require(out->kind == ND_OUT_FRAME || !has_bytes || bytes[0] >> 4 == 6, "a packet begins with an IPv6 header");
+    require(out->kind == ND_OUT_FRAME || !has_packet || bytes[0] >> 4 == 6, "a packet begins with an IPv6 header");
+    require(out->kind != ND_OUT_RESOLVED || out->length == sizeof(nd_mac), "a link-layer address has 6 bytes");
     if (out->kind == ND_OUT_FRAME)
         check_frame(bytes, out->length);
     last_record = out->moment;
@@ -222,7 +247,7 @@ static void step(void)
     require(call == OPEN ? status == ND_DONE : is_allowed(call, status), "a status is one that nd.h allows");
     require(call == NEXT_HOP ? nd_last_moment(&node) <= at : nd_last_moment(&node) == at, "time has passed up to the call");
     require((call != TURN && call != NEXT_HOP) || nd_next_due(&node) > at, "after nd_turn and nd_next_hop nothing is due");
-    if (status == ND_REFUSED)
+    if (status == ND_REFUSED && call != RESOLVE)
         require(take_records() == ND_OUT_REFUSED, "the newest record says why an event is refused");
     else if (once_in(3))
         take_records();
@@ -243,7 +268,7 @@ int LLVMFuzzerTestOneInput(const uint8_t *bytes, size_t length)
 
 #ifndef FUZZER
 static const char *const NAMES[CALLS] = {"turn",     "receive",   "send",  "confirm", "forget", "clear", "add_address", "remove_address",
-                                         "next_hop", "advertise", "offer", "route",   "stop",   "open",  "close"};
+                                         "next_hop", "resolve",   "advertise", "offer", "route",   "stop",   "open",  "close"};
 static uint64_t seed;
 
 static void name_seed(void)
@@ -268,7 +293,7 @@ static void run_seed(void)
 
 int main(int argc, char **argv)
 {
-    static const char *const OF_STATUS[STATUSES] = {"done", "nothing", "refused", "no room", "past", "invalid", "closed", "no memory"};
+    static const char *const OF_STATUS[STATUSES] = {"done", "nothing", "refused", "waiting", "past", "invalid", "closed", "no memory"};
     time_t end;
     require(argc == 3, "fuzz SECONDS SEED");
     end = time(NULL) + atoi(argv[1]);

@@ -46,12 +46,14 @@ static void try_closed(nd_node *node)
     nd_out out;
     nd_neighbour_row neighbour;
     nd_next_hop_row hop;
+    nd_path path;
     is("a turn of a closed node", nd_turn(node, 0), ND_CLOSED);
     is("a frame at a closed node", nd_receive(node, 0, buffer, 0), ND_CLOSED);
     is("a packet at a closed node", nd_send(node, 0, &LINK_LOCAL, &LINK_LOCAL, 17, buffer, 0), ND_CLOSED);
     is("a poll of a closed node", nd_poll(node, &out, buffer, sizeof buffer), ND_CLOSED);
     is("a row of a closed node", nd_neighbour_at(node, 0, 0, &neighbour), ND_CLOSED);
     is("a next hop of a closed node", nd_next_hop(node, 0, &LINK_LOCAL, &hop), ND_CLOSED);
+    is("a path of a closed node", nd_resolve(node, 0, &LINK_LOCAL, &path), ND_CLOSED);
     is("a stop of a closed node", nd_stop(node, 0), ND_CLOSED);
     is("an address for a closed node", nd_add_address(node, 0, &OWN), ND_CLOSED);
     is("an address that is removed from a closed node", nd_remove_address(node, 0, &OWN.address), ND_CLOSED);
@@ -396,6 +398,106 @@ static void try_router(nd_node *node)
     nd_close(node);
 }
 
+/* Frames of a link with a router fe80::ff:fe00:1 and a neighbour 2001:db8::1: an advertisement of a prefix, the solicitation of the neighbour, and two
+ * of its advertisements. */
+#define ROUTER_ADVERTISEMENT \
+    "33330000000102000000000186dd6000000000383afffe80000000000000000000fffe000001ff02000000000000000000000000000186" \
+    "00f9ce4000070800000000000000000101020000000001030440c000278d0000093a800000000020010db8000000000000000000000000"
+#define SOLICITATION \
+    "3333ff0000013456789abcde86dd6000000000203afffe80000000000000365678fffe9abcdeff0200000000000000000001ff00000187" \
+    "0078c40000000020010db800000000000000000000000101013456789abcde"
+#define ADVERTISEMENT \
+    "3456789abcde02000000000986dd6000000000203aff20010db8000000000000000000000001fe80000000000000365678fffe9abcde88" \
+    "004ed66000000020010db80000000000000000000000010201020000000009"
+#define OTHER_ADVERTISEMENT \
+    "3456789abcde02000000000a86dd6000000000203aff20010db8000000000000000000000001fe80000000000000365678fffe9abcde88" \
+    "004ed56000000020010db8000000000000000000000001020102000000000a"
+
+static int32_t receive_digits(nd_node *node, uint64_t now, const char *digits)
+{
+    uint8_t frame[ND_BUFFER_BYTES];
+    return nd_receive(node, now, frame, bytes_of(digits, frame, sizeof frame));
+}
+
+/* Requires that a path has this next hop, and this link-layer address, if it is known. */
+static void goes_to(const nd_path *path, const nd_addr *next_hop, uint32_t hop, const nd_mac *mac)
+{
+    static const nd_mac none = {{0}};
+    is("the next hop", memcmp(&path->next_hop, next_hop, sizeof *next_hop), 0);
+    is("its kind", path->hop, hop);
+    is("its link-layer address", memcmp(&path->mac, mac != NULL ? mac : &none, sizeof none), 0);
+    is("which is known or not", path->has_mac, mac != NULL);
+    is("no refusal", path->refusal == 0 && path->limit == 0 && path->reserved == 0, true);
+}
+
+/* Where packets go of a caller that keeps them. */
+static void try_paths(nd_node *node)
+{
+    static const nd_addr router = {{0xfe, 0x80, [11] = 0xff, 0xfe, 0, 0, 1}}, neighbour = {{0x20, 1, 0xd, 0xb8, [15] = 1}};
+    static const nd_addr group = {{0xff, 2, [13] = 1, [15] = 2}}, behind = {{0x20, 1, 0xd, 0xb8, 0, 1, [15] = 5}}, none = {{0}};
+    static const nd_mac of_router = {{2, 0, 0, 0, 0, 1}}, first = {{2, 0, 0, 0, 0, 9}}, second = {{2, 0, 0, 0, 0, 10}}, all = {{0x33, 0x33, 0, 1, 0, 2}};
+    uint8_t buffer[ND_BUFFER_BYTES], solicitation[ND_BUFFER_BYTES];
+    size_t length = bytes_of(SOLICITATION, solicitation, sizeof solicitation);
+    nd_neighbour_row row;
+    nd_path path, before;
+    nd_out out;
+    is("an open", open_with(node, host_options()), ND_DONE);
+    memset(&path, 0xff, sizeof path);
+    before = path;
+    is("a path at a moment that is none", nd_resolve(node, ND_MOMENT_LIMIT, &neighbour, &path), ND_INVALID);
+    is("is not written", memcmp(&path, &before, sizeof path), 0);
+    is("what is due at the start", nd_turn(node, 999), ND_DONE);
+    drain(node, FIRST_HASH);
+    is("a path of the past", nd_resolve(node, 998, &neighbour, &path), ND_PAST);
+    is("is not written", memcmp(&path, &before, sizeof path), 0);
+    is("a path before the link-local address is assigned", nd_resolve(node, 999, &group, &path), ND_REFUSED);
+    is("its reason", path.refusal, ND_REFUSAL_TENTATIVE);
+    is("no limit, no next hop and no lease", path.limit == 0 && path.hop == 0 && path.has_mac == 0 && path.until == 999, true);
+    is("there is no record of it", nd_poll(node, &out, buffer, sizeof buffer), ND_NOTHING);
+    is("an advertisement of a router", receive_digits(node, 1200, ROUTER_ADVERTISEMENT), ND_DONE);
+    is("detection ends", nd_turn(node, 2200), ND_DONE);
+    drain(node, FIRST_HASH);
+    is("a path to a neighbour that is not known", nd_resolve(node, 3000, &neighbour, &path), ND_WAITING);
+    goes_to(&path, &neighbour, ND_HOP_DIRECT, NULL);
+    is("it is INCOMPLETE", path.state, ND_REACHABILITY_INCOMPLETE);
+    is("there is no lease", path.until == 3000, true);
+    is("its record", nd_poll(node, &out, buffer, sizeof buffer), ND_DONE);
+    is("is a solicitation", out.kind == ND_OUT_FRAME && out.length == length && memcmp(buffer, solicitation, length) == 0, true);
+    is("and no other", nd_poll(node, &out, buffer, sizeof buffer), ND_NOTHING);
+    is("the same path again", nd_resolve(node, 3000, &neighbour, &path), ND_WAITING);
+    is("adds no record", nd_poll(node, &out, buffer, sizeof buffer), ND_NOTHING);
+    is("an advertisement of the neighbour", receive_digits(node, 3500, ADVERTISEMENT), ND_DONE);
+    is("is a record", nd_poll(node, &out, buffer, sizeof buffer), ND_DONE);
+    is("of a message", out.kind, ND_OUT_HEARD);
+    is("a second one", nd_poll(node, &out, buffer, sizeof buffer), ND_DONE);
+    is("says that the address is known", out.kind, ND_OUT_RESOLVED);
+    is("of that neighbour", memcmp(&out.address, &neighbour, sizeof neighbour), 0);
+    is("which is its bytes", out.length == sizeof first && memcmp(buffer, &first, sizeof first) == 0, true);
+    is("and no other", nd_poll(node, &out, buffer, sizeof buffer), ND_NOTHING);
+    is("the path then", nd_resolve(node, 3500, &neighbour, &path), ND_DONE);
+    goes_to(&path, &neighbour, ND_HOP_DIRECT, &first);
+    is("another link-layer address", receive_digits(node, 3600, OTHER_ADVERTISEMENT), ND_DONE);
+    is("is a record", nd_poll(node, &out, buffer, sizeof buffer), ND_DONE);
+    is("of a message", out.kind, ND_OUT_HEARD);
+    is("and no other", nd_poll(node, &out, buffer, sizeof buffer), ND_NOTHING);
+    is("the path then", nd_resolve(node, 3600, &neighbour, &path), ND_DONE);
+    goes_to(&path, &neighbour, ND_HOP_DIRECT, &second);
+    is("it is REACHABLE", path.state, ND_REACHABILITY_REACHABLE);
+    is("its row", nd_neighbour_of(node, 3600, &neighbour, &row), ND_DONE);
+    is("for so long", row.reachable_left > 0, true);
+    is("at the latest", path.until > 3600 && path.until <= 3600 + row.reachable_left && path.until <= nd_next_due(node), true);
+    is("a path to a group", nd_resolve(node, 3600, &group, &path), ND_DONE);
+    goes_to(&path, &group, ND_HOP_DIRECT, &all);
+    is("which has no state", path.state, 0);
+    is("a path through the router", nd_resolve(node, 3600, &behind, &path), ND_DONE);
+    goes_to(&path, &router, ND_HOP_VIA, &of_router);
+    is("which is used now", path.state, ND_REACHABILITY_DELAY);
+    is("a path to the node itself", nd_resolve(node, 3600, &LINK_LOCAL, &path), ND_NOTHING);
+    goes_to(&path, &none, 0, NULL);
+    is("none of them has a record", nd_poll(node, &out, buffer, sizeof buffer), ND_NOTHING);
+    nd_close(node);
+}
+
 int main(void)
 {
     nd_node node = ND_NODE_INIT, moved;
@@ -417,6 +519,7 @@ int main(void)
     is("closing a router gives all memory back", (int64_t)heap_blocks, 0);
     try_refused_addresses(&moved, ND_ROLE_HOST);
     try_refused_addresses(&moved, ND_ROLE_ROUTER);
+    try_paths(&moved);
     is("closing them gives all memory back", (int64_t)heap_blocks, 0);
     printf("%d answers, %d wrong\n", tried, wrong);
     return wrong > 0;

@@ -9,7 +9,7 @@
 #include "ranges.h"
 #include "spelled.h"
 
-enum { OPENED_AT = 3000, RA_FIELDS = 16, UNIT = 16, SHORTEST = 200, RANDOM_STEPS = 6000, STAGES = 5, LAST_KIND = ND_OUT_REFUSED, SPENT = 3 };
+enum { OPENED_AT = 3000, RA_FIELDS = 16, UNIT = 16, SHORTEST = 200, RANDOM_STEPS = 6000, STAGES = 5, LAST_KIND = ND_OUT_RESOLVED, SPENT = 3 };
 
 /* Where a program with ND_POOL_GIVEN has its pool. */
 struct head *nd_pool;

@@ -141,6 +141,14 @@ static void print_refused(const nd_out *out)
         say(" %s", WORD(LIMITS, out->limit));
 }
 
+static void print_resolved(const nd_out *out)
+{
+    nd_mac mac;
+    require(out->length == sizeof mac, "a link-layer address has 6 bytes");
+    memcpy(&mac, buffer, sizeof mac);
+    say("resolved %a %m", &out->address, &mac);
+}
+
 static void print_record(const nd_out *out)
 {
     say("%t ", out->moment);
@@ -162,6 +170,7 @@ static void print_record(const nd_out *out)
     case ND_OUT_FAILED: say("failed %a", &out->address); break;
     case ND_OUT_LOST: print_lost(out); break;
     case ND_OUT_REFUSED: print_refused(out); break;
+    case ND_OUT_RESOLVED: print_resolved(out); break;
     default: require(false, "a record has a kind");
     }
     say("\n");
@@ -172,9 +181,9 @@ static void require_zeros(const nd_out *out)
 {
     static const nd_addr none = {{0}};
     bool has_code = out->kind == ND_OUT_HEARD || out->kind == ND_OUT_DROPPED || out->kind == ND_OUT_LOST || out->kind == ND_OUT_REFUSED;
-    bool has_bytes = out->kind == ND_OUT_FRAME || out->kind == ND_OUT_UP || out->kind == ND_OUT_LOST;
+    bool has_bytes = out->kind == ND_OUT_FRAME || out->kind == ND_OUT_UP || out->kind == ND_OUT_LOST || out->kind == ND_OUT_RESOLVED;
     bool is_full = out->kind == ND_OUT_REFUSED && out->code == ND_REFUSAL_FULL;
-    bool has_address = out->kind == ND_OUT_HEARD || (out->kind >= ND_OUT_DUPLICATE && out->kind <= ND_OUT_FAILED) ||
+    bool has_address = out->kind == ND_OUT_HEARD || (out->kind >= ND_OUT_DUPLICATE && out->kind <= ND_OUT_FAILED) || out->kind == ND_OUT_RESOLVED ||
                        (out->kind == ND_OUT_REFUSED && out->code == ND_REFUSAL_NOT_OURS);
     require(out->reserved == 0 && (out->code != 0) == has_code && (out->length > 0) == has_bytes, "the fields of a record");
     require((out->limit != 0) == is_full && (has_address || memcmp(&out->address, &none, sizeof none) == 0), "the limit and the address of a record");
@@ -453,6 +462,30 @@ static int32_t of_address(int32_t (*call)(nd_node *, uint64_t, const nd_addr *),
     return call(&node, now, &address);
 }
 
+/* The destination of the last question for a path, and the path. */
+static nd_addr asked;
+static nd_path path;
+
+static int32_t resolve(uint64_t now)
+{
+    asked = read_address(word());
+    return nd_resolve(&node, now, &asked, &path);
+}
+
+/* Prints what a path says. It is behind the records of its call, and no record says it. */
+static void print_path(uint64_t now, int32_t status)
+{
+    say("%t ", now);
+    switch (status) {
+    case ND_DONE: say("path %a %a %m\n", &asked, &path.next_hop, &path.mac); break;
+    case ND_WAITING: say("path %a %a -\n", &asked, &path.next_hop); break;
+    case ND_NOTHING: say("path %a no-route\n", &asked); break;
+    case ND_REFUSED: print_refused(&(nd_out){.code = path.refusal, .limit = path.limit}), say("\n"); break;
+    default: require(false, "a question for a path has an answer");
+    }
+    require(path.until >= now && (path.until == now || (status == ND_DONE && path.until <= nd_next_due(&node))), "the lease of a path");
+}
+
 static int32_t receive(uint64_t now)
 {
     static uint8_t frame[65536];
@@ -480,6 +513,8 @@ static int32_t event(uint64_t now, const char *verb)
         return receive(now);
     if (strcmp(verb, "send") == 0)
         return send_packet(now);
+    if (strcmp(verb, "resolve") == 0)
+        return resolve(now);
     if (strcmp(verb, "confirm") == 0)
         return of_address(nd_confirm, now);
     if (strcmp(verb, "forget") == 0)
@@ -539,8 +574,12 @@ static void answer(char *line)
     }
     if (status == ND_INVALID)
         malformed();
-    require(status == ND_DONE || status == ND_REFUSED, "an event is done or refused");
     require(nd_last_moment(&node) == now && nd_next_due(&node) >= now, "the moments after an event");
+    if (strcmp(verb, "resolve") == 0) {
+        print_path(now, status);
+        return;
+    }
+    require(status == ND_DONE || status == ND_REFUSED, "an event is done or refused");
     require((status == ND_REFUSED) == (kind == ND_OUT_REFUSED), "a refusal is the last record of its event");
     if (strcmp(verb, "show") == 0)
         show(now, word());

@@ -45,7 +45,7 @@ pub use raw::nd_heard as Heard;
 pub use raw::nd_limits as Limits;
 pub use raw::nd_offer_row as Offer;
 pub use raw::nd_parameters_row as Parameters;
-pub use rows::{Address, Hop, Name, Neighbour, OwnAddress, Prefix, Redirect, Route, Router, Server};
+pub use rows::{Address, Hop, Name, Neighbour, OwnAddress, Path, Prefix, Redirect, Resolution, Route, Router, Server};
 
 /// Moments are below it.
 pub const MOMENT_LIMIT: u64 = 1 << 62;

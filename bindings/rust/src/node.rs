@@ -1,9 +1,9 @@
 //! A node.
 
-use crate::output::{report_of, Report};
+use crate::output::{refusal_of, report_of, Report};
 use crate::numbers::Clearable;
 use crate::raw;
-use crate::rows::{hop_of, Address, Hop, Name, Neighbour, OwnAddress, Prefix, Redirect, Route, Router, Server};
+use crate::rows::{hop_of, Address, Hop, Name, Neighbour, OwnAddress, Prefix, Redirect, Resolution, Route, Router, Server};
 use crate::{Advertising, Counts, Error, Offer, Options, Outcome, Parameters};
 use std::cell::UnsafeCell;
 use std::marker::PhantomData;
@@ -120,6 +120,18 @@ impl Node {
         let mut row = raw::nd_next_hop_row::default();
         let is_found = is_written(unsafe { raw::nd_next_hop(self.slot.get(), now, &destination.octets(), &mut row) })?;
         Ok(is_found.then(|| hop_of(row.hop, row.address)))
+    }
+
+    /// Returns where packets to `destination` go, for a stack that keeps and sends them itself. It counts as a use of the next hop, and one whose
+    /// link-layer address is not known is solicited: `Resolved` or `Failed` is reported then.
+    pub fn resolve(&mut self, now: u64, destination: Ipv6Addr) -> Result<Resolution, Error> {
+        let mut path = raw::nd_path::default();
+        match unsafe { raw::nd_resolve(self.slot.get(), now, &destination.octets(), &mut path) } {
+            1 => Ok(Resolution::NoRoute),
+            2 => Ok(Resolution::Refused(refusal_of(path.refusal, Ipv6Addr::UNSPECIFIED, path.limit))),
+            status if status >= 0 => Ok(Resolution::Path(path.into())),
+            status => Err(Error::from_status(status)),
+        }
     }
 
     /// Begins to advertise, or changes what is advertised. For a router.

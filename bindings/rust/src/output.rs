@@ -48,6 +48,8 @@ pub enum Output<Bytes> {
     Lost(Loss, Bytes),
     /// An event was refused.
     Refused(Refusal),
+    /// The link-layer address of a neighbour is known, for which `Node::resolve` had none. What `Node::send` left waiting was sent before.
+    Resolved { neighbour: Ipv6Addr, mac: [u8; 6] },
     /// A kind of a later version.
     Other { kind: u32, code: u32 },
 }
@@ -59,20 +61,26 @@ pub struct Report<Bytes> {
     pub output: Output<Bytes>,
 }
 
-fn refusal_of(out: &nd_out) -> Refusal {
-    match out.code {
+/// Returns the refusal with this number, of this source or this limit.
+pub(crate) fn refusal_of(code: u32, source: Ipv6Addr, limit: u32) -> Refusal {
+    match code {
         1 => Refusal::WrongRole,
         2 => Refusal::Disabled,
-        3 => Refusal::NotOurs(Ipv6Addr::from(out.address)),
+        3 => Refusal::NotOurs(source),
         4 => Refusal::TooLong,
-        5 => Refusal::Full(Limit::from(out.limit)),
+        5 => Refusal::Full(Limit::from(limit)),
         8 => Refusal::Tentative,
         code => Refusal::Other(code),
     }
 }
 
+/// Returns the link-layer address that a record has as its bytes.
+fn mac_in(bytes: &[u8]) -> [u8; 6] {
+    bytes.try_into().unwrap_or_default()
+}
+
 /// Returns the report of a record with its bytes.
-pub(crate) fn report_of<Bytes>(out: &nd_out, bytes: Bytes) -> Report<Bytes> {
+pub(crate) fn report_of<Bytes: AsRef<[u8]>>(out: &nd_out, bytes: Bytes) -> Report<Bytes> {
     let address = Ipv6Addr::from(out.address);
     let output = match out.kind {
         1 => Output::Frame(bytes),
@@ -85,7 +93,8 @@ pub(crate) fn report_of<Bytes>(out: &nd_out, bytes: Bytes) -> Report<Bytes> {
         8 => Output::EndedRouter(address),
         9 => Output::Failed(address),
         10 => Output::Lost(Loss::from(out.code), bytes),
-        11 => Output::Refused(refusal_of(out)),
+        11 => Output::Refused(refusal_of(out.code, address, out.limit)),
+        13 => Output::Resolved { neighbour: address, mac: mac_in(bytes.as_ref()) },
         kind => Output::Other { kind, code: out.code },
     };
     Report { moment: out.moment, output }

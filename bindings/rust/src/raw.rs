@@ -84,6 +84,20 @@ pub struct nd_next_hop_row {
 }
 
 #[repr(C)]
+#[derive(Clone, Copy, Debug, Default)]
+pub struct nd_path {
+    pub until: u64,
+    pub next_hop: nd_addr,
+    pub mac: nd_mac,
+    pub has_mac: u8,
+    pub reserved: u8,
+    pub hop: u32,
+    pub state: u32,
+    pub refusal: u32,
+    pub limit: u32,
+}
+
+#[repr(C)]
 #[derive(Clone, Copy, Debug, Default, PartialEq, Eq)]
 pub struct nd_advertising {
     pub min_interval: u32,
@@ -123,6 +137,7 @@ pub struct nd_route_row {
 #[repr(C)]
 #[derive(Clone, Copy, Debug, Default)]
 pub struct nd_neighbour_row {
+    pub reachable_left: u64,
     pub address: nd_addr,
     pub mac: nd_mac,
     pub has_mac: u8,
@@ -262,6 +277,7 @@ extern "C" {
     pub fn nd_add_address(node: *mut nd_node, now: u64, own: *const nd_own_address) -> i32;
     pub fn nd_remove_address(node: *mut nd_node, now: u64, address: *const nd_addr) -> i32;
     pub fn nd_next_hop(node: *mut nd_node, now: u64, destination: *const nd_addr, row: *mut nd_next_hop_row) -> i32;
+    pub fn nd_resolve(node: *mut nd_node, now: u64, destination: *const nd_addr, path: *mut nd_path) -> i32;
     pub fn nd_advertise(node: *mut nd_node, now: u64, settings: *const nd_advertising) -> i32;
     pub fn nd_offer(node: *mut nd_node, now: u64, offer: *const nd_offer_row) -> i32;
     pub fn nd_route(node: *mut nd_node, now: u64, route: *const nd_route_row) -> i32;

@@ -1,6 +1,7 @@
 //! What a node knows: the rows of its tables.
 
 use crate::numbers::{Preference, Reachability, State};
+use crate::output::Refusal;
 use crate::raw;
 use std::net::Ipv6Addr;
 
@@ -12,6 +13,8 @@ pub struct Neighbour {
     pub mac: Option<[u8; 6]>,
     pub is_router: bool,
     pub state: Reachability,
+    /// What is left of the time for which it is REACHABLE, in milliseconds; `None` in another state.
+    pub reachable_left: Option<u64>,
 }
 
 /// A default router (RFC 4861, 5.1).
@@ -88,6 +91,30 @@ pub enum Hop {
     Via(Ipv6Addr),
 }
 
+/// Where packets to a destination go.
+#[derive(Clone, Copy, Debug, PartialEq, Eq)]
+pub struct Path {
+    /// The destination, or the router.
+    pub next_hop: Ipv6Addr,
+    pub hop: Hop,
+    /// The link-layer address to send to. While it is not known, the packets wait for `Output::Resolved` or `Output::Failed` of the next hop.
+    pub mac: Option<[u8; 6]>,
+    /// `None` where the destination is multicast, or where something is due again.
+    pub state: Option<Reachability>,
+    /// Before this moment packets may be sent to `mac` without a call, as long as no other call was made for the node but polls and questions.
+    pub until: u64,
+}
+
+/// The answer to the question where packets to a destination go.
+#[derive(Clone, Copy, Debug, PartialEq, Eq)]
+pub enum Resolution {
+    Path(Path),
+    /// There is no next hop.
+    NoRoute,
+    /// As `Output::Refused`, which is not reported.
+    Refused(Refusal),
+}
+
 /// A static route of a router.
 #[derive(Clone, Copy, Debug, PartialEq, Eq)]
 pub struct Route {
@@ -113,7 +140,17 @@ pub(crate) fn hop_of(hop: u32, address: [u8; 16]) -> Hop {
 impl From<raw::nd_neighbour_row> for Neighbour {
     fn from(row: raw::nd_neighbour_row) -> Neighbour {
         let mac = (row.has_mac == 1).then_some(row.mac);
-        Neighbour { address: row.address.into(), mac, is_router: row.is_router == 1, state: row.state.into() }
+        let state = Reachability::from(row.state);
+        let reachable_left = (state == Reachability::Reachable).then_some(row.reachable_left);
+        Neighbour { address: row.address.into(), mac, is_router: row.is_router == 1, state, reachable_left }
+    }
+}
+
+impl From<raw::nd_path> for Path {
+    fn from(path: raw::nd_path) -> Path {
+        let mac = (path.has_mac == 1).then_some(path.mac);
+        let state = (path.state != 0).then(|| path.state.into());
+        Path { next_hop: path.next_hop.into(), hop: hop_of(path.hop, path.next_hop), mac, state, until: path.until }
     }
 }
 

@@ -202,6 +202,42 @@ fn an_address_that_a_router_announces_is_not_given_by_hand() {
 }
 
 #[test]
+fn a_stack_that_keeps_its_packets_asks_where_they_go() {
+    let advertisement_of_router = bytes(concat!(
+        "33330000000102000000000186dd6000000000383afffe80000000000000000000fffe000001ff02000000000000000000000000000186",
+        "00f9ce4000070800000000000000000101020000000001030440c000278d0000093a800000000020010db8000000000000000000000000"
+    ));
+    let advertisement = bytes(concat!(
+        "3456789abcde02000000000986dd6000000000203aff20010db8000000000000000000000001fe80000000000000365678fffe9abcde88",
+        "004ed66000000020010db80000000000000000000000010201020000000009"
+    ));
+    let (neighbour, mac) = (address("2001:db8::1"), [2, 0, 0, 0, 0, 9]);
+    let mut node = host();
+    assert_eq!(node.resolve(999, neighbour), Ok(Resolution::Refused(Refusal::Tentative)));
+    assert_eq!(said(&mut node), []);
+    assert_eq!(node.receive(1200, &advertisement_of_router), Ok(Outcome::Done));
+    assert_eq!(node.turn(2200), Ok(Outcome::Done));
+    said(&mut node);
+    let waiting = Path { next_hop: neighbour, hop: Hop::Direct, mac: None, state: Some(Reachability::Incomplete), until: 3000 };
+    for solicitations in [1, 0] {
+        assert_eq!(node.resolve(3000, neighbour), Ok(Resolution::Path(waiting)));
+        assert_eq!(node.poll().count(), solicitations);
+    }
+    assert_eq!(node.receive(3500, &advertisement), Ok(Outcome::Done));
+    let resolved = Output::Resolved { neighbour, mac };
+    assert_eq!(said(&mut node), [Output::Heard { source: neighbour, message_type: 136 }, resolved]);
+    let Ok(Resolution::Path(path)) = node.resolve(3500, neighbour) else { panic!("it is resolved") };
+    assert_eq!((path.next_hop, path.mac, path.state), (neighbour, Some(mac), Some(Reachability::Reachable)));
+    let left = node.neighbour(3500, neighbour).unwrap().unwrap().reachable_left.unwrap();
+    assert!(path.until > 3500 && path.until <= 3500 + left && path.until <= node.next_due());
+    let Ok(Resolution::Path(path)) = node.resolve(3500, address("ff02::1:2")) else { panic!("a group needs no resolution") };
+    assert_eq!((path.mac, path.state), (Some([0x33, 0x33, 0, 1, 0, 2]), None));
+    let own = node.addresses(3500).unwrap().last().unwrap().address;
+    assert_eq!(node.resolve(3500, own), Ok(Resolution::NoRoute));
+    assert_eq!(node.poll().count(), 0);
+}
+
+#[test]
 fn a_frame_is_heard_without_a_node() {
     let line = include_str!("../../../examples/host.hex").lines().nth(1).unwrap();
     let frame = bytes(line.split_once(' ').unwrap().1);

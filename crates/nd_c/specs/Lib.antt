@@ -6,5 +6,6 @@ pub mod Poll
 pub mod Open
 pub mod Rows
 pub mod NextHop
+pub mod Resolve
 pub mod Bytes
 pub mod PoolBytes

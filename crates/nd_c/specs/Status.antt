@@ -11,6 +11,9 @@ nothing = pos 1
 abbrev pub refused : ℤ
 refused = pos 2
 
+abbrev pub waiting : ℤ
+waiting = pos 3
+
 -- below: it did not
 abbrev pub no_memory : ℤ
 no_memory = negsuc 0

@@ -14,6 +14,7 @@ mod node;
 mod poll;
 mod pool_bytes;
 mod questions;
+mod resolve;
 mod router_events;
 mod rows;
 mod status;

@@ -10,6 +10,7 @@ pub mod Offer
 pub mod Options
 pub mod OwnAddress
 pub mod Parameters
+pub mod Path
 pub mod Prefix
 pub mod Record
 pub mod Redirect

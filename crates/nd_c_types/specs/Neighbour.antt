@@ -25,8 +25,14 @@ reachability_number states.Stale = 3
 reachability_number states.Delay = 4
 reachability_number states.Probe = 5
 
+-- what is left of the time for which it is REACHABLE, in milliseconds, or 0
+abbrev pub reachable_left : Option ℕ → ℕ
+reachable_left None = 0
+reachable_left (Some left) = left
+
 abbrev pub neighbour_row : Neighbour → NeighbourRow
 neighbour_row n = record {
+  reachable_left = reachable_left n.reachable_left;
   address = n.addr.0;
   mac = mac_bytes n.mac;
   has_mac = mac_flag n.mac;

@@ -67,11 +67,13 @@ contents_of (outs.EndedAddress own) = record nothing { kind = 7; address = own.0
 contents_of (outs.EndedRouter router) = record nothing { kind = 8; address = router.0 }
 contents_of (outs.Failed neighbour) = record nothing { kind = 9; address = neighbour.0 }
 contents_of (outs.Lost why packet) = record nothing { kind = 10; code = loss_number why }
+contents_of (outs.Path destination way) = nothing
+contents_of (outs.Resolved neighbour mac) = record nothing { kind = 13; address = neighbour.0 }
 contents_of (outs.Shown rows) = nothing
 contents_of (outs.Refused why) = of_refusal why
 contents_of (outs.Past last) = nothing
 
--- the bytes: a frame that is sent, or a packet from its IPv6 header on
+-- the bytes: a frame that is sent, a packet from its IPv6 header on, or a link-layer address that was resolved
 abbrev pub bytes_in : {A : Type 0} → Out A → List ℕ
 bytes_in (outs.Frame packet) = packet
 bytes_in (outs.Up packet) = packet.items
@@ -83,6 +85,8 @@ bytes_in (outs.Assigned own) = []
 bytes_in (outs.EndedAddress own) = []
 bytes_in (outs.EndedRouter router) = []
 bytes_in (outs.Failed neighbour) = []
+bytes_in (outs.Path destination way) = []
+bytes_in (outs.Resolved neighbour mac) = mac.0
 bytes_in (outs.Shown rows) = []
 bytes_in (outs.Refused why) = []
 bytes_in (outs.Past last) = []

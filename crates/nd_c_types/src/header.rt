@@ -45,6 +45,9 @@ pub const OUT_LOST: u32 = 10;
 
 pub const OUT_REFUSED: u32 = 11;
 
+// 12 is kept for a record that is planned.
+pub const OUT_RESOLVED: u32 = 13;
+
 // Why a packet is not sent: `enum nd_loss`.
 pub const LOSS_UNREACHABLE: u32 = 1;
 

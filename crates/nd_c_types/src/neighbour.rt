@@ -1,7 +1,7 @@
 //! A neighbour, as C sees it. The definition is in `specs/Neighbour.antt`.
 
 ghost use Rattle.std.specs.Prelude.{◌≡◌};
-ghost use Rattle.nd_c_types.specs.Neighbour.{mac_bytes, mac_flag, neighbour_row, reachability_number};
+ghost use Rattle.nd_c_types.specs.Neighbour.{mac_bytes, mac_flag, neighbour_row, reachability_number, reachable_left};
 
 use crate::header::{
     REACHABILITY_DELAY, REACHABILITY_INCOMPLETE, REACHABILITY_PROBE, REACHABILITY_REACHABLE,
@@ -14,6 +14,8 @@ use nd_neighbour::{Neighbour, Reachability};
 #[repr(C)]
 #[derive(Clone, Copy, Drop)]
 pub struct NeighbourRow {
+    /// What is left of the time for which it is REACHABLE, in milliseconds; 0 in another state.
+    pub reachable_left: u64,
     pub address: [u8; 16],
     /// Its link-layer address; zeros if it is not known.
     pub mac: [u8; 6],
@@ -31,6 +33,7 @@ impl NeighbourRow {
     {
         let mac = mac_bytes(neighbour.mac);
         NeighbourRow {
+            reachable_left: reachable_left(neighbour.reachable_left),
             address: neighbour.addr.0,
             mac,
             has_mac: mac_flag(neighbour.mac),
@@ -41,8 +44,18 @@ impl NeighbourRow {
     }
 }
 
+/// Returns what is left of the time for which a neighbour is REACHABLE, in milliseconds, or 0.
+fn reachable_left(left: Option<u64>) -> u64
+    ensures { result ≡ reachable_left left }
+{
+    match left {
+        Some(left) => left,
+        None => 0,
+    }
+}
+
 /// Returns the bytes of a link-layer address, or zeros.
-fn mac_bytes(mac: Option<Mac>) -> [u8; 6]
+pub(crate) fn mac_bytes(mac: Option<Mac>) -> [u8; 6]
     ensures { result ≡ mac_bytes mac }
 {
     match mac {
@@ -52,7 +65,7 @@ fn mac_bytes(mac: Option<Mac>) -> [u8; 6]
 }
 
 /// Returns 1 if a link-layer address is known, and 0 otherwise.
-fn mac_flag(mac: Option<Mac>) -> u8
+pub(crate) fn mac_flag(mac: Option<Mac>) -> u8
     ensures { result ≡ mac_flag mac }
 {
     match mac {
@@ -62,7 +75,7 @@ fn mac_flag(mac: Option<Mac>) -> u8
 }
 
 /// Returns the number of a reachability state.
-fn reachability_number(state: Reachability) -> u32
+pub(crate) fn reachability_number(state: Reachability) -> u32
     ensures { result ≡ reachability_number state }
 {
     match state {

@@ -7,8 +7,8 @@ use crate::header::{
     LIMIT_ADDRESSES, LIMIT_NAMES, LIMIT_NEIGHBOURS, LIMIT_OFFERS, LIMIT_PREFIXES, LIMIT_ROUTERS,
     LIMIT_SERVERS, LIMIT_STATIC_ROUTES, LOSS_FORGOTTEN, LOSS_HOP_LIMIT, LOSS_NO_ROUTE,
     LOSS_REPLACED, LOSS_UNREACHABLE, OUT_ASSIGNED, OUT_DROPPED, OUT_DUPLICATE, OUT_ENDED_ADDRESS,
-    OUT_ENDED_ROUTER, OUT_FAILED, OUT_FRAME, OUT_HEARD, OUT_LOST, OUT_REFUSED, OUT_UP,
-    REFUSAL_DISABLED, REFUSAL_FULL, REFUSAL_NOT_OURS, REFUSAL_TENTATIVE, REFUSAL_TOO_LONG,
+    OUT_ENDED_ROUTER, OUT_FAILED, OUT_FRAME, OUT_HEARD, OUT_LOST, OUT_REFUSED, OUT_RESOLVED,
+    OUT_UP, REFUSAL_DISABLED, REFUSAL_FULL, REFUSAL_NOT_OURS, REFUSAL_TENTATIVE, REFUSAL_TOO_LONG,
     REFUSAL_WRONG_ROLE,
 };
 use nd_addr::{Addr, ETHERNET_HEADER_LENGTH};
@@ -23,7 +23,7 @@ pub struct Record {
     pub moment: u64,
     /// The number of its bytes.
     pub length: usize,
-    /// ND_OUT_FRAME to ND_OUT_REFUSED.
+    /// ND_OUT_FRAME to ND_OUT_RESOLVED.
     pub kind: u32,
     /// Why a frame was dropped, a packet is not sent or an event was refused; or the ICMPv6 type of a message.
     pub code: u32,
@@ -45,8 +45,8 @@ const NOTHING: Record = Record {
 };
 
 impl Record {
-    /// Returns the record of a report that was due at `moment`, in milliseconds. The kind of `Shown` and `Past` is 0: in C no event shows rows,
-    /// and an event before the last moment has a status of its own.
+    /// Returns the record of a report that was due at `moment`, in milliseconds. The kind of `Path`, `Shown` and `Past` is 0: in C the call that asks
+    /// for a path returns it, no event shows rows, and an event before the last moment has a status of its own.
     pub fn of<A: Allocator>(moment: u64, out: &Out<A>) -> Record
         ensures { result ≡ record_of moment out.now }
     {
@@ -78,12 +78,13 @@ impl Record {
             Out::Failed(neighbour) => Record::about(OUT_FAILED, *neighbour),
             Out::Lost(why, _) => Record::with_code(OUT_LOST, loss_number(*why)),
             Out::Refused(why) => Record::of_refusal(why),
-            Out::Shown(_) | Out::Past(_) => NOTHING,
+            Out::Resolved(neighbour, _) => Record::about(OUT_RESOLVED, *neighbour),
+            Out::Path(_, _) | Out::Shown(_) | Out::Past(_) => NOTHING,
         }
     }
 
     /// Returns the contents for an event that was refused.
-    fn of_refusal(why: &Refusal) -> Record
+    pub(crate) fn of_refusal(why: &Refusal) -> Record
         ensures { result ≡ of_refusal why.now }
     {
         match why {
@@ -126,7 +127,8 @@ impl Record {
     }
 }
 
-/// Returns the bytes of a report: a frame that is sent, or a packet from its IPv6 header on. The other reports have no bytes.
+/// Returns the bytes of a report: a frame that is sent, a packet from its IPv6 header on, or a link-layer address that was resolved. The other reports
+/// have no bytes.
 pub fn bytes_of<A: Allocator>(out: &Out<A>) -> &[u8]
     ensures { result.now ≡ bytes_in out.now }
 {
@@ -134,6 +136,7 @@ pub fn bytes_of<A: Allocator>(out: &Out<A>) -> &[u8]
         Out::Frame(packet) => packet.as_bytes(),
         Out::Up(packet) => packet,
         Out::Lost(_, packet) => &packet.as_bytes()[ETHERNET_HEADER_LENGTH..],
+        Out::Resolved(_, mac) => &mac.0,
         _ => &[],
     }
 }

@@ -10,6 +10,9 @@ pub const NOTHING: i32 = 1;
 /// The event was refused, and the newest record says why.
 pub const REFUSED: i32 = 2;
 
+/// The link-layer address is not known yet.
+pub const WAITING: i32 = 3;
+
 /// Memory was refused.
 pub const NO_MEMORY: i32 = -1;
 

@@ -1,5 +1,5 @@
 -- What leads a node on and is reported behind some reports leads it on and is reported behind more.
-use Rattle.std.proofs.Common.{◌≡◌, ◌≤◌, ℕ, List, ◌++◌, append_assoc, sym, ◌∙◌, ap, subst, Ok, Err}
+use Rattle.std.proofs.Common.{◌≡◌, ◌≤◌, ℕ, List, [], ◌∷◌, ◌++◌, append_assoc, sym, ◌∙◌, ap, subst, Ok, Err}
 use Rattle.std.specs.Prelude.{Result, IfOk, OnOk, OnErr, MatchResult}
 use Rattle.std.specs.declared.alloc.AllocError.{AllocError}
 use Rattle.std.proofs.lemmas.List.{map-append}
@@ -9,7 +9,10 @@ use Rattle.nd_chronicle.specs.Happening.{Chronicle, Happening}
 use Rattle.nd_out.specs.declared.out.Out.{Out}
 use Rattle.nd_out.specs.Out.{happening}
 use Rattle.nd_steps.specs.Outputs.{happenings, Tells}
+use Rattle.nd_addr.specs.declared.addr.Addr.{Addr}
 use Rattle.nd_node.specs.declared.node.Node.{Node}
+use Rattle.nd_node.specs.declared.resolve.Resolution.{Resolution}
+use Rattle.nd_node.specs.Resolve.{answer_by, answer_told, with_answer}
 use Rattle.nd_node.specs.declared.answer.Answer.{Answer}
 use Rattle.nd_chronicle.specs.Answer as answers
 use Rattle.nd_chronicle.specs.Event as events
@@ -71,3 +74,19 @@ event_taken stream old mid new x y z now event (Ok a) le onward passes adds stay
 event_taken stream old mid new x y z now event (Err e) le onward passes adds stays told = record {
   each = λ start c s. let (d, to, stood, tells) = onward.each start c s in (d, to, stays.each start d stood, subst (λ (w : List (ℕ × Out _)). Tells c d x w) (sym told) tells);
 }
+
+-- ---- a question about a path
+
+-- the answer is reported behind the reports before it
+answer_behind : {A : Type 0} (xs ys z : List (ℕ × Out A)) (now : ℕ) (destination : Addr) (resolution : Resolution) → xs ++ (ys ++ with_answer z now destination resolution) ≡ with_answer (xs ++ (ys ++ z)) now destination resolution
+answer_behind {A} xs ys z now destination resolution =
+    let told : List (ℕ × Out A) = (now, answer_told destination resolution) ∷ [] in
+    ap (λ (l : List (ℕ × Out A)). xs ++ l) (sym (append_assoc ys z told)) ∙ sym (append_assoc xs (ys ++ z) told)
+
+-- a question whose reports stand behind others adds the same
+pub path_behind : {R A : Type 0} (stream : R → Stream) (old new : Node R A) (xs ys before after : List (ℕ × Out A)) (now : ℕ) (destination : Addr) (resolution : Resolution)
+    → AddsEvent stream old new before (with_answer after now destination resolution) now (events.Resolves destination) (answer_by resolution)
+    → AddsEvent stream old new (xs ++ (ys ++ before)) (with_answer (xs ++ (ys ++ after)) now destination resolution) now (events.Resolves destination) (answer_by resolution)
+path_behind {R} {A} stream old new xs ys before after now destination resolution adds =
+    subst (λ (w : List (ℕ × Out A)). AddsEvent stream old new (xs ++ (ys ++ before)) w now (events.Resolves destination) (answer_by resolution)) (answer_behind xs ys after now destination resolution)
+    (adds_behind stream old new xs ys before (with_answer after now destination resolution) now (events.Resolves destination) (answer_by resolution) adds)

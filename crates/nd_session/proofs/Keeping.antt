@@ -21,6 +21,10 @@ use Rattle.nd_node.specs.EventKept.{AddsEvent}
 use Rattle.nd_node.specs.Frame.{Stays}
 use Rattle.nd_node.specs.NodeKept.{Stands}
 use Rattle.nd_node.specs.declared.node.Node.{Node}
+use Rattle.nd_addr.specs.declared.addr.Addr.{Addr}
+use Rattle.nd_node.specs.declared.resolve.Resolution.{Resolution}
+use Rattle.nd_node.specs.declared.resolve.Resolution.TheVariants as resolutions
+use Rattle.nd_node.specs.Resolve.{answer_by, answer_told, with_answer}
 use Rattle.nd_node.specs.Time.{IsInHand, Leads, Passes, longest_due}
 
 -- ---- the queue
@@ -90,6 +94,41 @@ event_ready stream old mid new x y z now event (Ok a) room le settled added stay
 event_ready stream old mid new x y z now event (Err e) room le settled added stays told start c s ready =
     let l = settled.each start c s in
     still_ready mid new room y z (grows_none y z z told) (longest_is stream start mid new l.0 l.0 l.2 (stays.each start l.0 l.2)) ready
+
+-- ---- a question about a path
+
+-- one that adds nothing
+pub nothing_ready : {R A : Type 0} (stream : R → Stream) (old mid new : Node R A) (x y z : List (ℕ × Out A)) (now : ℕ) (room : Option (FrameRoom A)) → Leads stream old mid x y (Passes now) → Stays stream mid new → z ≡ y
+    → (start : Start) (c : Chronicle) → Stands stream start old c → IsInHand mid room ⊎ HasFrame (happenings y) → IsInHand new room ⊎ HasFrame (happenings z)
+nothing_ready stream old mid new x y z now room settled stays told start c s ready =
+    let l = settled.each start c s in
+    still_ready mid new room y z (grows_none y z z told) (longest_is stream start mid new l.0 l.0 l.2 (stays.each start l.0 l.2)) ready
+
+-- a frame is before the last row, if that is none
+frame_before : (xs : List (ℕ × Happening)) (row : ℕ × Happening) → ((frame : List ℕ) → row.1 ≡ Sent frame → ⊥) → HasFrame (xs ++ row ∷ []) → HasFrame xs
+frame_before [] row other ([], after, at, frame, is) = absurd (other frame (let same : row ≡ (at, Sent frame) = cc in ap (λ (r : ℕ × Happening). r.1) same))
+frame_before [] row other (b ∷ before, after, at, frame, is) = (before, after, at, frame, ap (drop 1) is)
+frame_before (x ∷ xs) row other ([], after, at, frame, is) = ([], xs, at, frame, let same : x ≡ (at, Sent frame) = cc in ap (λ (r : ℕ × Happening). r ∷ xs) same)
+frame_before (x ∷ xs) row other (b ∷ before, after, at, frame, is) =
+    let (first, rest, m, f, e) = frame_before xs row other (before, after, at, frame, ap (drop 1) is) in (x ∷ first, rest, m, f, ap (λ (l : List (ℕ × Happening)). x ∷ l) e)
+
+no_answer : (A : Type 0) (destination : Addr) (resolution : Resolution) (frame : List ℕ) → happening (answer_told {A = A} destination resolution) ≡ Sent frame → ⊥
+no_answer A destination (resolutions.Path way) frame e = let no : ⊥ = cc in no
+no_answer A destination (resolutions.Refused refusal) frame e = let no : ⊥ = cc in no
+
+-- its answer is no frame
+pub path_ready : {R A : Type 0} (stream : R → Stream) (old mid new : Node R A) (x y z : List (ℕ × Out A)) (now : ℕ) (destination : Addr) (resolution : Resolution) (room : Option (FrameRoom A)) → old.last ≤ now
+    → Leads stream old mid x y (Passes now) → AddsEvent stream mid new y (with_answer z now destination resolution) now (events.Resolves destination) (answer_by resolution)
+    → (start : Start) (c : Chronicle) → Stands stream start old c → IsInHand mid room ⊎ HasFrame (happenings y) → IsInHand new room ⊎ HasFrame (happenings z)
+path_ready {R} {A} stream old mid new x y z now destination resolution room le settled added start c s ready =
+    let l = settled.each start c s in
+    let t = added.each start l.0 l.2 (walk_last start c l.0 (last_moment start.at c) now l.1 (omega (arith, le, s.last))) in
+    let told : ℕ × Out A = (now, answer_told destination resolution) in
+    let f : ℕ × Out A → ℕ × Happening = λ o. (o.0, happening o.1) in
+    ⊎_elim (λ there. inl (still_in_hand mid new room (longest_is stream start mid new l.0 t.0 l.2 t.2) there))
+    (λ has. inr (frame_before (happenings z) (now, happening (answer_told {A = A} destination resolution)) (no_answer A destination resolution)
+    (subst HasFrame (map-append f z (told ∷ [])) (frame_stays y (with_answer z now destination resolution) (t.3.newer, t.3.outs) has))))
+    ready
 
 -- ---- what is taken
 

@@ -1,4 +1,5 @@
 pub mod Held
 pub mod Boxed
 pub mod Event
+pub mod Resolve
 pub mod Ready

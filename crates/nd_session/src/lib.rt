@@ -10,8 +10,10 @@
 mod handle;
 mod questions;
 mod queue;
+mod resolve;
 mod session;
 mod slot;
 
+pub use resolve::PathAnswer;
 pub use session::Session;
 pub use slot::Slot;

@@ -11,8 +11,8 @@ use std::marker::Model;
 pub(crate) type Report = (u64, Out<Global>);
 
 /// The number of reports for which the back of a queue has room from the start: the most that a message or a packet reserves, those of 8 packets that
-/// waited and 3 more. An event with no more of them takes no memory for them, if all reports were taken before.
-const ROOM: usize = 11;
+/// waited and 4 more. An event with no more of them takes no memory for them, if all reports were taken before.
+const ROOM: usize = 12;
 
 /// Reports, the oldest first. A node appends what an event reports to the back. The front is kept in reverse, so that the oldest report is at its
 /// end; when it is empty, a back of more than two reports becomes the front. So what it costs to take a report does not grow with their number.

@@ -1,0 +1,110 @@
+//! Where packets to a destination go, as C sees it. The definitions are in `specs/Path.antt`.
+
+ghost use Rattle.std.specs.Prelude.{◌≡◌};
+ghost use Rattle.nd_c_types.specs.Path.{hop_number, no_path, path_row, refused_path, state_number};
+
+use crate::header::{HOP_DIRECT, HOP_VIA};
+use crate::neighbour::{mac_bytes, mac_flag, reachability_number};
+use crate::record::Record;
+use nd_addr::Addr;
+use nd_neighbour::Reachability;
+use nd_out::{Refusal, Way};
+
+/// Where packets to a destination go: `nd_path` of the header. Fields that the answer does not use are 0.
+#[repr(C)]
+#[derive(Clone, Copy, Drop)]
+pub struct PathRow {
+    /// The end of the lease, in milliseconds; the moment of the question where there is none.
+    pub until: u64,
+    /// The destination itself, or the router.
+    pub next_hop: [u8; 16],
+    /// Its link-layer address; zeros if it is not known.
+    pub mac: [u8; 6],
+    pub has_mac: u8,
+    pub reserved: u8,
+    /// ND_HOP_DIRECT or ND_HOP_VIA.
+    pub hop: u32,
+    /// ND_REACHABILITY_INCOMPLETE to ND_REACHABILITY_PROBE.
+    pub state: u32,
+    /// ND_REFUSAL_DISABLED, ND_REFUSAL_FULL or ND_REFUSAL_TENTATIVE.
+    pub refusal: u32,
+    /// ND_LIMIT_NEIGHBOURS, of ND_REFUSAL_FULL.
+    pub limit: u32,
+}
+
+impl PathRow {
+    /// Returns the row of the path to `destination`, with the end of the lease in milliseconds.
+    pub fn of(destination: Addr, way: Way, state: Option<Reachability>, until: u64) -> PathRow
+        ensures { result ≡ path_row destination way state until }
+    {
+        let state = state_number(state);
+        match way {
+            Way::NoRoute => PathRow {
+                state,
+                ..PathRow::none(until)
+            },
+            Way::To(to, mac) => {
+                let next_hop = to.0;
+                let bytes = mac_bytes(mac);
+                PathRow {
+                    next_hop,
+                    mac: bytes,
+                    has_mac: mac_flag(mac),
+                    hop: hop_number(to, destination),
+                    state,
+                    ..PathRow::none(until)
+                }
+            }
+        }
+    }
+
+    /// Returns the row of a question that was refused at `now`, in milliseconds.
+    pub fn of_refusal(now: u64, refusal: &Refusal) -> PathRow
+        ensures { result ≡ refused_path now refusal.now }
+    {
+        let refused = Record::of_refusal(refusal);
+        PathRow {
+            refusal: refused.code,
+            limit: refused.limit,
+            ..PathRow::none(now)
+        }
+    }
+
+    /// Returns a row without a next hop.
+    fn none(until: u64) -> PathRow
+        ensures { result ≡ no_path until }
+    {
+        PathRow {
+            until,
+            next_hop: [0; 16],
+            mac: [0; 6],
+            has_mac: 0,
+            reserved: 0,
+            hop: 0,
+            state: 0,
+            refusal: 0,
+            limit: 0,
+        }
+    }
+}
+
+/// Returns whether packets to `destination` go there directly or through a router.
+fn hop_number(to: Addr, destination: Addr) -> u32
+    ensures { result ≡ hop_number to destination }
+{
+    if to == destination {
+        HOP_DIRECT
+    } else {
+        HOP_VIA
+    }
+}
+
+/// Returns the number of the state of a neighbour, or 0.
+fn state_number(state: Option<Reachability>) -> u32
+    ensures { result ≡ state_number state }
+{
+    match state {
+        Some(state) => reachability_number(state),
+        None => 0,
+    }
+}
