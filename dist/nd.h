@@ -406,8 +406,42 @@ typedef struct nd_next_hop_row {
  * With nd_neighbour_of this serves a data path of your own: to a neighbour in REACHABLE, DELAY or
  * PROBE a packet may be sent without a call, since that changes no entry (RFC 4861, 7.3.3), and to
  * a multicast address too, at 33:33 and its last four bytes (RFC 2464, 7). In any other case call
- * nd_send. */
+ * nd_send, or nd_resolve. */
 int32_t nd_next_hop(nd_node *node, uint64_t now, const nd_addr *destination, nd_next_hop_row *row);
+
+typedef struct nd_path { /* a field is 0 where the status does not have it */
+    uint64_t until;      /* DONE: the end of the lease; else `now` */
+    nd_addr next_hop;    /* DONE, WAITING: the destination, or the router */
+    nd_mac mac;          /* DONE: its link-layer address */
+    uint8_t has_mac;     /* 1: DONE; else 0 */
+    uint8_t reserved;
+    uint32_t hop;        /* DONE, WAITING: enum nd_hop */
+    uint32_t state;      /* DONE, WAITING: enum nd_reachability of the next hop; 0 where it is
+                            multicast, or where something is due at `now` again */
+    uint32_t refusal;    /* REFUSED: enum nd_refusal */
+    uint32_t limit;      /* enum nd_limit, of ND_REFUSAL_FULL; else 0 */
+} nd_path;
+
+/* Asks where packets to `destination` go, for a stack that keeps and sends its packets itself (RFC
+ * 4861, 5.2, 7.2.2 and 7.3.3; 8.3 at a host; the longest static route at a router). It counts as a
+ * use of the next hop, as a packet of nd_send does: a STALE neighbour goes to DELAY, and one whose
+ * link-layer address is not known is solicited (ND_OUT_FRAME). The answer is in `path`; no record
+ * has it.
+ *   ND_DONE        Send to `path->mac`: the next hop's, or that of a multicast destination, 33:33
+ *                  and its last four bytes (RFC 2464, 7).
+ *   ND_WAITING     Keep the packets until a record says ND_OUT_RESOLVED or ND_OUT_FAILED with
+ *                  `address` the next hop, and ask again after ND_OUT_RESOLVED. One of them comes
+ *                  unless nd_forget or nd_clear removes the neighbour, or a new one evicts it.
+ *                  Asking before adds nothing.
+ *   ND_NOTHING     There is no next hop, `path` has zeros. So it is for the node's own addresses.
+ *   ND_REFUSED     ND_REFUSAL_DISABLED, _TENTATIVE (the link-local address is not assigned yet), or
+ *                  _FULL. `path->refusal` and `path->limit` say it; there is no ND_OUT_REFUSED.
+ * With any other status `path` is unchanged.
+ * The lease: after ND_DONE packets to `destination` may be sent to `path->mac` without a call as
+ * long as no other call for this node was made (but nd_poll and questions) and the moment is before
+ * `path->until`. Once that is over, ask again: a use is then counted where one is to be (RFC 4861,
+ * 7.3.3). Where `until` is `now` there is no lease: ask for each packet. */
+int32_t nd_resolve(nd_node *node, uint64_t now, const nd_addr *destination, nd_path *path);
 
 /* ---- events at a router ---------------------------------------------------------------------- */
 
@@ -493,7 +527,10 @@ enum nd_kind {
                                  (RFC 4861, 7.2.2 and 7.3.3). Its packets follow as ND_OUT_LOST */
     ND_OUT_LOST = 10,         /* a packet is not sent; `code`: enum nd_loss; the bytes begin with
                                  its IPv6 header. ICMPv6 errors are yours (RFC 4443, 3.1 and 3.3) */
-    ND_OUT_REFUSED = 11       /* an event was refused; `code`: enum nd_refusal */
+    ND_OUT_REFUSED = 11,      /* an event was refused; `code`: enum nd_refusal */
+    ND_OUT_RESOLVED = 13      /* the link-layer address of neighbour `address` is known, for which
+                                 nd_resolve returned ND_WAITING (RFC 4861, 7.2.2); the bytes are
+                                 that address, 6 bytes. It follows what nd_send had left waiting */
 };
 
 enum nd_loss {
@@ -526,7 +563,7 @@ enum nd_limit {
 
 typedef struct nd_out {
     uint64_t moment;  /* when it was due, or when its event arrived */
-    size_t length;    /* of its bytes: FRAME, UP and LOST have some, the others none */
+    size_t length;    /* of its bytes: FRAME, UP, LOST and RESOLVED have some, the others none */
     uint32_t kind;    /* enum nd_kind */
     uint32_t code;    /* as the kind says; else 0 */
     uint32_t limit;   /* enum nd_limit, of ND_REFUSAL_FULL; else 0 */
@@ -570,11 +607,12 @@ enum nd_reachability { /* RFC 4861, 7.3.2 */
 };
 
 typedef struct nd_neighbour_row {
+    uint64_t reachable_left; /* of the time for which it is REACHABLE, ms; 0 in another state */
     nd_addr address;
-    nd_mac mac;        /* zeros while it is INCOMPLETE */
-    uint8_t has_mac;   /* 0 or 1 */
-    uint8_t is_router; /* IsRouter, 0 or 1 (RFC 4861, 5.1) */
-    uint32_t state;    /* enum nd_reachability */
+    nd_mac mac;              /* zeros while it is INCOMPLETE */
+    uint8_t has_mac;         /* 0 or 1 */
+    uint8_t is_router;       /* IsRouter, 0 or 1 (RFC 4861, 5.1) */
+    uint32_t state;          /* enum nd_reachability */
     uint32_t reserved;
 } nd_neighbour_row;
 
@@ -697,8 +735,6 @@ int32_t nd_counts_of(nd_node *node, uint64_t now, nd_counts_row *row);
 
 /* Additions of later minor versions. Nothing above changes with them:
  *   nd_send_packet      sends a whole IPv6 packet that the caller built
- *   nd_resolve          finds next hop and link-layer address of a destination, counted as a use; a
- *                       packet waits where the address is not known
  *   ND_OUT_FORMED = 12  the node's address `address` is tentative: join its solicited-node group */
 
 #ifdef __cplusplus

@@ -19,7 +19,9 @@ enum nd_status { /* nd_hear returns ND_DONE or ND_INVALID, the functions of nd.h
     ND_DONE = 0,
     ND_NOTHING = 1,    /* there is no such row or record */
     ND_REFUSED = 2,    /* the event was refused: time has passed up to it, what was due is done, and
-                          nothing else has changed. The newest record, ND_OUT_REFUSED, says why */
+                          nothing else has changed. The newest record, ND_OUT_REFUSED, says why;
+                          of nd_resolve its path does */
+    ND_WAITING = 3,    /* nd_resolve: the link-layer address of the next hop is not known yet */
     ND_NO_MEMORY = -1, /* memory was refused */
     ND_CLOSED = -2,    /* the node is not open */
     ND_INVALID = -3,   /* an argument that the call does not take */
