@@ -43,7 +43,7 @@ pub waits_by_history : (key : ℕ) (old : List NeighbourEntry) (history : List R
 waits_by_history key old history s = waits_at key (story key history) (entry_in key old) (s.each key)
 
 -- what is shown
-state_is : (t : ℕ) (mac : Option ℕ) (w : Option Evidence) (u : Option Use) (r : Option Resolution) (ws : List (List ℕ)) → state_in (stage_by mac w u r ws) t ≡ state_by mac w u t
+pub state_is : (t : ℕ) (mac : Option ℕ) (w : Option Evidence) (u : Option Use) (r : Option Resolution) (ws : List (List ℕ)) → state_in (stage_by mac w u r ws) t ≡ state_by mac w u t
 state_is t None w u r ws = refl
 state_is t (Some mac) None None r ws = refl
 state_is t (Some mac) None (Some u) r ws = refl

@@ -15,6 +15,7 @@ pub mod WishCalls
 pub mod Forgetting
 pub mod Overdue
 pub mod Pushing
+pub mod Leases
 pub mod Releasing
 pub mod Unique
 pub mod Second

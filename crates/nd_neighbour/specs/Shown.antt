@@ -1,5 +1,5 @@
 -- What is shown of a neighbour at a moment, and its reachability state (RFC 4861, sections 5.1 and 7.3.2).
-use Rattle.std.specs.Prelude.{ℕ, ◌+◌, ◌-◌, nat_lt, if◌then◌else◌, Option, Some, None, Bool, ◌≡◌, List}
+use Rattle.std.specs.Prelude.{ℕ, ◌+◌, ◌-◌, nat_lt, if◌then◌else◌, Option, Some, None, Bool, true, false, ◌≡◌, List}
 use Rattle.nd_table.specs.Keyed.{at_key, Rises}
 use Rattle.nd_neighbour.specs.declared.shown.Reachability.{Reachability}
 use Rattle.nd_neighbour.specs.declared.shown.Reachability.TheVariants.{Stale, Delay, Probe, Incomplete, Reachable}
@@ -17,6 +17,12 @@ used_state (Some use') t = if nat_lt t (use'.at + delay_first_probe_time) then D
 abbrev pub state_by : Option ℕ → Option Evidence → Option Use → ℕ → Reachability
 state_by None evidence use' t = Incomplete
 state_by (Some mac) evidence use' t = if holds (Some mac) evidence t then Reachable else used_state use' t
+
+-- a neighbour of which a use is no news: its link-layer address is known, and it isn't STALE
+abbrev pub is_leased : Reachability → Bool
+is_leased Incomplete = false
+is_leased Stale = false
+is_leased _ = true
 
 -- the state at a moment
 abbrev pub state_of : Story → ℕ → Reachability

@@ -8,7 +8,8 @@ ghost use Rattle.nd_neighbour.specs.declared.news.News.{News};
 ghost use Rattle.nd_neighbour.specs.declared.news.Times.{Times};
 ghost use Rattle.nd_neighbour.specs.News.{mac_given, news_row, released_by};
 ghost use Rattle.nd_neighbour.specs.Story.{is_awaited, mac_of};
-ghost use Rattle.nd_neighbour.specs.History.{Row, RowKind, Story, Waits};
+ghost use Rattle.nd_neighbour.specs.History.{Row, RowKind, Story, Used, Waits, story};
+ghost use Rattle.nd_neighbour.specs.Shown.{is_leased, state_of};
 ghost use Rattle.nd_neighbour.specs.RoomKept.{has_room};
 ghost use Rattle.nd_neighbour.specs.EntryKept.{NeighbourEntry};
 ghost use Rattle.nd_neighbour.specs.AddressResolution.{resolution_of, room_in, waiting_of};
@@ -53,6 +54,13 @@ pub fn no_packet_is_lost()
     ensures few { (s : Story) → length (waiting_of s) ≤ room_in (resolution_of s) }
     ensures history { (s : Story) (at : ℕ) (packet : List ℕ) → waiting_of s ++ packet ∷ [] ≡ option_to_list (replaced (room_in (resolution_of s)) (waiting_of s) packet) ++ waiting_of ((at, Waits packet) ∷ s) }
     ensures kept { (room : ℕ) (waiting : List (List ℕ)) (packet : List ℕ) → length waiting ≤ room → waiting ++ packet ∷ [] ≡ option_to_list (replaced room waiting packet) ++ then_waits room waiting packet }
+{}
+
+/// A use of a neighbour whose link-layer address is known and that isn't STALE changes nothing: what stands for a history stands for it with the use as well, so
+/// that no later question is answered otherwise (RFC 4861, section 7.3.3).
+pub fn leased_use_changes_nothing()
+    ensures { (entries : List NeighbourEntry) (history : List Row) (now key retrans : ℕ) → Stands entries history → is_leased (state_of (story key history) now) ≡ true
+        → Stands entries ((now, key, Used retrans) ∷ history) }
 {}
 
 /// A message releases no more packets than there was room for, and they go to the address that it gives: if any are released, or if a caller waits,

@@ -25,6 +25,8 @@ pub mod Memory
 pub mod OutgoingPackets
 pub mod Wishes
 pub mod Paths
+pub mod Lasting
+pub mod Leases
 pub mod Commands
 pub mod ClearedTables
 pub mod RouterRows

@@ -70,7 +70,7 @@ candidates_are c kept table (e ∷ entries) s preferred =
     ∙ (ap (λ (p : Preference). record { key = e.key; usable = is_some (mac_of (neighbour_rows.story e.key (neighbour_history c))); preference = p; failed = place_among e.key table.failed } ∷ rest) (preferred e.key (Has-head same eqb_tells e entries))
     ∙ ap (λ (l : List DefaultRouter). candidate c table.failed e.key ∷ l) (candidates_are c kept table entries s (λ key h. preferred key (Has-tail same eqb_tells e entries key h))))
 
-before_next : (end : Option ℕ) (rest now : ℕ) → now < earlier end rest → IsTrue (is_before now end)
+pub before_next : (end : Option ℕ) (rest now : ℕ) → now < earlier end rest → IsTrue (is_before now end)
 before_next None rest now lt = refl
 before_next (Some end) rest now lt = lt-ltb now end (omega (arith, lt))
 

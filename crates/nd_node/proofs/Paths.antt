@@ -23,11 +23,12 @@ use Rattle.nd_chronicle.specs.NextHop.{IsHopOf}
 use Rattle.nd_chronicle.specs.OwnAddress.{is_up}
 use Rattle.nd_node.specs.declared.node.Node.{Node}
 use Rattle.nd_node.specs.Node.{NextDue}
-use Rattle.nd_node.specs.NodeKept.{Stands}
+use Rattle.nd_node.specs.NodeKept.{Stands, next_of}
+use Rattle.nd_node.specs.PathKept.{hop_kept, path_by_hop, path_kept, up_kept}
 use Rattle.nd_node.specs.Path.{IsPath, PathSeen, first_end, neighbour_at, path_by, path_of, path_to_all}
 
 -- it goes by this next hop
-next_of_path : (up : Bool) (now due : ℕ) (end : Option ℕ) (next : NextHop) (found : Option Seen) → (path_by up now due end next found).next ≡ next
+pub next_of_path : (up : Bool) (now due : ℕ) (end : Option ℕ) (next : NextHop) (found : Option Seen) → (path_by up now due end next found).next ≡ next
 next_of_path up now due end next None = refl
 next_of_path up now due end next (Some n) = refl
 
@@ -79,3 +80,36 @@ module _ {R A : Type 0} (stream : R → Stream) (start : Start) (node : Node R A
     path_of_all multicast hop is =
         by_next p direct hop (ap (λ (q : PathSeen). q.next) is)
         (is ∙ (ap (λ (b : Bool). path_to_all b now due destination) up_is ∙ sym (cond-true (holds multicast_prefix destination.0) (path_to_all (is_up start c) now due destination) _ multicast)))
+
+-- ---- the path by the tables
+
+module _ {R A : Type 0} (node : Node R A) (now : ℕ) (destination : Addr) where
+  by_hop : Bool → ℕ → NextHop → PathSeen
+  by_hop up due next = path_by_hop up now due (first_end node.role (open_at now node.prefixes.entries)) node.neighbours.entries destination next
+
+  -- by what a node returns
+  kept_is : (up : Bool) (due : ℕ) (next : NextHop) → up ≡ up_kept node → due ≡ next_of node → next ≡ hop_kept node.role node now destination → by_hop up due next ≡ path_kept node now destination
+  unfolding by_hop
+  kept_is up due next up_is due_is next_is =
+      ap (λ (b : Bool). by_hop b due next) up_is ∙ (ap (λ (d : ℕ). by_hop (up_kept node) d next) due_is ∙ ap (λ (h : NextHop). by_hop (up_kept node) (next_of node) h) next_is)
+
+  pub kept_of_none : no_route ≡ hop_kept node.role node now destination → record { next = no_route; mac = None; state = None; until = now } ≡ path_kept node now destination
+  unfolding by_hop
+  kept_of_none is = kept_is (up_kept node) (next_of node) no_route refl refl is
+
+  module _ (p : PathSeen) (up : Bool) (due : ℕ) (up_is : up ≡ up_kept node) (due_is : due ≡ next_of node) where
+    pub kept_by_router : (key : ℕ) → via key ≡ hop_kept node.role node now destination
+        → p ≡ path_by up now due (first_end node.role (open_at now node.prefixes.entries)) (via key) (option_map (seen now) (entry_in key node.neighbours.entries)) → p ≡ path_kept node now destination
+    unfolding by_hop
+    kept_by_router key next_is is = is ∙ kept_is up due (via key) up_is due_is next_is
+
+    pub kept_to_one : direct ≡ hop_kept node.role node now destination → holds multicast_prefix destination.0 ≡ false
+        → p ≡ path_by up now due (first_end node.role (open_at now node.prefixes.entries)) direct (option_map (seen now) (entry_in (number_of destination.0) node.neighbours.entries)) → p ≡ path_kept node now destination
+    unfolding by_hop
+    kept_to_one next_is single is =
+        is ∙ (sym (cond-false (holds multicast_prefix destination.0) (path_to_all up now due destination) _ single) ∙ kept_is up due direct up_is due_is next_is)
+
+    pub kept_to_all : direct ≡ hop_kept node.role node now destination → holds multicast_prefix destination.0 ≡ true → p ≡ path_to_all up now due destination → p ≡ path_kept node now destination
+    unfolding by_hop
+    kept_to_all next_is multicast is =
+        is ∙ (sym (cond-true (holds multicast_prefix destination.0) (path_to_all up now due destination) _ multicast) ∙ kept_is up due direct up_is due_is next_is)

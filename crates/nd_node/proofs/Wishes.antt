@@ -5,7 +5,7 @@ use Rattle.std.specs.List.{flat_map}
 use Rattle.rand_core.specs.Stream.{Stream}
 use Rattle.nd_addr.specs.declared.addr.Addr.{Addr}
 use Rattle.nd_addr.specs.declared.mac.Mac.{Mac}
-use Rattle.nd_addr.specs.Kind.{multicast_mac_of, multicast_prefix}
+use Rattle.nd_addr.specs.Kind.{multicast_prefix}
 use Rattle.nd_addr.specs.Number.{addr_at, holds, number_of}
 use Rattle.nd_compose.specs.Frames.{multicast_mac, resolution_frame}
 use Rattle.nd_neighbour.specs.History as rows
@@ -261,15 +261,15 @@ module _ {R A : Type 0} (stream : R → Stream) (old new : Node R A) (x y : List
   }
 
   -- the destination is multicast
-  pub path_to_all : (to : Mac) → to.0 ≡ multicast_mac_of destination.0 → holds multicast_prefix destination.0 ≡ true
-      → AddsAlone stream old new x y now (Path destination (WayTo (number_of destination.0) (Some (number_of to.0)))) → AddsPath stream old new x y now direct destination answers.Done
-  path_to_all to to_is multicast adds = record {
+  pub path_to_all : (key mac : ℕ) → key ≡ number_of destination.0 → mac ≡ number_of (multicast_mac destination).0 → holds multicast_prefix destination.0 ≡ true
+      → AddsAlone stream old new x y now (Path destination (WayTo key (Some mac))) → AddsPath stream old new x y now direct destination answers.Done
+  path_to_all key mac key_is mac_is multicast adds = record {
     each = λ start c s le.
         let a = adds.each start c s le in
         let later : Chronicle = (now, Passed) ∷ c in
-        let d : Chronicle = (now, Path destination (WayTo (number_of destination.0) (Some (number_of to.0)))) ∷ later in
+        let d : Chronicle = (now, Path destination (WayTo key (Some mac))) ∷ later in
         let told : d ≡ (now, Path destination (WayTo (number_of destination.0) (Some (number_of (multicast_mac destination).0)))) ∷ later =
-        ap (λ (bytes : List ℕ). (now, Path destination (WayTo (number_of destination.0) (Some (number_of bytes)))) ∷ later) to_is in (
+        ap (λ (k : ℕ). (now, Path destination (WayTo k (Some mac))) ∷ later) key_is ∙ ap (λ (m : ℕ). (now, Path destination (WayTo (number_of destination.0) (Some m))) ∷ later) mac_is in (
           d,
           subst (λ (b : Bool). MatchBool b
               (d ≡ (now, Path destination (WayTo (number_of destination.0) (Some (number_of (multicast_mac destination).0)))) ∷ later)

@@ -16,4 +16,5 @@ pub mod Frame
 pub mod OutgoingPacket
 pub mod Resolve
 pub mod Path
+pub mod PathKept
 pub mod Forwarding

@@ -1,6 +1,6 @@
 -- Where packets to a destination go at a moment, and until when they may be sent there without a question (RFC 4861, sections 5.2 and 7.3.3; the lease is
 -- this project's own).
-use Rattle.std.specs.Prelude.{◌≡◌, ℕ, ◌+◌, Bool, true, false, ◌&&◌, if◌then◌else◌, List, Option, Some, None}
+use Rattle.std.specs.Prelude.{◌≡◌, ℕ, ◌+◌, Bool, ◌&&◌, if◌then◌else◌, List, Option, Some, None}
 use Rattle.std.specs.Option.{option_map}
 use Rattle.nd_addr.specs.declared.addr.Addr.{Addr}
 use Rattle.nd_addr.specs.declared.role.Role.{Role}
@@ -13,9 +13,9 @@ use Rattle.nd_compose.specs.Frames.{multicast_mac}
 use Rattle.nd_table.specs.declared.lasting.Lasting.{Lasting}
 use Rattle.nd_table.specs.Listing.{Lists}
 use Rattle.nd_neighbour.specs.declared.shown.Reachability.{Reachability}
-use Rattle.nd_neighbour.specs.declared.shown.Reachability.TheVariants.{Incomplete, Stale}
+use Rattle.nd_neighbour.specs.declared.shown.Reachability.TheVariants.{Stale}
 use Rattle.nd_neighbour.specs.History.{story}
-use Rattle.nd_neighbour.specs.Shown.{Seen, seen_of}
+use Rattle.nd_neighbour.specs.Shown.{Seen, is_leased, seen_of}
 use Rattle.nd_nexthop.specs.NextHop.{NextHop, direct, via, no_route}
 use Rattle.nd_nexthop.specs.NextHopKept.{hop_of}
 use Rattle.nd_routers.specs.OnLinkKept.{least_end}
@@ -34,12 +34,6 @@ pub record PathSeen : Type 0 where
   pub mac : Option ℕ
   pub state : Option Reachability
   pub until : ℕ
-
--- a neighbour that is sent to without a question needs none: it has a link-layer address, and a use changes nothing
-abbrev pub is_leased : Reachability → Bool
-is_leased Incomplete = false
-is_leased Stale = false
-is_leased _ = true
 
 -- the lease of a path ends at once, or where something is due, and before that where a further moment comes
 abbrev pub lease : Bool → ℕ → ℕ → Option ℕ → ℕ
@@ -84,6 +78,14 @@ pub record IsPath (start : Start) (c : Chronicle) (now : ℕ) (destination : Add
   pub due : ℕ
   pub next_due : NextDue start c due
   pub path_is : path ≡ path_of (is_up start c) c now due (first_end start.role prefixes) path.next destination
+
+-- At a moment of the lease the path is the same but for the state of the neighbour, which isn't STALE.
+pub record Lasts (start : Start) (c : Chronicle) (now : ℕ) (destination : Addr) (path : PathSeen) : Type 0 where
+  pub later : PathSeen
+  pub is_path : IsPath start c now destination later
+  pub next : later.next ≡ path.next
+  pub mac : later.mac ≡ path.mac
+  pub state : later.state ≡ Some Stale → ⊥
 
 -- what a contract sees of a path
 abbrev pub path_in : Path → PathSeen

@@ -16,6 +16,7 @@ impl<R: Rng + Drop, A: Allocator + Clone> Node<R, A> {
     ghost use Rattle.nd_nexthop.specs.NextHopKept.{hop_of};
     ghost use Rattle.nd_chronicle.specs.NextHop.{IsHopOf, IsNextHop};
     ghost use Rattle.nd_node.specs.NodeKept.{Stands, next_of};
+    ghost use Rattle.nd_node.specs.PathKept.{hop_kept};
 
     /// Returns the next hop that a host chooses for `destination` at `now`, in milliseconds, up to which nothing is due (RFC 4861, section 5.2). It
     /// remembers the next hop if it gets the memory for that, and does without otherwise.
@@ -44,7 +45,8 @@ impl<R: Rng + Drop, A: Allocator + Clone> Node<R, A> {
     /// remembered is neither read nor changed. It takes no memory.
     pub(crate) fn determined_hop(&self, now: u64, destination: Addr) -> Hop
         requires settled { now < next_of self.now }
-        ensures { (start : Start) (c : Chronicle) → Stands R.stream start self.now c → last_moment start.at c ≤ now → IsNextHop start c now destination (hop_of result) }
+        ensures next { (start : Start) (c : Chronicle) → Stands R.stream start self.now c → last_moment start.at c ≤ now → IsNextHop start c now destination (hop_of result) }
+        ensures value { hop_of result ≡ hop_kept Role.Host self.now now destination }
     {
         let tables = Tables {
             now,

@@ -20,6 +20,7 @@ impl<R: Rng + Drop, A: Allocator + Clone> Node<R, A> {
     ghost use Rattle.nd_chronicle.specs.OwnAddress.{is_up};
     ghost use Rattle.nd_steps.specs.OwnAddresses.{counting};
     ghost use Rattle.nd_node.specs.NodeKept.{Stands};
+    ghost use Rattle.nd_node.specs.PathKept.{up_kept};
 
     /// Returns true if `destination` is the all-nodes address, at a router the all-routers address, one of the node's own addresses of the kind
     /// `counted`, or the solicited-node address of one of these (RFC 4291, section 2.8).
@@ -51,7 +52,8 @@ impl<R: Rng + Drop, A: Allocator + Clone> Node<R, A> {
 
     /// Returns true if the link-local address is assigned.
     pub(crate) fn is_up(&self) -> bool
-        ensures { (start : Start) (c : Chronicle) → Stands R.stream start self.now c → result ≡ is_up start c }
+        ensures up { (start : Start) (c : Chronicle) → Stands R.stream start self.now c → result ≡ is_up start c }
+        ensures value { result ≡ up_kept self.now }
     {
         let own = self.addresses.link_local();
         self.addresses.counts(Counted::Assigned, own)

@@ -60,6 +60,7 @@ mod for_us;
 mod forwarding;
 mod frame;
 mod fullness;
+mod lease;
 mod limits;
 mod message;
 mod neighbor_advertisement;

@@ -4,13 +4,14 @@ ghost use Rattle.std.specs.Prelude.{◌≡◌, ℕ, ◌+◌, ◌<◌, ◌≤◌,
 ghost use Rattle.std.specs.Option.{option_map};
 ghost use Rattle.nd_addr.specs.Number.{number_of};
 ghost use Rattle.nd_table.specs.Listing.{open_at};
+ghost use Rattle.nd_neighbour.specs.Shown.{is_leased};
 ghost use Rattle.nd_neighbour.specs.ShownKept.{seen};
 ghost use Rattle.nd_neighbour.specs.TableKept.{entry_in};
 ghost use Rattle.nd_nexthop.specs.NextHopKept.{hop_of};
 ghost use Rattle.nd_chronicle.specs.Happening.{Chronicle, last_moment};
 ghost use Rattle.nd_chronicle.specs.Start.{Start};
 ghost use Rattle.nd_node.specs.Moments.{earlier};
-ghost use Rattle.nd_node.specs.Path.{IsPath, first_end, is_leased, lease, path_by, path_in, path_to_all};
+ghost use Rattle.nd_node.specs.Path.{IsPath, Lasts, first_end, lease, path_by, path_in, path_to_all};
 
 use crate::due::earlier;
 use crate::node::Node;
@@ -70,6 +71,7 @@ fn path_to_all(up: bool, now: u64, due: u64, destination: Addr) -> Path
 
 impl<R: Rng + Drop, A: Allocator + Clone> Node<R, A> {
     ghost use Rattle.nd_node.specs.NodeKept.{Stands, next_of};
+    ghost use Rattle.nd_node.specs.PathKept.{path_kept};
 
     /// Returns the end of the lease of a path to a neighbour that stays REACHABLE for the time `left`, if it is. Something is due at `due`.
     fn lease(&self, leased: bool, now: u64, due: u64, left: Option<u64>) -> u64
@@ -112,7 +114,9 @@ impl<R: Rng + Drop, A: Allocator + Clone> Node<R, A> {
     /// question (RFC 4861, section 5.2). It adds nothing and takes no memory: a neighbour is neither used nor resolved.
     pub fn path(&self, now: u64, destination: Addr) -> Path
         requires settled { now < next_of self.now }
-        ensures { (start : Start) (c : Chronicle) → Stands R.stream start self.now c → last_moment start.at c ≤ now → IsPath start c now destination (path_in result) }
+        ensures path { (start : Start) (c : Chronicle) → Stands R.stream start self.now c → last_moment start.at c ≤ now → IsPath start c now destination (path_in result) }
+        ensures value { path_in result ≡ path_kept self.now now destination }
+        ensures lasts { (start : Start) (c : Chronicle) (moment : ℕ) → Stands R.stream start self.now c → last_moment start.at c ≤ now → now ≤ moment → moment < result.until → Lasts start c moment destination (path_in result) }
     {
         let up = self.is_up();
         let due = self.next_due();

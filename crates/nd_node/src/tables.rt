@@ -30,6 +30,7 @@ ghost use Rattle.nd_chronicle.specs.Histories.{parameter_history, neighbour_hist
 ghost use Rattle.nd_chronicle.specs.NextHop.{IsHopOf};
 ghost use Rattle.nd_node.specs.Node.{last_of};
 ghost use Rattle.nd_node.specs.NodeKept.{Stands, next_of};
+ghost use Rattle.nd_node.specs.PathKept.{hop_kept};
 
 use crate::node::Node;
 use nd_addr::{Addr, Prefix, Role};
@@ -144,7 +145,8 @@ impl<R: Rng + Drop, A: Allocator + Clone> Node<R, A> {
     /// by its longest route (RFC 4861, section 5.2). It takes no memory.
     pub fn next_hop_to(&self, now: u64, destination: Addr) -> Hop
         requires settled { now < next_of self.now }
-        ensures { (start : Start) (c : Chronicle) → Stands R.stream start self.now c → last_moment start.at c ≤ now → IsHopOf start start.role c now destination (hop_of result) }
+        ensures next { (start : Start) (c : Chronicle) → Stands R.stream start self.now c → last_moment start.at c ≤ now → IsHopOf start start.role c now destination (hop_of result) }
+        ensures value { hop_of result ≡ hop_kept self.now.role self.now now destination }
     {
         match self.role {
             Role::Host => self.determined_hop(now, destination),

@@ -129,7 +129,7 @@ still_ended : (now m : ℕ) (end : Option ℕ) → now ≤ m → is_before now e
 still_ended now m None le h = let never : ⊥ = cc in absurd never
 still_ended now m (Some e) le h = grind (arith, nat_tests, le, h)
 
-stand_before : (now m : ℕ) → now ≤ m → (prefixes : List (Lasting PrefixValue)) → is_before m (least_end (open_at now prefixes)) ≡ true → open_at m prefixes ≡ open_at now prefixes
+pub stand_before : (now m : ℕ) → now ≤ m → (prefixes : List (Lasting PrefixValue)) → is_before m (least_end (open_at now prefixes)) ≡ true → open_at m prefixes ≡ open_at now prefixes
 stand_before now m le [] h = refl
 stand_before now m le (e ∷ es) h = by (λ rest. stand_before now m le es rest) (is_before now e.end) refl
   where

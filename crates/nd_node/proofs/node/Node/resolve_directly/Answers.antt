@@ -1,4 +1,5 @@
-use Rattle.std.proofs.Common.{Some, sym, ◌∙◌}
+use Rattle.std.proofs.Common.{ℕ, List, Some, refl, sym, ap, ◌∙◌}
+use Rattle.nd_addr.specs.Number.{number_of}
 use Rattle.std.proofs.lemmas.Result.{IfOk-weaker}
 use Rattle.nd_out.specs.declared.out.Way.TheVariants.{To}
 use Rattle.nd_node.specs.declared.resolve.Resolution.TheVariants as answers
@@ -9,7 +10,7 @@ use Rattle.nd_node.proofs.node.Node.resolve_directly.Goals as goal
 pub returns-then-is_multicast-clause-adds : goal.returns-then-is_multicast-clause-adds
 returns-then-is_multicast-clause-adds g c =
     answered_with c.answer_at_once.result (answers.Path (To c.args.destination (Some c.multicast-mac.result))) _ _ (λ adds. path_to_all g.R.Rng.stream c.args.self.now c.answer_at_once.new.self c.args.outs.now.items _ c.args.now c.args.destination
-    c.multicast-mac.result c.multicast-mac.ensures (sym c.is_multicast.ensures.exactly ∙ c.if-is_multicast.true) (adds c.args.destination))
+    (number_of c.args.destination.0) (number_of c.multicast-mac.result.0) refl (ap (λ (bytes : List ℕ). number_of bytes) c.multicast-mac.ensures) (sym c.is_multicast.ensures.exactly ∙ c.if-is_multicast.true) (adds c.args.destination))
     c.answer_at_once.ensures.adds c.answer_at_once.ensures.answer
 
 pub returns-clause-adds : goal.returns-clause-adds
