@@ -105,7 +105,7 @@ _Static_assert(sizeof(nd_limits) == 32 && sizeof(nd_options) == 64 && sizeof(nd_
                    sizeof(nd_offer_row) == 32 && sizeof(nd_route_row) == 40 && sizeof(nd_heard) == 108 && sizeof(nd_neighbour_row) == 40 &&
                    sizeof(nd_router_row) == 32 && sizeof(nd_prefix_row) == 32 && sizeof(nd_address_row) == 40 && sizeof(nd_server_row) == 24 &&
                    sizeof(nd_name_row) == 272 && sizeof(nd_redirect_row) == 32 && sizeof(nd_parameters_row) == 24 && sizeof(nd_counts_row) == 72 &&
-                   sizeof(nd_next_hop_row) == 24 && sizeof(nd_path) == 48,
+                   sizeof(nd_next_hop_row) == 24 && sizeof(nd_path) == 56,
                "structures have no padding");
 
 /* ---- calls ----------------------------------------------------------------------------------- */
@@ -212,6 +212,12 @@ uint64_t nd_next_due(nd_node *node)
 {
     enter(node);
     return MODULE(nd_next_due)(&module, slot);
+}
+
+uint64_t nd_lease_version(nd_node *node)
+{
+    enter(node);
+    return MODULE(nd_lease_version)(&module, slot);
 }
 
 int32_t nd_turn(nd_node *node, uint64_t now)

@@ -57,6 +57,7 @@ WRAP(size_t, nd_pool_bytes, (const nd_limits *limits, size_t longest), limits, l
 WRAP(int32_t, nd_open, (nd_node * node, const nd_options *options, size_t size), node, options, size)
 WRAP(uint64_t, nd_last_moment, (nd_node * node), node)
 WRAP(uint64_t, nd_next_due, (nd_node * node), node)
+WRAP(uint64_t, nd_lease_version, (nd_node * node), node)
 WRAP(int32_t, nd_turn, (nd_node * node, uint64_t now), node, now)
 WRAP(int32_t, nd_receive, (nd_node * node, uint64_t now, const uint8_t *frame, size_t length), node, now, frame, length)
 WRAP(int32_t, nd_send,

@@ -70,6 +70,12 @@ impl Node {
         unsafe { raw::nd_next_due(self.slot.get()) }
     }
 
+    /// Returns the version of all leases: a lease holds while this is the version of its path. It grows with each call that may change more than the
+    /// moment: not with `poll`, a question, or `resolve` in a lease.
+    pub fn lease_version(&self) -> u64 {
+        unsafe { raw::nd_lease_version(self.slot.get()) }
+    }
+
     /// Does all that is due up to `now`.
     pub fn turn(&mut self, now: u64) -> Result<Outcome, Error> {
         outcome_of(unsafe { raw::nd_turn(self.slot.get(), now) })

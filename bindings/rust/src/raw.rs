@@ -87,6 +87,7 @@ pub struct nd_next_hop_row {
 #[derive(Clone, Copy, Debug, Default)]
 pub struct nd_path {
     pub until: u64,
+    pub version: u64,
     pub next_hop: nd_addr,
     pub mac: nd_mac,
     pub has_mac: u8,
@@ -268,6 +269,7 @@ extern "C" {
     pub fn nd_close(node: *mut nd_node);
     pub fn nd_last_moment(node: *mut nd_node) -> u64;
     pub fn nd_next_due(node: *mut nd_node) -> u64;
+    pub fn nd_lease_version(node: *mut nd_node) -> u64;
     pub fn nd_turn(node: *mut nd_node, now: u64) -> i32;
     pub fn nd_receive(node: *mut nd_node, now: u64, frame: *const u8, length: usize) -> i32;
     pub fn nd_send(node: *mut nd_node, now: u64, source: *const nd_addr, destination: *const nd_addr, next_header: u8, payload: *const u8, length: usize) -> i32;

@@ -101,8 +101,9 @@ pub struct Path {
     pub mac: Option<[u8; 6]>,
     /// `None` where the destination is multicast, or where something is due again.
     pub state: Option<Reachability>,
-    /// Before this moment packets may be sent to `mac` without a call, as long as no other call was made for the node but polls and questions.
+    /// Before this moment packets may be sent to `mac` without a call, as long as `Node::lease_version` is `version`.
     pub until: u64,
+    pub version: u64,
 }
 
 /// The answer to the question where packets to a destination go.
@@ -150,7 +151,8 @@ impl From<raw::nd_path> for Path {
     fn from(path: raw::nd_path) -> Path {
         let mac = (path.has_mac == 1).then_some(path.mac);
         let state = (path.state != 0).then(|| path.state.into());
-        Path { next_hop: path.next_hop.into(), hop: hop_of(path.hop, path.next_hop), mac, state, until: path.until }
+        let hop = hop_of(path.hop, path.next_hop);
+        Path { next_hop: path.next_hop.into(), hop, mac, state, until: path.until, version: path.version }
     }
 }
 

@@ -2,12 +2,12 @@
 use Rattle.std.specs.Prelude.{ℕ, ◌+◌, ◌-◌, ◌*◌, ◌/◌, nat_lt, if◌then◌else◌}
 use Rattle.nd_chronicle.specs.Start.{Limits}
 
--- the rows of all tables, a search name with the longest text, offers and routes with their parts of a hash table, and an offer with its part of the
--- room in reserve
+-- the rows of all tables, a search name with the longest text, offers and routes with their parts of a hash table, an offer with its part of the room in
+-- reserve, and a destination with its part of the paths that are remembered
 abbrev pub rows_bytes : Limits → ℕ
 rows_bytes limits =
     72 * limits.neighbours + 65 * limits.routers + 40 * limits.prefixes + 72 * limits.addresses + 32 * limits.servers + 295 * limits.names
-    + 64 * (limits.redirects + limits.destinations) + 87 * limits.offers + 84 * limits.routes
+    + 64 * limits.redirects + 128 * limits.destinations + 87 * limits.offers + 84 * limits.routes
 
 -- the blocks of dates of so many rows, besides the first one: none, or one, and two for each 32 rows before the last row
 abbrev pub dates_bytes : ℕ → ℕ

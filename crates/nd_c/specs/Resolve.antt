@@ -6,6 +6,7 @@ use Rattle.nd_out.specs.declared.out.Way.TheVariants.{NoRoute, To}
 use Rattle.nd_node.specs.Node.{last_of}
 use Rattle.nd_node.specs.Time.{Onward}
 use Rattle.nd_session.specs.Event.{LedBy}
+use Rattle.nd_session.specs.Leases.{KeepsLeases}
 use Rattle.nd_session.specs.Resolve.{AnsweredBy}
 use Rattle.nd_session.specs.declared.resolve.PathAnswer.{PathAnswer}
 use Rattle.nd_session.specs.declared.resolve.PathAnswer.TheVariants.{Past, Refused, Path}
@@ -20,19 +21,20 @@ status_of_way NoRoute = nothing
 status_of_way (To neighbour None) = waiting
 status_of_way (To neighbour (Some mac)) = done
 
--- the status and the row of an answer
-abbrev pub Says : ℕ → Addr → PathAnswer → ℤ → PathRow → PathRow → Type 0
-Says now destination (Past last) status old new = (status ≡ past) × (new ≡ old)
-Says now destination (Refused refusal) status old new = (status ≡ refused) × (new ≡ refused_path now refusal)
-Says now destination (Path way state until) status old new = (status ≡ status_of_way way) × (new ≡ path_row destination way state until)
+-- the status and the row of an answer, at this version of all leases
+abbrev pub Says : ℕ → Addr → ℕ → PathAnswer → ℤ → PathRow → PathRow → Type 0
+Says now destination version (Past last) status old new = (status ≡ past) × (new ≡ old)
+Says now destination version (Refused refusal) status old new = (status ≡ refused) × (new ≡ refused_path now refusal)
+Says now destination version (Path way state until) status old new = (status ≡ status_of_way way) × (new ≡ path_row destination way state until version)
 
 -- A session is asked. If its moment is past, nothing changes. Else what is due up to it is done, then the question adds what it adds, and status and row
 -- say how it was answered. When out of memory a part of what is due is done, and the question adds nothing.
 pub record Finds (now : ℕ) (destination : Addr) (status : ℤ) (old new : Session) (row_old row_new : PathRow) : Type 0 where
   pub early : now < last_of old.node → (status ≡ past) × (new ≡ old) × (row_new ≡ row_old)
+  pub leases : KeepsLeases old new
   pub path : last_of old.node ≤ now
       → ((status ≡ no_memory) × LedBy old new (Onward now) × (row_new ≡ row_old))
-      ⊎ ((answer : PathAnswer) × AnsweredBy now destination answer old new × Says now destination answer status row_old row_new)
+      ⊎ ((answer : PathAnswer) × AnsweredBy now destination answer old new × Says now destination new.paths.version answer status row_old row_new)
 
 -- A slot is asked.
 pub record PathAnswers (now : ℕ) (destination : Addr) (status : ℤ) (before after : Option Session) (row_old row_new : PathRow) : Type 0 where

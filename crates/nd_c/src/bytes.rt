@@ -8,8 +8,8 @@ use nd_c_types::Limits;
 use nd_node::Limits as NodeLimits;
 
 /// The bytes of a row of each table, as measured. That of a search name has room for the longest name, and those of an offer and of a route have their
-/// part of a hash table; that of an offer has its part of the room in reserve too. A destination is one whose redirect is kept, or whose next hop is
-/// remembered.
+/// part of a hash table; that of an offer has its part of the room in reserve too. A destination whose next hop is remembered has its part of the paths
+/// that are.
 const NEIGHBOUR: usize = 72;
 
 const ROUTER: usize = 65;
@@ -22,7 +22,9 @@ const SERVER: usize = 32;
 
 const NAME: usize = 295;
 
-const DESTINATION: usize = 64;
+const REDIRECT: usize = 64;
+
+const DESTINATION: usize = 128;
 
 const OFFER: usize = 87;
 
@@ -71,7 +73,8 @@ fn rows_bytes(limits: NodeLimits) -> usize
         + ADDRESS * limits.addresses()
         + SERVER * limits.servers()
         + NAME * limits.names()
-        + DESTINATION * (limits.redirects() + limits.destinations())
+        + REDIRECT * limits.redirects()
+        + DESTINATION * limits.destinations()
         + OFFER * limits.offers()
         + ROUTE * limits.routes()
 }

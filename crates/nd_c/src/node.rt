@@ -105,3 +105,18 @@ pub extern "C" fn nd_next_due(alloc: Global, node: &mut Slot) -> u64
     node.put(session);
     next
 }
+
+/// Returns the version of all leases that `nd_resolve` gave: 0 if the node is closed.
+#[unsafe(no_mangle)]
+pub extern "C" fn nd_lease_version(alloc: Global, node: &mut Slot) -> u64
+    ensures closed { node.old.handle.session ≡ None → result ≡ 0 }
+    ensures value { (s : Session) → node.old.handle.session ≡ Some s → result ≡ s.paths.version }
+    ensures kept { node.new.handle.session ≡ node.old.handle.session }
+{
+    let Some(session) = node.take(alloc) else {
+        return 0;
+    };
+    let version = session.version();
+    node.put(session);
+    version
+}

@@ -40,14 +40,14 @@ fn find_path(session: &mut Session, now: u64, destination: Addr, path: &mut Path
     ensures { Finds now destination result session.old session.new path.old path.new }
 {
     match session.resolve(now, destination) {
-        Ok(answer) => say(now, destination, answer, path),
+        Ok(answer) => say(now, destination, session.version(), answer, path),
         Err(_) => NO_MEMORY,
     }
 }
 
-/// Writes what an answer says of the path, and returns the status.
-fn say(now: u64, destination: Addr, answer: PathAnswer, path: &mut PathRow) -> i32
-    ensures { Says now destination answer result path.old path.new }
+/// Writes what an answer says of the path at this version of all leases, and returns the status.
+fn say(now: u64, destination: Addr, version: u64, answer: PathAnswer, path: &mut PathRow) -> i32
+    ensures { Says now destination version answer result path.old path.new }
 {
     match answer {
         PathAnswer::Past(_) => PAST,
@@ -56,7 +56,7 @@ fn say(now: u64, destination: Addr, answer: PathAnswer, path: &mut PathRow) -> i
             REFUSED
         }
         PathAnswer::Path { way, state, until } => {
-            *path = PathRow::of(destination, way, state, until);
+            *path = PathRow::of(destination, way, state, until, version);
             status_of_way(way)
         }
     }

@@ -1,12 +1,12 @@
 //! Where packets to a destination go, as C sees it. The definitions are in `specs/Path.antt`.
 
 ghost use Rattle.std.specs.Prelude.{◌≡◌};
-ghost use Rattle.nd_c_types.specs.Path.{hop_number, no_path, path_row, refused_path, state_number};
+ghost use Rattle.nd_c_types.specs.Path.{hop_number, lease_version, no_path, path_row, refused_path, state_number};
 
 use crate::header::{HOP_DIRECT, HOP_VIA};
 use crate::neighbour::{mac_bytes, mac_flag, reachability_number};
 use crate::record::Record;
-use nd_addr::Addr;
+use nd_addr::{Addr, Mac};
 use nd_neighbour::Reachability;
 use nd_out::{Refusal, Way};
 
@@ -16,6 +16,8 @@ use nd_out::{Refusal, Way};
 pub struct PathRow {
     /// The end of the lease, in milliseconds; the moment of the question where there is none.
     pub until: u64,
+    /// The version of the lease, if the link-layer address is known.
+    pub version: u64,
     /// The destination itself, or the router.
     pub next_hop: [u8; 16],
     /// Its link-layer address; zeros if it is not known.
@@ -33,9 +35,15 @@ pub struct PathRow {
 }
 
 impl PathRow {
-    /// Returns the row of the path to `destination`, with the end of the lease in milliseconds.
-    pub fn of(destination: Addr, way: Way, state: Option<Reachability>, until: u64) -> PathRow
-        ensures { result ≡ path_row destination way state until }
+    /// Returns the row of the path to `destination`, with the end of the lease in milliseconds and its version.
+    pub fn of(
+        destination: Addr,
+        way: Way,
+        state: Option<Reachability>,
+        until: u64,
+        version: u64,
+    ) -> PathRow
+        ensures { result ≡ path_row destination way state until version }
     {
         let state = state_number(state);
         match way {
@@ -47,6 +55,7 @@ impl PathRow {
                 let next_hop = to.0;
                 let bytes = mac_bytes(mac);
                 PathRow {
+                    version: lease_version(mac, version),
                     next_hop,
                     mac: bytes,
                     has_mac: mac_flag(mac),
@@ -76,6 +85,7 @@ impl PathRow {
     {
         PathRow {
             until,
+            version: 0,
             next_hop: [0; 16],
             mac: [0; 6],
             has_mac: 0,
@@ -85,6 +95,16 @@ impl PathRow {
             refusal: 0,
             limit: 0,
         }
+    }
+}
+
+/// Returns the version of a lease, or 0 if the link-layer address isn't known.
+fn lease_version(mac: Option<Mac>, version: u64) -> u64
+    ensures { result ≡ lease_version mac version }
+{
+    match mac {
+        Some(_) => version,
+        None => 0,
     }
 }
 

@@ -3,3 +3,7 @@ pub mod LettingGo
 pub mod Present
 pub mod Behind
 pub mod Keeping
+pub mod Slots
+pub mod Remembered
+pub mod Idling
+pub mod Lasting

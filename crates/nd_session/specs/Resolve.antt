@@ -1,5 +1,6 @@
 -- How a session answers where packets to a destination go (RFC 4861, sections 5.2, 7.2.2 and 7.3.3).
-use Rattle.std.specs.Prelude.{◌≡◌, ℕ, ◌<◌, ◌≤◌, Option, Some, None, Result, Ok, MatchResult, MatchOption}
+use Rattle.std.specs.Prelude.{◌≡◌, ℕ, ◌<◌, ◌≤◌, List, Option, Some, None, Result, Ok, MatchResult}
+use Rattle.std.specs.Global.{Global}
 use Rattle.std.specs.declared.alloc.AllocError.{AllocError}
 use Rattle.nd_addr.specs.declared.addr.Addr.{Addr}
 use Rattle.nd_neighbour.specs.declared.shown.Reachability.{Reachability}
@@ -10,7 +11,9 @@ use Rattle.nd_node.specs.declared.resolve.Resolution.{Resolution}
 use Rattle.nd_node.specs.declared.resolve.Resolution.TheVariants as resolutions
 use Rattle.nd_node.specs.Event.{FollowsBy}
 use Rattle.nd_node.specs.Node.{last_of}
+use Rattle.nd_node.specs.EventKept.{AddsEvent}
 use Rattle.nd_node.specs.NodeKept.{Stands, next_of}
+use Rattle.nd_out.specs.declared.out.Out.{Out}
 use Rattle.nd_node.specs.Path.{IsPath, PathSeen}
 use Rattle.nd_node.specs.Resolve.{answer_by, with_answer}
 use Rattle.nd_node.specs.Time.{Leads, Onward}
@@ -44,6 +47,15 @@ pub record AnsweredBy (now : ℕ) (destination : Addr) (answer : PathAnswer) (ol
   pub resolution : Resolution
   pub is : resolution_in answer ≡ Some resolution
   pub leads : Leads stream_of_source old.node new.node old.queue (with_answer new.queue now destination resolution) (FollowsBy now (events.Resolves destination) (answer_by resolution))
+  pub lease : HasLease now destination answer new
+
+-- The question is the event at a node at which nothing is due, its answer is returned by the call, and nothing is reported.
+pub record AnsweredAtOnce (now : ℕ) (destination : Addr) (answer : PathAnswer) (old new : Session) : Type 0 where
+  pub settled : now < next_of old.node
+  pub resolution : Resolution
+  pub is : resolution_in answer ≡ Some resolution
+  pub adds : (outs : List (ℕ × Out Global)) → AddsEvent stream_of_source old.node new.node outs (with_answer outs now destination resolution) now (events.Resolves destination) (answer_by resolution)
+  pub queue : new.queue ≡ old.queue
   pub lease : HasLease now destination answer new
 
 -- A question of a past moment changes nothing. Before another one what is due up to it is done; then it adds what it adds, and is answered. When out of memory

@@ -8,6 +8,8 @@
 #![tactic(auto)]
 
 mod handle;
+pub mod laws;
+mod paths;
 mod questions;
 mod queue;
 mod resolve;

@@ -1,19 +1,29 @@
 //! Where packets go of a caller that keeps them (RFC 4861, sections 5.2, 7.2.2 and 7.3.3). The definitions are in `specs/Resolve.antt`.
 
-ghost use Rattle.std.specs.Prelude.{◌≡◌, ◌<◌, Some};
+ghost use Rattle.std.specs.Prelude.{◌≡◌, ◌<◌, ◌≤◌, IfSome, MatchResult, Some};
+ghost use Rattle.nd_addr.specs.Number.{number_of};
 ghost use Rattle.nd_table.specs.Moment.{IsMoment};
 ghost use Rattle.nd_chronicle.specs.Happening.{Chronicle};
 ghost use Rattle.nd_chronicle.specs.Start.{Start};
 ghost use Rattle.nd_node.specs.Node.{last_of};
 ghost use Rattle.nd_node.specs.NodeKept.{Stands, next_of};
+ghost use Rattle.nd_node.specs.Path.{path_in};
+ghost use Rattle.nd_node.specs.PathKept.{path_kept, towards};
+ghost use Rattle.nd_node.specs.Time.{Onward};
 ghost use Rattle.nd_random.specs.Source.{stream_of_source};
+ghost use Rattle.nd_session.specs.Event.{LedBy};
+ghost use Rattle.nd_session.specs.Leases.{KeepsLeases};
+ghost use Rattle.nd_session.specs.Paths.{state_number};
 ghost use Rattle.nd_session.specs.Ready.{IsReady};
-ghost use Rattle.nd_session.specs.Resolve.{HasLease, Resolves, resolution_in};
+ghost use Rattle.nd_session.specs.Resolve.{AnsweredAtOnce, AnsweredBy, HasLease, Resolves, resolution_in};
+ghost use Rattle.nd_session.specs.Slots.{IsRecalled};
 
+use crate::paths::LeasedPath;
 use crate::session::Session;
-use nd_addr::Addr;
+use nd_addr::{Addr, Mac};
 use nd_neighbour::Reachability;
-use nd_node::Resolution;
+use nd_nexthop::Hop;
+use nd_node::{Path, Resolution};
 use nd_out::{Refusal, Way};
 use std::alloc::AllocError;
 
@@ -36,11 +46,72 @@ pub enum PathAnswer {
     },
 }
 
+/// Returns the address and the link-layer address that packets go to by the path of a destination, if it has a lease at `now`, in milliseconds.
+fn leased_to(now: u64, destination: Addr, path: Path) -> Option<(Addr, Mac)>
+    ensures { IfSome result (λ to. (now < path.until) × (towards (path_in path).next destination ≡ number_of to.0.0) × ((path_in path).mac ≡ Some (number_of to.1.0))) }
+{
+    if path.until <= now {
+        return None;
+    }
+    let mac = path.mac?;
+    match path.hop {
+        Hop::Direct => Some((destination, mac)),
+        Hop::Via(router) => Some((router, mac)),
+        Hop::NoRoute => None,
+    }
+}
+
+/// Returns the number of a state, by which states are compared.
+fn state_number(state: Option<Reachability>) -> u8
+    ensures { result ≡ state_number state }
+{
+    match state {
+        None => 0,
+        Some(Reachability::Incomplete) => 1,
+        Some(Reachability::Reachable) => 2,
+        Some(Reachability::Stale) => 3,
+        Some(Reachability::Delay) => 4,
+        Some(Reachability::Probe) => 5,
+    }
+}
+
 impl Session {
-    /// Returns the answer with the state of the neighbour and the lease. If something is due at `now`, in milliseconds, already, there is none.
-    fn with_lease(&self, now: u64, destination: Addr, resolution: Resolution) -> PathAnswer
+    /// Remembers the path of a destination at `now`, in milliseconds, up to which nothing is due, if it has a lease.
+    fn remember(&mut self, now: u64, destination: Addr, path: Path)
+        requires settled { now < next_of self.old.node }
+        requires path { path_in path ≡ path_kept self.old.node now destination }
+        ensures node { self.new.node ≡ self.old.node }
+        ensures queue { self.new.queue ≡ self.old.queue }
+        ensures room { self.new.room ≡ self.old.room }
+        ensures version { self.new.paths.version ≡ self.old.paths.version }
+    {
+        let Some((to, mac)) = leased_to(now, destination, path) else {
+            return;
+        };
+        // DELAY ends by itself.
+        let last = self.node.path(path.until - 1, destination);
+        if state_number(last.state) == state_number(path.state) {
+            self.paths.remember(LeasedPath {
+                destination,
+                to,
+                mac,
+                state: path.state,
+                from: now,
+                until: path.until,
+                version: 0,
+            });
+        }
+    }
+
+    /// Returns the answer with the state of the neighbour and the lease, and remembers the path. If something is due at `now`, in milliseconds, already,
+    /// there is no lease.
+    fn with_lease(&mut self, now: u64, destination: Addr, resolution: Resolution) -> PathAnswer
         ensures answer { resolution_in result ≡ Some resolution }
-        ensures lease { HasLease now destination result self.now }
+        ensures lease { HasLease now destination result self.new }
+        ensures node { self.new.node ≡ self.old.node }
+        ensures queue { self.new.queue ≡ self.old.queue }
+        ensures room { self.new.room ≡ self.old.room }
+        ensures version { self.new.paths.version ≡ self.old.paths.version }
     {
         match resolution {
             Resolution::Refused(refusal) => PathAnswer::Refused(refusal),
@@ -53,6 +124,7 @@ impl Session {
                     };
                 }
                 let path = self.node.path(now, destination);
+                self.remember(now, destination, path);
                 PathAnswer::Path {
                     way,
                     state: path.state,
@@ -62,24 +134,65 @@ impl Session {
         }
     }
 
+    /// Answers at `now`, in milliseconds, from what is remembered of the destination: within the lease of its path, a use of the neighbour changes nothing.
+    /// It takes no memory.
+    fn answer_within(&mut self, now: u64, destination: Addr, path: LeasedPath) -> PathAnswer
+        requires recalled { IsRecalled self.old.paths now destination path }
+        ensures answered { AnsweredAtOnce now destination result self.old self.new }
+        ensures clock { self.new.node ≡ record self.old.node { last = now } }
+        ensures room { self.new.room ≡ self.old.room }
+        ensures version { self.new.paths.version ≡ self.old.paths.version }
+    {
+        match self.node.answer_leased(now, destination, path.to, path.mac) {
+            Resolution::Refused(refusal) => PathAnswer::Refused(refusal),
+            Resolution::Path(way) => PathAnswer::Path {
+                way,
+                state: path.state,
+                until: path.until,
+            },
+        }
+    }
+
+    /// Does what is due up to `now`, in milliseconds, and answers by the node; the path is remembered if it has a lease. Otherwise as `resolve`.
+    fn look_up(&mut self, now: u64, destination: Addr) -> Result<PathAnswer, AllocError>
+        requires moment { IsMoment now }
+        requires in_time { last_of self.old.node ≤ now }
+        ensures resolved { MatchResult result (λ answer. AnsweredBy now destination answer self.old self.new) (λ error. LedBy self.old self.new (Onward now)) }
+        ensures ready { (start : Start) (c : Chronicle) → Stands stream_of_source start self.old.node c → IsReady self.old → IsReady self.new }
+        ensures leases { KeepsLeases self.old self.new }
+    {
+        self.settle(now)?;
+        let path = self.node.path(now, destination);
+        self.remember(now, destination, path);
+        if let Some(path) = self.paths.recall(now, destination) {
+            return Ok(self.answer_within(now, destination, path));
+        }
+        self.paths.forget();
+        let resolution = self
+            .node
+            .answer_path(now, destination, &mut self.queue.back)?;
+        Ok(self.with_lease(now, destination, resolution))
+    }
+
     /// Does all that is due up to `now`, in milliseconds, its own millisecond included, and then answers where packets to `destination` go, for a caller
     /// that keeps them (RFC 4861, sections 5.2, 7.2.2 and 7.3.3). That is a use of the neighbour that they go to, and one whose link-layer address isn't
     /// known is solicited; the queue gains the frame, and `Out::Resolved` or `Out::Failed` later. The answer is returned, and not reported. A question of
-    /// a past moment changes nothing.
+    /// a past moment changes nothing. Within the lease of a path that was asked for, if nothing has happened since but other such questions, the answer is
+    /// what is remembered.
     ///
     /// Returns an error if out of memory: a part of what is due may have been done and reported then, and the question has added nothing.
     pub fn resolve(&mut self, now: u64, destination: Addr) -> Result<PathAnswer, AllocError>
         requires { IsMoment now }
         ensures resolves { Resolves now destination result self.old self.new }
         ensures ready { (start : Start) (c : Chronicle) → Stands stream_of_source start self.old.node c → IsReady self.old → IsReady self.new }
+        ensures leases { KeepsLeases self.old self.new }
     {
         if self.node.is_past(now) {
             return Ok(PathAnswer::Past(self.node.last_moment()));
         }
-        self.settle(now)?;
-        let resolution = self
-            .node
-            .answer_path(now, destination, &mut self.queue.back)?;
-        Ok(self.with_lease(now, destination, resolution))
+        if let Some(path) = self.paths.recall(now, destination) {
+            return Ok(self.answer_within(now, destination, path));
+        }
+        self.look_up(now, destination)
     }
 }

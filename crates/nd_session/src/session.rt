@@ -16,9 +16,10 @@ ghost use Rattle.nd_node.specs.NodeKept.{Stands, next_of};
 ghost use Rattle.nd_node.specs.Time.{Advances, IsInHand, Leads, Onward, Passes, longest_due};
 ghost use Rattle.nd_steps.specs.Outputs.{frame_sent};
 ghost use Rattle.nd_random.specs.Source.{stream_of_source};
-ghost use Rattle.nd_session.specs.Event.{LedBy, Takes};
-ghost use Rattle.nd_session.specs.Ready.{IsReady};
+ghost use Rattle.nd_session.specs.Paths.{AreRemembered};
+ghost use Rattle.std.proofs.Props.{props};
 
+use crate::paths::Paths;
 use crate::queue::Queue;
 use nd_addr::{Addr, Mac, Role};
 use nd_compose::FrameRoom;
@@ -36,9 +37,16 @@ pub struct Session {
     pub(crate) queue: Queue,
     /// The room in reserve: the next frame that is due is written into it. It is missing from then on until a frame's block is had back.
     pub(crate) room: Option<FrameRoom<Global>>,
+    /// The paths that were asked for. They are forgotten before anything happens to the node but that time passes.
+    pub(crate) paths: Paths,
+    ghost remembered: { AreRemembered paths node } by { Prim.hlevel props },
 }
 
 impl Session {
+    ghost use Rattle.nd_session.specs.Event.{LedBy, Takes};
+    ghost use Rattle.nd_session.specs.Leases.{KeepsLeases};
+    ghost use Rattle.nd_session.specs.Ready.{IsReady};
+
     /// Starts a node at `start`, in milliseconds, whose random words come from `source`. Its queue is empty. `transmits` is the number of
     /// solicitations that it sends for each address, and `limits` says how many rows each of its tables keeps at most. Returns an error if out of
     /// memory.
@@ -57,6 +65,7 @@ impl Session {
         ensures ready { IfOk result IsReady }
     {
         let queue = Queue::new(alloc)?;
+        let paths = Paths::new(alloc, limits.destinations())?;
         match Node::new(alloc, role, mac, start, transmits, limits, source) {
             Ok(node) => {
                 let room = FrameRoom::with_room(alloc, node.longest_due())?;
@@ -64,6 +73,7 @@ impl Session {
                     node,
                     queue,
                     room: Some(room),
+                    paths,
                 })
             }
             Err(_) => Err(AllocError),
@@ -75,6 +85,14 @@ impl Session {
         ensures { result ≡ next_of self.now.node }
     {
         self.node.next_due()
+    }
+
+    /// Returns the version of all leases: each lease that was given at this version, and at this version alone, holds up to its end. It grows with each call
+    /// that may change more of the node than the moment up to which time has passed. At 2^64 - 1 it stays, and no lease holds.
+    pub fn version(&self) -> u64
+        ensures { result ≡ self.now.paths.version }
+    {
+        self.paths.version()
     }
 
     /// Returns the answer to an event at `now`, in milliseconds, if that is earlier than the moment up to which time has passed.
@@ -97,11 +115,13 @@ impl Session {
         requires { IsMoment now }
         ensures takes { Takes now (event_of event.now) result self.old self.new }
         ensures ready { (start : Start) (c : Chronicle) → Stands stream_of_source start self.old.node c → IsReady self.old → IsReady self.new }
+        ensures leases { KeepsLeases self.old self.new }
     {
         if let Some(past) = self.past(now) {
             return Ok(past);
         }
         self.settle(now)?;
+        self.paths.forget();
         self.node.add(now, event, &mut self.queue.back)
     }
 
@@ -116,6 +136,7 @@ impl Session {
         // If no report was left to take, the first thing that is due was done, even if no memory is left.
         ensures advances { IsReady self.old → self.old.queue ≡ [] → OnErr result (LedBy self.old self.new (Advances now)) }
         ensures ready { IsReady self.old → IsReady self.new }
+        ensures leases { KeepsLeases self.old self.new }
     {
         nd_chronicle::laws::idle_time_passes();
         let next = self.node.next_due();
@@ -133,7 +154,9 @@ impl Session {
         ensures onward { LedBy self.old self.new (Onward now) }
         ensures advances { IsReady self.old → self.old.queue ≡ [] → OnErr result (LedBy self.old self.new (Advances now)) }
         ensures ready { IsReady self.old → IsReady self.new }
+        ensures leases { KeepsLeases self.old self.new }
     {
+        self.paths.forget();
         if !self.queue.is_empty() {
             let outs = &mut self.queue.back;
             return self.node.settle_in(now, &mut self.room, outs);
@@ -151,11 +174,13 @@ impl Session {
         requires { IsMoment now }
         ensures takes { Takes now (events.Receives frame.now) result self.old self.new }
         ensures ready { (start : Start) (c : Chronicle) → Stands stream_of_source start self.old.node c → IsReady self.old → IsReady self.new }
+        ensures leases { KeepsLeases self.old self.new }
     {
         if let Some(past) = self.past(now) {
             return Ok(past);
         }
         self.settle(now)?;
+        self.paths.forget();
         self.node.judge_frame(now, frame, &mut self.queue.back)
     }
 
@@ -172,11 +197,13 @@ impl Session {
         requires { IsMoment now }
         ensures takes { Takes now (events.Sends source destination next_header payload.now) result self.old self.new }
         ensures ready { (start : Start) (c : Chronicle) → Stands stream_of_source start self.old.node c → IsReady self.old → IsReady self.new }
+        ensures leases { KeepsLeases self.old self.new }
     {
         if let Some(past) = self.past(now) {
             return Ok(past);
         }
         self.settle(now)?;
+        self.paths.forget();
         self.node.send_copied(
             now,
             source,
@@ -201,6 +228,7 @@ impl Session {
         ensures rest { OnOk result (self.new.queue ≡ drop 1 self.old.queue) }
         ensures node { self.new.node ≡ self.old.node }
         ensures ready { OnOk result (IsReady self.old → IsReady self.new) }
+        ensures leases { KeepsLeases self.old self.new }
         ensures same { OnErr result (self.new ≡ self.old) }
 
         // It succeeds if the room is there, and if the report is no frame.
@@ -222,6 +250,7 @@ impl Session {
         ensures in_hand { OnOk result (IsInHand self.new.node self.new.room) }
         ensures node { self.new.node ≡ self.old.node }
         ensures queue { self.new.queue ≡ self.old.queue }
+        ensures paths { self.new.paths ≡ self.old.paths }
         ensures same { OnErr result (self.new ≡ self.old) }
         ensures kept { IsInHand self.old.node self.old.room → IsOk result }
     {
@@ -241,6 +270,7 @@ impl Session {
         ensures rest { self.new.queue ≡ drop 1 self.old.queue }
         ensures node { self.new.node ≡ self.old.node }
         ensures ready { result ≡ true → IsReady self.old → IsReady self.new }
+        ensures leases { KeepsLeases self.old self.new }
         ensures kept { IsInHand self.old.node self.old.room → (result ≡ true) × (self.new.room ≡ self.old.room) }
         ensures other { IfSome (slice_get self.old.queue 0) (λ report. frame_sent (happening report.1) ≡ []) → result ≡ true }
     {
@@ -257,6 +287,7 @@ impl Session {
     fn refill(&mut self, block: Vec<u8, Global>) -> bool
         ensures node { self.new.node ≡ self.old.node }
         ensures queue { self.new.queue ≡ self.old.queue }
+        ensures paths { self.new.paths ≡ self.old.paths }
         ensures in_hand { result ≡ true → IsInHand self.new.node self.new.room }
         ensures kept { IsInHand self.old.node self.old.room → (result ≡ true) × (self.new.room ≡ self.old.room) }
         ensures long { headers_length + max (longest_due self.old.node) longest_message ≤ vec_capacity block → result ≡ true }

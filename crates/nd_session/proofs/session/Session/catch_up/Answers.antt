@@ -6,6 +6,7 @@ use Rattle.nd_session.specs.Ready.{IsReady}
 use Rattle.nd_session.specs.declared.session.Session.{Session}
 use Rattle.nd_session.proofs.Behind.{leads_behind_both, leads_same, on_err, on_ok}
 use Rattle.nd_session.proofs.Keeping.{due_alone, in_hand_at_nothing, nothing_left, ready_behind, ready_same, something_left}
+use Rattle.nd_session.proofs.Remembered.{remembers_nothing}
 use Rattle.nd_session.proofs.session.Session.catch_up.Goals as goal
 
 pub returns-then-not-is_empty-clause-passes : goal.returns-then-not-is_empty-clause-passes
@@ -80,3 +81,9 @@ returns-clause-ready c = λ ready.
     let is : after ≡ outs = ap (λ l. reverse l ++ (reverse q.front.items ++ q.back.items)) c.reverse.ensures.items ∙ due_alone q.due.items q.front.items q.back.items outs e in
     ready_same c.self.inside.0.0 c.settle_in-settled.new.self c.self.inside.0.1.1.0 c.settle_in-settled.new.room c.settle_in-settled.ensures.longest c.clear.new.self.items outs all after
     (e ∙ sym c.clear.ensures.items) is c.settle_in-settled.ensures.room c.settle_in-settled.ensures.grows (subst IsReady (sym c.self.view_is) ready)
+
+pub invariant_of-self-inside : goal.invariant_of-self-inside
+invariant_of-self-inside c = record { remembered = remembers_nothing c.forget.new.self c.settle_in.new.self c.forget.ensures.forgotten }
+
+pub invariant_of-self-inside-2 : goal.invariant_of-self-inside-2
+invariant_of-self-inside-2 c = record { remembered = remembers_nothing c.forget.new.self c.settle_in-settled.new.self c.forget.ensures.forgotten }

@@ -13,6 +13,7 @@ use Rattle.nd_session.specs.Ready.{IsReady}
 use Rattle.nd_session.specs.declared.session.Session.{Session}
 use Rattle.nd_session.proofs.Behind.{adds_behind, event_taken, on_err}
 use Rattle.nd_session.proofs.Keeping.{event_ready}
+use Rattle.nd_session.proofs.Remembered.{remembers_nothing}
 use Rattle.nd_session.proofs.session.Session.send.Goals as goal
 
 pub returns-clause-takes : goal.returns-clause-takes
@@ -41,3 +42,6 @@ returns-clause-ready c = λ start history s ready.
     (IfOk-weaker c.send_copied.result _ _ (λ a adds. adds_behind stream_of_source c.self.inside.0.0 c.send_copied.new.self (reverse q.due.items) (reverse q.front.items) q.back.items c.send_copied.new.outs.items c.args.now event (answer_of a) adds) c.send_copied.ensures.adds)
     c.send_copied.ensures.stays (on_err c.send_copied.result (ap (λ l. reverse q.due.items ++ (reverse q.front.items ++ l))) c.send_copied.ensures.told)
     start history s (subst IsReady (sym c.self.view_is) (c.in_ok-settle.ensures.ready ready))
+
+pub invariant_of-self-inside : goal.invariant_of-self-inside
+invariant_of-self-inside c = record { remembered = remembers_nothing c.forget.new.self c.send_copied.new.self c.forget.ensures.forgotten }

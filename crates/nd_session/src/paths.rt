@@ -1,0 +1,135 @@
+//! The paths that a session remembers: where packets to a destination go within a lease (RFC 4861, sections 5.2 and 7.3.3). The definitions are in
+//! `specs/Slots.antt`.
+
+ghost use Rattle.std.specs.Prelude.{◌≡◌, ◌⊎◌, ◌<◌, ◌≤◌, ◌^◌, ◌-◌, Contains, IfOk, IfSome};
+
+use nd_addr::{Addr, Mac};
+use nd_neighbour::Reachability;
+use std::alloc::{AllocError, Global};
+use std::marker::Model;
+
+/// The last version, at which nothing is remembered.
+const LAST_VERSION: u64 = u64::MAX;
+
+/// The fractional part of the golden ratio, times 2^128, as multiplicative hashing takes it (Knuth, The Art of Computer Programming, 6.4).
+const GOLDEN: u128 = 0x9e37_79b9_7f4a_7c15_f39c_c060_5ced_c835;
+
+/// Where packets to a destination go, from one moment on up to the end of a lease; both are in milliseconds.
+#[derive(Clone, Copy, Debug)]
+pub(crate) struct LeasedPath {
+    pub(crate) destination: Addr,
+    /// The neighbour that they go to, or the destination itself.
+    pub(crate) to: Addr,
+    pub(crate) mac: Mac,
+    /// The state of the neighbour. A multicast destination has none.
+    pub(crate) state: Option<Reachability>,
+    pub(crate) from: u64,
+    pub(crate) until: u64,
+    /// The version at which it was remembered.
+    pub(crate) version: u64,
+}
+
+/// The paths of the destinations that were asked for, each in the slot of its destination. Those of an earlier version are forgotten.
+#[derive(Drop)]
+pub struct Paths {
+    slots: Vec<LeasedPath, Global>,
+    version: u64,
+}
+
+impl Model for Paths {
+    ghost use Rattle.nd_session.specs.Slots.{AreOlder, Slots};
+
+    ghost Value = { Slots };
+
+    ghost view = { λ p. record { paths = p.slots.items; version = p.version } };
+
+    ghost invariant = { λ p. AreOlder p.version p.slots.items };
+}
+
+impl Paths {
+    ghost use Rattle.nd_session.specs.Slots.{AreForgotten, IsRecalled};
+
+    /// Returns as many slots as destinations, or the next lower power of two. Nothing is remembered. Returns an error if out of memory.
+    pub(crate) fn new(alloc: Global, destinations: usize) -> Result<Paths, AllocError>
+        ensures { IfOk result (λ paths. AreForgotten paths) }
+    {
+        let none = LeasedPath {
+            destination: Addr::UNSPECIFIED,
+            to: Addr::UNSPECIFIED,
+            mac: Mac([0; 6]),
+            state: None,
+            from: 0,
+            until: 0,
+            version: 0,
+        };
+        let slots = vec![in alloc; none; slots_for(destinations)]?;
+        Ok(Paths { slots, version: 1 })
+    }
+
+    /// Returns the version of what is remembered.
+    pub(crate) fn version(&self) -> u64
+        ensures { result ≡ self.now.version }
+    {
+        self.version
+    }
+
+    /// Forgets what is remembered. The version grows, unless it is the last one.
+    pub(crate) fn forget(&mut self)
+        ensures forgotten { AreForgotten self.new }
+        ensures least { self.old.version ≤ self.new.version }
+        ensures grows { self.old.version < 2 ^ 64 - 1 → self.old.version < self.new.version }
+    {
+        if self.version < LAST_VERSION {
+            self.version += 1;
+        }
+    }
+
+    /// Returns what is remembered of a destination, if `now`, in milliseconds, is within its lease.
+    pub(crate) fn recall(&self, now: u64, destination: Addr) -> Option<LeasedPath>
+        ensures { IfSome result (λ path. IsRecalled self.now now destination path) }
+    {
+        let path = self.slots.get(self.slot_of(destination))?;
+        if path.version == self.version
+            && path.destination == destination
+            && path.from <= now
+            && now < path.until
+        {
+            return Some(*path);
+        }
+        None
+    }
+
+    /// Remembers a path in the slot of its destination.
+    pub(crate) fn remember(&mut self, mut path: LeasedPath)
+        ensures version { self.new.version ≡ self.old.version }
+        ensures paths { (p : _) → Contains self.new.paths p → Contains self.old.paths p ⊎ (p ≡ record path { version = self.old.version }) }
+    {
+        path.version = self.version;
+        let slot = self.slot_of(path.destination);
+        if slot < self.slots.len() && self.version < LAST_VERSION {
+            self.slots[slot] = path;
+        }
+    }
+
+    /// Returns the slot of a destination. The upper bits of the product depend on all bits of the address, so that near ones, and those with one identifier
+    /// behind several prefixes, have different slots.
+    fn slot_of(&self, destination: Addr) -> usize {
+        let product = destination.to_bits().wrapping_mul(GOLDEN);
+        (product >> 120) as usize & self.slots.len().wrapping_sub(1)
+    }
+}
+
+/// Returns the greatest power of two that isn't above a number of destinations, 256 at most.
+fn slots_for(destinations: usize) -> usize {
+    match destinations {
+        0..=1 => 1,
+        2..=3 => 2,
+        4..=7 => 4,
+        8..=15 => 8,
+        16..=31 => 16,
+        32..=63 => 32,
+        64..=127 => 64,
+        128..=255 => 128,
+        _ => 256,
+    }
+}
