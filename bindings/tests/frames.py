@@ -76,6 +76,12 @@ def answer(mac, flags=0x60, flip=0):
     return frame(link_local(mac), HOST, mac, bytes([136, 0, 0, 0, flags, 0, 0, 0]) + packed(link_local(mac)) + link_layer(2, mac), flip)
 
 
+def moved(mac):
+    """Returns an unsolicited advertisement of a neighbour that has another link-layer address now: it is STALE then (RFC 4861, 7.2.5)."""
+    new = "02:00:00:03" + mac[11:]
+    return frame(link_local(mac), "ff02::1", new, bytes([136, 0, 0, 0, 0x20, 0, 0, 0]) + packed(link_local(mac)) + link_layer(2, new))
+
+
 def redirect(k, flip=0):
     message = bytes([137]) + bytes(7) + packed(link_local(ROUTER_MAC)) + packed(f"2001:db8:99::{1 + k:x}") + link_layer(2, ROUTER_MAC)
     return frame(link_local(ROUTER_MAC), HOST, ROUTER_MAC, message, flip)
