@@ -144,6 +144,16 @@ def check_global(program, what="global"):
     check_last_line(what, [program, *ROUTER], with_a_moment(text))
 
 
+def check_keeping(program, what="stack"):
+    """Requires that the stack that keeps its packets sends the frames that a node sends by `ndpctl run` which keeps them itself."""
+    text = read(f"{TOP}/examples/stack.hex")
+    said = check_runs(what, [program, *HOST], text)
+    sent = [line for line in read(f"{TOP}/examples/scripts/stack.output").splitlines() if line.split()[1] == "tx"]
+    wanted = read(f"{TOP}/examples/stack.txt")
+    report_if(f"{what} prints the expected text", said == wanted and wanted.splitlines()[:len(sent)] == sent, said)
+    check_last_line(what, [program, *HOST], with_a_moment(text))
+
+
 def check_traces(program, what="trace"):
     """Runs the rows of `ndpctl run` over the library, and compares what it prints with their texts."""
     wrong = []
@@ -315,6 +325,9 @@ def check_examples(room, archive):
     with_global = build(room, "global", [f"{TOP}/examples/c/global.c", HEAP, archive])
     if with_global:
         check_global(with_global)
+    stack = build(room, "stack", [f"{TOP}/examples/c/stack.c", HEAP, archive])
+    if stack:
+        check_keeping(stack)
     loop = build(room, "loop", [f"{TOP}/examples/c/loop.c", HEAP, archive])
     if loop and not os.environ.get("ND_LIVE"):
         skip("loop on a TAP device", "it takes the kernel's time: ND_LIVE=1 runs it")
