@@ -8,6 +8,7 @@
  *   It ends with 0 if no call returned ND_NO_MEMORY, and with 3 if one did: the line says in which part. */
 #include "ranges.h"
 #include "spelled.h"
+#include "words.h"
 
 enum { OPENED_AT = 3000, RA_FIELDS = 16, UNIT = 16, SHORTEST = 200, RANDOM_STEPS = 6000, STAGES = 5, LAST_KIND = ND_OUT_RESOLVED, SPENT = 3 };
 
@@ -18,7 +19,7 @@ size_t nd_pool_units;
 static nd_node node = ND_NODE_INIT;
 static nd_limits limits;
 static uint32_t role;
-static uint64_t now = OPENED_AT, random_state;
+static uint64_t now = OPENED_AT;
 static size_t longest, neighbours, routers, waiting, names;
 static uint64_t retrans; /* RetransTimer, in milliseconds */
 static const char *step;
@@ -34,20 +35,6 @@ static const uint8_t ALL_NODES[16] = {0xff, 2, [15] = 1};
 
 /* A prefix that is on the link of the router. */
 static const uint8_t ON_LINK[16] = {0x20, 1, 0xd, 0xb8, 5};
-
-/* Returns the next random word (splitmix64). */
-static uint64_t next(void)
-{
-    uint64_t z = random_state += UINT64_C(0x9e3779b97f4a7c15);
-    z = (z ^ (z >> 30)) * UINT64_C(0xbf58476d1ce4e5b9);
-    z = (z ^ (z >> 27)) * UINT64_C(0x94d049bb133111eb);
-    return z ^ (z >> 31);
-}
-
-static size_t below(size_t bound)
-{
-    return bound == 0 ? 0 : (size_t)(next() % bound);
-}
 
 /* ---- calls ----------------------------------------------------------------------------------- */
 

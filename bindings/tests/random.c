@@ -10,6 +10,7 @@
  *   The last lines are the counts. */
 #include "heap.h"
 #include "busy.h"
+#include "words.h"
 
 #include <inttypes.h>
 
@@ -24,7 +25,7 @@ static const nd_limits SMALL = {.neighbours = NEIGHBOURS, .routers = ROUTERS, .w
 
 static nd_node node;
 static uint32_t role;
-static uint64_t random_state, now = OPENED_AT;
+static uint64_t now = OPENED_AT;
 static uint8_t buffer[2 * LONGEST];
 static size_t held_most, peak_most, records_most, bound;
 static uint64_t reported = FIRST_HASH; /* the hash of all records but those of frames that were dropped or refused */
@@ -39,15 +40,6 @@ static size_t heard[TYPES], up, in_transit, dropped[REASONS], refused[LIMITS], e
 
 /* ---- random frames --------------------------------------------------------------------------- */
 
-/* Returns the next random word (splitmix64). */
-static uint64_t next(void)
-{
-    uint64_t z = random_state += UINT64_C(0x9e3779b97f4a7c15);
-    z = (z ^ (z >> 30)) * UINT64_C(0xbf58476d1ce4e5b9);
-    z = (z ^ (z >> 27)) * UINT64_C(0x94d049bb133111eb);
-    return z ^ (z >> 31);
-}
-
 /* Names the request of the next call that is refused, or none. */
 static void refuse_some(void)
 {
@@ -57,17 +49,6 @@ static void refuse_some(void)
 
 /* Makes a call, and again while memory is refused. */
 #define RETRIED(status, call) while (refuse_some(), (status = (call)) == ND_NO_MEMORY) again++
-
-static size_t below(size_t limit)
-{
-    return (size_t)(next() % limit);
-}
-
-/* Returns true once in `times`. */
-static bool once_in(size_t times)
-{
-    return below(times) == 0;
-}
 
 /* Returns one of the own addresses, or one that is near. */
 static nd_addr an_own(void)
