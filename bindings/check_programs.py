@@ -6,7 +6,7 @@ import shutil
 import sys
 
 from check_hostile import check_hostile
-from checking import INCLUDE, TOP, WARNINGS, has, read, report, report_if, run, skip, timed
+from checking import INCLUDE, IS_FULL, TOP, WARNINGS, has, read, report, report_if, run, skip, timed
 
 BINDINGS = f"{TOP}/bindings"
 TESTS = f"{BINDINGS}/tests"
@@ -28,6 +28,7 @@ NDPCTL = f"{TOP}/crates/ndpctl/out/ndpctl"
 MIXED = "\n".join(frames.mixed(300)) + "\n"
 FEW = "\n".join(frames.mixed(40)) + "\n"
 FULL = "\n".join(frames.full(2049)) + "\n"
+STEADY = "\n".join(frames.steady(1000)) + "\n"
 NAMED = hostile.named()[0]
 # The limits of a small node, in the order of nd.h.
 SMALL = [8, 2, 4, 4, 2, 2, 4, 8, 1, 1, 3]
@@ -280,6 +281,7 @@ def check_tests(room, archive):
     size = build(room, "bytes", [f"{TESTS}/bytes.c", COUNTING, archive])
     if size:
         check_bytes(size)
+    check_leases(room, archive)
     pooled = build(room, "pooled", [f"{TESTS}/pooled.c", POOL, archive], "-DND_POOL_GIVEN")
     if pooled:
         check_pool(pooled)
@@ -290,6 +292,18 @@ def check_tests(room, archive):
     with timed("hostile input"):
         check_hostile(room, archive, build, trace)
     build(room, "measure", [f"{TESTS}/measure.c", HEAP, archive])
+
+
+def check_leases(room, archive):
+    """Compares nodes that remember their answers with ones that forget them, and nodes that are asked with ones whose leases are used."""
+    program = build(room, "leases", [f"{TESTS}/leases.c", COUNTING, archive])
+    for number, role in ((0, "host"), (1, "router")) if program else ():
+        for seed in range(4861, 4861 + (4 if IS_FULL else 1)):
+            said = run([program, str(number), "20000", str(seed)], input=STEADY)
+            report(f"leases: {role}, 20000 questions and 20000 packets with each limit, seed {seed}", said)
+            print(said.stdout, end="")
+        if has("valgrind", f"leases: {role}, under valgrind"):
+            report(f"leases: {role}, under valgrind", run([*VALGRIND, program, str(number), "300", "4861"], input=STEADY))
 
 
 def check_bare(room, archive):

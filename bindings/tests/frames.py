@@ -1,7 +1,7 @@
 #!/usr/bin/env python3
 """frames KIND COUNT: frames for the tests, one a line in hexadecimal digits, as a host of 34:56:78:9a:bc:de receives them. KIND is `mixed`: COUNT of
-all kinds; or `full`: frames that ask for more rows than the tables take, COUNT neighbours among them. They are made here from the layouts of the
-RFCs, and are the same each time. Other scripts import it."""
+all kinds; `full`: frames that ask for more rows than the tables take, COUNT neighbours among them; or `steady`: COUNT frames of few neighbours, most
+of which answer. They are made here from the layouts of the RFCs, and are the same each time. Other scripts import it."""
 import ipaddress
 import random
 import struct
@@ -72,19 +72,23 @@ def solicitation(mac, flip=0):
     return frame(link_local(mac), solicited_node(HOST), mac, bytes([135]) + bytes(7) + packed(HOST) + link_layer(1, mac), flip)
 
 
-def answer(mac, flags=0x60, flip=0):
-    return frame(link_local(mac), HOST, mac, bytes([136, 0, 0, 0, flags, 0, 0, 0]) + packed(link_local(mac)) + link_layer(2, mac), flip)
+def answer(mac, flags=0x60, flip=0, address=None):
+    """Returns a solicited advertisement of a neighbour, of its link-local address or of another one."""
+    address = address or link_local(mac)
+    return frame(address, HOST, mac, bytes([136, 0, 0, 0, flags, 0, 0, 0]) + packed(address) + link_layer(2, mac), flip)
 
 
-def moved(mac):
+def moved(mac, flags=0x20):
     """Returns an unsolicited advertisement of a neighbour that has another link-layer address now: it is STALE then (RFC 4861, 7.2.5)."""
     new = "02:00:00:03" + mac[11:]
-    return frame(link_local(mac), "ff02::1", new, bytes([136, 0, 0, 0, 0x20, 0, 0, 0]) + packed(link_local(mac)) + link_layer(2, new))
+    return frame(link_local(mac), "ff02::1", new, bytes([136, 0, 0, 0, flags, 0, 0, 0]) + packed(link_local(mac)) + link_layer(2, new))
 
 
-def redirect(k, flip=0):
-    message = bytes([137]) + bytes(7) + packed(link_local(ROUTER_MAC)) + packed(f"2001:db8:99::{1 + k:x}") + link_layer(2, ROUTER_MAC)
-    return frame(link_local(ROUTER_MAC), HOST, ROUTER_MAC, message, flip)
+def redirect(k, flip=0, mac=ROUTER_MAC, target=None):
+    """Returns a Redirect of a router, for one of the destinations behind it: to itself, or to the link-local address of another router."""
+    target = target or mac
+    message = bytes([137]) + bytes(7) + packed(link_local(target)) + packed(f"2001:db8:99::{1 + k:x}") + link_layer(2, target)
+    return frame(link_local(mac), HOST, mac, message, flip)
 
 
 def router_solicitation(mac):
@@ -142,8 +146,28 @@ def full(count):
         yield solicitation(neighbour(i))
 
 
+ROUTER_MACS = (ROUTER_MAC, "02:00:00:02:00:01", "02:00:00:02:00:02")
+
+
+def steady(count):
+    """Yields frames of three routers, of eight neighbours with link-local addresses, and of three on a prefix. Most answer; now and then one has another
+    link-layer address, a router is none any longer, its advertisement or a prefix of it ends soon, or it redirects to another router."""
+    choice = random.Random(2461)
+    yield solicitation(neighbour(0))
+    for _ in range(1, count):
+        router, other, mac, k = choice.choice(ROUTER_MACS), choice.choice(ROUTER_MACS), neighbour(choice.randrange(8)), choice.randrange(8)
+        options = link_layer(1, router) + prefix("2001:db8:1::", 0xC0, choice.choice((4, 30, 2592000)), 3)
+        on_prefix = answer(neighbour(0x80 + k % 3), address=f"2001:db8:1::{1 + k % 3}")
+        announced = advertisement(router, options, choice.choice((0, 20, 1800, 1800, 1800)), choice.choice((0, 0, 8, 24)))
+        usual = [answer(mac), answer(mac), answer(router, 0xE0), answer(router, 0xE0), on_prefix, answer(mac, 0x20), solicitation(mac), echo(mac), announced]
+        redirected = redirect(k, 0, router, other)
+        yield choice.choice(usual * 3 + [moved(mac), moved(router, 0xA0), answer(router), redirected, redirected])
+
+
+KINDS = {"mixed": mixed, "full": full, "steady": steady}
+
 if __name__ == "__main__":
-    if len(sys.argv) != 3 or sys.argv[1] not in ("mixed", "full"):
+    if len(sys.argv) != 3 or sys.argv[1] not in KINDS:
         sys.exit(__doc__)
-    for line in (mixed if sys.argv[1] == "mixed" else full)(int(sys.argv[2])):
+    for line in KINDS[sys.argv[1]](int(sys.argv[2])):
         print(line)

@@ -1,0 +1,391 @@
+/* leases: what a node remembers of its answers to nd_resolve does not show, and a packet that is sent in a lease leaves the node as a question does.
+ * The arguments are the role, a number of `enum nd_role`; the steps of each run; and the seed. Reads frames (`frames.py steady`).
+ *   Two nodes get the same frames, calls and moments. In a run of questions both are asked where packets go, and the second one is made to forget its
+ * answers before each, by nd_confirm of an address that no neighbour has. In a run of packets the first one is asked for each, the second one only if
+ * no lease of its own holds: else its time passes, and nothing is due. It requires after each step that both returned and reported the same, and show
+ * the same; at the end that they do so later, too; that a path which is asked for in its lease is as it was; and that a tenth of the steps is in a
+ * lease.
+ *   The version of leases grows with each event, and with nd_turn and nd_next_hop where something is due. It stays with all else that changes no more
+ * than the moment, and never falls. The lines are the counts of each run. */
+#include "heap.h"
+#include "busy.h"
+#include "words.h"
+
+enum { MOST_DESTINATIONS = 400, OPENED_AT = 3000, OF_SOURCE = 22, OF_REDIRECT = 78, STATUSES = 4, PHASE = 100 };
+
+/* Limits of a node, and how many destinations it is asked for. */
+static const struct setting {
+    uint16_t destinations, neighbours;
+    size_t asked;
+} SETTINGS[] = {{1, 32, 32}, {3, 8, 48}, {256, 32, 32}, {256, 32, MOST_DESTINATIONS}};
+
+/* No frame has it, and no packet goes to it. */
+static const nd_addr NO_NEIGHBOUR = {{0x20, 1, 0xd, 0xb8, 0xff, [15] = 1}};
+
+static struct frame frames[MOST_FRAMES];
+static nd_addr destinations[MOST_DESTINATIONS];
+static size_t frame_count, destination_count, asked, last_asked, before_last;
+static nd_node one = ND_NODE_INIT, other = ND_NODE_INIT;
+static uint32_t role;
+static uint64_t now;
+
+/* The last answer for each destination, of the first node in a run of questions, of the second one in a run of packets. */
+static nd_path answers[MOST_DESTINATIONS];
+
+/* Of the questions or packets of a run: the statuses, and how many were in a lease, and how many of those after one for another destination. */
+static size_t statuses[STATUSES], in_lease, in_others;
+
+/* ---- destinations ---------------------------------------------------------------------------- */
+
+static void add_destination(const nd_addr *address)
+{
+    for (size_t i = 0; i < destination_count; i++)
+        if (memcmp(&destinations[i], address, sizeof *address) == 0)
+            return;
+    if (destination_count < MOST_DESTINATIONS)
+        destinations[destination_count++] = *address;
+}
+
+static void add_bytes(const uint8_t *bytes)
+{
+    nd_addr address;
+    memcpy(&address, bytes, sizeof address);
+    add_destination(&address);
+}
+
+/* Makes the destinations: sources of the frames, groups, addresses that no neighbour has, destinations of Redirects, and some behind a router. */
+static void make_destinations(void)
+{
+    static const nd_addr OTHERS[] = {{{0xff, 2, [15] = 1}}, {{0xff, 2, [13] = 1, [15] = 2}}, {{0xfe, 0x80, [15] = 0x77}}, {{0}},
+                                     {{0x20, 1, 0xd, 0xb8, 0, 1, [15] = 0x77}}};
+    nd_addr far = {{0x20, 1, 0xd, 0xb8, 0, 0xaa}};
+    for (size_t i = 0; i < frame_count; i++)
+        add_bytes(frames[i].bytes + OF_SOURCE);
+    for (size_t i = 0; i < sizeof OTHERS / sizeof *OTHERS; i++)
+        add_destination(&OTHERS[i]);
+    add_destination(&LINK_LOCAL);
+    for (size_t i = 0; i < frame_count; i++)
+        if (frames[i].bytes[54] == 137)
+            add_bytes(frames[i].bytes + OF_REDIRECT);
+    while (destination_count < MOST_DESTINATIONS) {
+        far.bytes[14] = (uint8_t)(destination_count >> 8);
+        far.bytes[15] = (uint8_t)destination_count;
+        add_destination(&far);
+    }
+}
+
+/* Returns the number of a destination: often the last one, or one of the first, which the frames are about; and mostly one whose last answer had a
+ * link-layer address. */
+static size_t a_destination(void)
+{
+    before_last = last_asked;
+    if (once_in(4))
+        return last_asked;
+    for (size_t tries = 1 + below(8); tries > 0; tries--) {
+        last_asked = below(once_in(4) ? asked : 16);
+        if (answers[last_asked].has_mac == 1)
+            break;
+    }
+    return last_asked;
+}
+
+/* ---- events ---------------------------------------------------------------------------------- */
+
+enum call { RECEIVE, SEND, CONFIRM, FORGET, CLEAR, ADD_ADDRESS, REMOVE_ADDRESS, ROUTE, TURN, NEXT_HOP };
+
+/* A call, and what it is passed. */
+struct act {
+    enum call call;
+    const struct frame *frame;
+    nd_addr address;
+    uint32_t number;
+};
+
+/* Returns a frame: mostly an answer for which a neighbour is solicited. */
+static const struct frame *a_frame(void)
+{
+    const struct frame *frame = NULL;
+    for (size_t tries = 1 + below(24); tries > 0; tries--) {
+        nd_addr source;
+        nd_neighbour_row row;
+        frame = &frames[below(frame_count)];
+        memcpy(&source, frame->bytes + OF_SOURCE, sizeof source);
+        if (frame->bytes[54] == 136 && nd_neighbour_of(&one, now, &source, &row) == ND_DONE &&
+            (row.state == ND_REACHABILITY_INCOMPLETE || row.state == ND_REACHABILITY_PROBE))
+            break;
+    }
+    return frame;
+}
+
+static struct act an_act(void)
+{
+    static const enum call OFTEN[] = {RECEIVE, RECEIVE, RECEIVE, RECEIVE, RECEIVE, RECEIVE, SEND, SEND, CONFIRM, CONFIRM, TURN, NEXT_HOP, NEXT_HOP};
+    static const enum call SELDOM[] = {FORGET, FORGET, CLEAR, ADD_ADDRESS, REMOVE_ADDRESS, ROUTE};
+    struct act act = {.frame = a_frame(), .address = destinations[a_destination()], .number = (uint32_t)below(5)};
+    act.call = once_in(20) ? SELDOM[below(sizeof SELDOM / sizeof *SELDOM)] : OFTEN[below(sizeof OFTEN / sizeof *OFTEN)];
+    return act;
+}
+
+static int32_t done(nd_node *node, const struct act *act)
+{
+    const nd_own_address own = {{{0x20, 1, 0xd, 0xb8, 0, 1, [15] = (uint8_t)(0x50 + act->number)}}, 20 + act->number, 10};
+    const nd_route_row route = {{{0x20, 1, 0xd, 0xb8, 0, 0xaa}}, destinations[act->number], 64, act->number == 0 ? ND_HOP_DIRECT : ND_HOP_VIA};
+    nd_next_hop_row hop;
+    switch (act->call) {
+    case RECEIVE: return nd_receive(node, now, act->frame->bytes, act->frame->length);
+    case SEND: return nd_send(node, now, &LINK_LOCAL, &act->address, 17, PAYLOAD, sizeof PAYLOAD);
+    case CONFIRM: return nd_confirm(node, now, &act->address);
+    case FORGET: return nd_forget(node, now, &act->address);
+    case CLEAR: return nd_clear(node, now, 1 + act->number);
+    case ADD_ADDRESS: return nd_add_address(node, now, &own);
+    case REMOVE_ADDRESS: return nd_remove_address(node, now, &own.address);
+    case ROUTE: return nd_route(node, now, &route);
+    case TURN: return nd_turn(node, now);
+    default: return nd_next_hop(node, now, &act->address, &hop);
+    }
+}
+
+/* Makes a call, and requires that the version is what nd.h says of it. Returns the status. */
+static int32_t with_version(nd_node *node, const struct act *act)
+{
+    uint64_t before = nd_lease_version(node), due = nd_next_due(node), after;
+    int32_t status = done(node, act);
+    after = nd_lease_version(node);
+    require(after >= before, "the version never falls");
+    if (act->call == TURN || act->call == NEXT_HOP)
+        require((after > before) == (due <= now), "nd_turn and nd_next_hop raise the version where something is due, and else keep it");
+    else
+        require(after > before || status == ND_REFUSED, "an event raises the version");
+    return status;
+}
+
+static void act_at_both(void)
+{
+    struct act act = an_act();
+    int32_t status = with_version(&one, &act);
+    require(status >= 0 && with_version(&other, &act) == status, "both nodes return the same status");
+}
+
+/* ---- questions and packets ------------------------------------------------------------------- */
+
+/* Returns true if two paths are the same but for their versions. */
+static bool are_same(nd_path path, nd_path another)
+{
+    path.version = another.version = 0;
+    return memcmp(&path, &another, sizeof path) == 0;
+}
+
+static bool holds(const nd_path *lease, nd_node *node)
+{
+    return now < lease->until && lease->version == nd_lease_version(node);
+}
+
+/* Asks a node, and requires that the version is that of the node behind the answer. */
+static int32_t path_of(nd_node *node, size_t to, nd_path *path)
+{
+    uint64_t before = nd_lease_version(node);
+    int32_t status = nd_resolve(node, now, &destinations[to], path);
+    require(status >= 0 && nd_lease_version(node) >= before, "a question does not lower the version");
+    require(path->version == (status == ND_DONE ? nd_lease_version(node) : 0), "a lease has the version of the node");
+    return status;
+}
+
+static void count(int32_t status, bool is_in_lease, size_t to)
+{
+    statuses[status]++;
+    in_lease += is_in_lease;
+    in_others += is_in_lease && to != before_last;
+}
+
+/* Asks both nodes, the second one once it has forgotten what it answered. */
+static void ask_both(size_t to)
+{
+    bool is_in_lease = holds(&answers[to], &one);
+    nd_path before = answers[to], path;
+    int32_t status = path_of(&one, to, &answers[to]);
+    require(!is_in_lease || (status == ND_DONE && memcmp(&answers[to], &before, sizeof before) == 0), "a path in its lease is as it was");
+    require(nd_confirm(&other, now, &NO_NEIGHBOUR) == ND_DONE, "no neighbour is confirmed");
+    require(path_of(&other, to, &path) == status && are_same(path, answers[to]), "a path is that of a node that remembers none");
+    count(status, is_in_lease, to);
+}
+
+/* Sends a packet from both nodes. The first one is asked, the second one if it gave no lease that holds. */
+static void send_both(size_t to)
+{
+    bool is_in_lease = holds(&answers[to], &other);
+    nd_path path;
+    int32_t status = path_of(&one, to, &path);
+    if (is_in_lease) {
+        require(nd_next_due(&other) > now && nd_turn(&other, now) == ND_DONE, "nothing is due in a lease");
+        require(status == ND_DONE && are_same(path, answers[to]), "a lease has the path of a question");
+    } else
+        require(path_of(&other, to, &answers[to]) == status && are_same(path, answers[to]), "both nodes answer the same");
+    count(status, is_in_lease, to);
+}
+
+/* ---- runs ------------------------------------------------------------------------------------ */
+
+static void open_node(nd_node *node, const struct setting *setting)
+{
+    const nd_advertising settings = {.min_interval = 200, .max_interval = 600, .lifetime = 1800, .hop_limit = 64};
+    const nd_route_row direct = {{{0x20, 1, 0xd, 0xb8, 0, 1}}, {{0}}, 64, ND_HOP_DIRECT};
+    const nd_route_row far = {{{0x20, 1, 0xd, 0xb8}}, destinations[1], 32, ND_HOP_VIA};
+    nd_options options = host_options();
+    options.role = role;
+    options.draws = ND_DRAWS_SEED;
+    options.limits.destinations = setting->destinations;
+    options.limits.neighbours = setting->neighbours;
+    require(nd_open(node, &options, sizeof options) == ND_DONE && nd_turn(node, OPENED_AT) == ND_DONE, "nd_open");
+    if (role == ND_ROLE_ROUTER) {
+        require(nd_route(node, OPENED_AT, &direct) == ND_DONE && nd_route(node, OPENED_AT, &far) == ND_DONE, "nd_route");
+        require(nd_advertise(node, OPENED_AT, &settings) == ND_DONE, "nd_advertise");
+    }
+}
+
+/* Requires that both nodes have reported the same, and show the same. */
+static void require_same(void)
+{
+    require(drain(&one, FIRST_HASH) == drain(&other, FIRST_HASH), "both nodes report the same");
+    require(nd_next_due(&one) == nd_next_due(&other), "the same is due at both nodes");
+    require(tables_of(&one, now) == tables_of(&other, now), "both nodes show the same");
+}
+
+/* Runs steps, most of which are questions, or packets. */
+static void run(const char *what, const struct setting *setting, size_t steps, void (*question)(size_t))
+{
+    static const uint64_t STEPS[] = {0, 1, 1, 10, 50, 100, 500, 3000};
+    open_node(&one, setting);
+    open_node(&other, setting);
+    now = OPENED_AT;
+    asked = setting->asked;
+    in_lease = in_others = last_asked = 0;
+    memset(answers, 0, sizeof answers);
+    memset(statuses, 0, sizeof statuses);
+    require_same();
+    for (size_t i = 0; i < steps; i++) {
+        bool is_quiet = i / PHASE % 2 == 0;
+        now += once_in(is_quiet ? 20 : 3) ? STEPS[below(sizeof STEPS / sizeof *STEPS)] : 0;
+        once_in(is_quiet ? 40 : 4) ? act_at_both() : question(a_destination());
+        require_same();
+    }
+    require(later_of(&one) == later_of(&other), "both nodes report and show the same later");
+    nd_close(&one);
+    nd_close(&other);
+    printf("  %s, %u destinations remembered, %zu asked: in a lease %zu, %zu of them after another destination; done %zu, waiting %zu, nothing %zu, "
+           "refused %zu\n", what, setting->destinations, asked, in_lease, in_others, statuses[ND_DONE], statuses[ND_WAITING], statuses[ND_NOTHING],
+           statuses[ND_REFUSED]);
+    require(in_lease >= steps / 10, "many packets are asked for or sent in a lease");
+}
+
+/* ---- versions -------------------------------------------------------------------------------- */
+
+/* Requires the status of a call at a node, and that the version is what it was, or a greater one. */
+#define KEEPS(call, wanted) require((call) == (wanted) && nd_lease_version(&one) == version, #call " keeps the version")
+#define RAISES(call, wanted) \
+    require((call) == (wanted) && nd_lease_version(&one) > version, #call " raises the version"), version = nd_lease_version(&one)
+
+/* Requires that each call returns an error for a moment, and keeps the version. */
+static void refuse_moment(uint64_t at, int32_t error, uint64_t version)
+{
+    const nd_own_address own = {{{0x20, 1, 0xd, 0xb8, [15] = 1}}, 20, 10};
+    const nd_advertising settings = {.min_interval = 200, .max_interval = 600};
+    const nd_offer_row offer = {.prefix = UNRESOLVED, .bits = 64};
+    const nd_route_row route = {.bits = 64, .hop = ND_HOP_DIRECT};
+    const struct frame *frame = &frames[0];
+    nd_next_hop_row hop;
+    nd_neighbour_row row;
+    nd_path path;
+    KEEPS(nd_turn(&one, at), error);
+    KEEPS(nd_receive(&one, at, frame->bytes, frame->length), error);
+    KEEPS(nd_send(&one, at, &LINK_LOCAL, &destinations[0], 17, PAYLOAD, sizeof PAYLOAD), error);
+    KEEPS(nd_confirm(&one, at, &destinations[0]), error);
+    KEEPS(nd_forget(&one, at, &destinations[0]), error);
+    KEEPS(nd_clear(&one, at, ND_CLEARABLE_NEIGHBOURS), error);
+    KEEPS(nd_add_address(&one, at, &own), error);
+    KEEPS(nd_remove_address(&one, at, &own.address), error);
+    KEEPS(nd_next_hop(&one, at, &destinations[0], &hop), error);
+    KEEPS(nd_resolve(&one, at, &destinations[0], &path), error);
+    KEEPS(nd_advertise(&one, at, &settings), error);
+    KEEPS(nd_offer(&one, at, &offer), error);
+    KEEPS(nd_route(&one, at, &route), error);
+    KEEPS(nd_stop(&one, at), error);
+    KEEPS(nd_neighbour_of(&one, at, &destinations[0], &row), error);
+}
+
+/* Requires that what is no event keeps the version, at a node that has just given this lease for the first destination. */
+static void keep_version(const nd_path *lease)
+{
+    const uint64_t version = lease->version, last = nd_last_moment(&one), later = lease->until - 1;
+    const nd_options options = host_options();
+    nd_neighbour_row row;
+    nd_next_hop_row hop;
+    nd_path path;
+    nd_out out;
+    uint8_t buffer[LONGEST_FRAME];
+    KEEPS(nd_poll(&one, &out, buffer, 0), ND_NO_ROOM);
+    KEEPS(nd_poll(&one, &out, buffer, sizeof buffer), ND_DONE);
+    drain(&one, FIRST_HASH);
+    KEEPS(nd_poll(&one, &out, buffer, sizeof buffer), ND_NOTHING);
+    tables_of(&one, last);
+    KEEPS(nd_neighbour_of(&one, later, &destinations[0], &row), ND_DONE);
+    KEEPS(nd_turn(&one, last), ND_DONE);
+    KEEPS(nd_resolve(&one, last, &destinations[0], &path) == ND_DONE && memcmp(&path, lease, sizeof path) == 0, true);
+    KEEPS(nd_turn(&one, last + 1), ND_DONE);
+    KEEPS(nd_next_hop(&one, last + 2, &destinations[0], &hop), ND_DONE);
+    refuse_moment(last, ND_PAST, version);
+    refuse_moment(ND_MOMENT_LIMIT, ND_INVALID, version);
+    KEEPS(nd_open(&one, &options, sizeof options), ND_INVALID);
+    KEEPS(nd_clear(&one, later, 0), ND_INVALID);
+    KEEPS(nd_add_address(&one, later, &(nd_own_address){{{0xff}}, 1, 1}), ND_INVALID);
+    KEEPS(nd_advertise(&one, later, &(nd_advertising){0}), ND_INVALID);
+    KEEPS(nd_offer(&one, later, &(nd_offer_row){.bits = 129}), ND_INVALID);
+    KEEPS(nd_route(&one, later, &(nd_route_row){.bits = 129}), ND_INVALID);
+    KEEPS(nd_resolve(&one, later, &destinations[0], &path) == ND_DONE && memcmp(&path, lease, sizeof path) == 0, true);
+}
+
+/* Requires what nd.h says of the version, call by call, at a node to which the first frame makes the first destination known. */
+static void try_versions(void)
+{
+    const struct frame *frame = &frames[0];
+    uint64_t version = 0;
+    nd_path path;
+    require(nd_lease_version(&one) == 0, "the version of a closed node is 0");
+    open_node(&one, &SETTINGS[0]);
+    now = OPENED_AT;
+    RAISES(nd_receive(&one, now, frame->bytes, frame->length), ND_DONE);
+    RAISES(nd_confirm(&one, now, &destinations[0]), ND_DONE);
+    require(path_of(&one, 0, &path) == ND_DONE && path.until > now + 4, "a neighbour that is confirmed has a lease");
+    keep_version(&path);
+    now = path.until, version = path.version;
+    RAISES(nd_turn(&one, now), ND_DONE);
+    RAISES(nd_send(&one, now, &LINK_LOCAL, &destinations[0], 17, PAYLOAD, sizeof PAYLOAD), ND_DONE);
+    RAISES(nd_confirm(&one, now, &NO_NEIGHBOUR), ND_DONE);
+    RAISES(nd_forget(&one, now, &destinations[0]), ND_DONE);
+    RAISES(nd_resolve(&one, now, &destinations[0], &path), ND_WAITING);
+    now = nd_next_due(&one);
+    RAISES(nd_turn(&one, now), ND_DONE);
+    nd_close(&one);
+    version = 0;
+    refuse_moment(now, ND_CLOSED, version);
+}
+
+int main(int argc, char **argv)
+{
+    size_t steps;
+    require(argc == 4, "leases ROLE STEPS SEED < frames");
+    role = (uint32_t)strtoul(argv[1], NULL, 10);
+    steps = strtoul(argv[2], NULL, 10);
+    random_state = strtoull(argv[3], NULL, 10);
+    frame_count = read_frames(frames);
+    require(frame_count > 0, "frames are read");
+    make_destinations();
+    printf("%s\n", role == ND_ROLE_HOST ? "host" : "router");
+    try_versions();
+    for (size_t i = 0; i < sizeof SETTINGS / sizeof *SETTINGS; i++) {
+        run("questions", &SETTINGS[i], steps, ask_both);
+        run("packets", &SETTINGS[i], steps, send_both);
+    }
+    require(heap_blocks == 0 && heap_now == 0, "all memory is given back");
+    free_frames(frames, frame_count);
+    return 0;
+}
