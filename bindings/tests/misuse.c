@@ -60,6 +60,7 @@ static void try_closed(nd_node *node)
     refuse_own(node, 0);
     is("what is due at a closed node", nd_next_due(node) == UINT64_MAX, true);
     is("the last moment of a closed node", nd_last_moment(node) == UINT64_MAX, true);
+    is("the version of leases of a closed node", nd_lease_version(node) == 0, true);
     is("a closed node and a moment that is none", nd_turn(node, ND_MOMENT_LIMIT), ND_INVALID);
     nd_close(node);
     is("a closed node that is closed", node->is_open, false);
@@ -419,14 +420,15 @@ static int32_t receive_digits(nd_node *node, uint64_t now, const char *digits)
     return nd_receive(node, now, frame, bytes_of(digits, frame, sizeof frame));
 }
 
-/* Requires that a path has this next hop, and this link-layer address, if it is known. */
-static void goes_to(const nd_path *path, const nd_addr *next_hop, uint32_t hop, const nd_mac *mac)
+/* Requires that a path has this next hop, and this link-layer address, if it is known, with the version of the node. */
+static void goes_to(nd_node *node, const nd_path *path, const nd_addr *next_hop, uint32_t hop, const nd_mac *mac)
 {
     static const nd_mac none = {{0}};
     is("the next hop", memcmp(&path->next_hop, next_hop, sizeof *next_hop), 0);
     is("its kind", path->hop, hop);
     is("its link-layer address", memcmp(&path->mac, mac != NULL ? mac : &none, sizeof none), 0);
     is("which is known or not", path->has_mac, mac != NULL);
+    is("the version of the node, or none", path->version == (mac != NULL ? nd_lease_version(node) : 0), true);
     is("no refusal", path->refusal == 0 && path->limit == 0 && path->reserved == 0, true);
 }
 
@@ -452,13 +454,14 @@ static void try_paths(nd_node *node)
     is("is not written", memcmp(&path, &before, sizeof path), 0);
     is("a path before the link-local address is assigned", nd_resolve(node, 999, &group, &path), ND_REFUSED);
     is("its reason", path.refusal, ND_REFUSAL_TENTATIVE);
-    is("no limit, no next hop and no lease", path.limit == 0 && path.hop == 0 && path.has_mac == 0 && path.until == 999, true);
+    is("no limit, and no next hop", path.limit == 0 && path.hop == 0 && path.has_mac == 0, true);
+    is("and no lease", path.until == 999 && path.version == 0, true);
     is("there is no record of it", nd_poll(node, &out, buffer, sizeof buffer), ND_NOTHING);
     is("an advertisement of a router", receive_digits(node, 1200, ROUTER_ADVERTISEMENT), ND_DONE);
     is("detection ends", nd_turn(node, 2200), ND_DONE);
     drain(node, FIRST_HASH);
     is("a path to a neighbour that is not known", nd_resolve(node, 3000, &neighbour, &path), ND_WAITING);
-    goes_to(&path, &neighbour, ND_HOP_DIRECT, NULL);
+    goes_to(node, &path, &neighbour, ND_HOP_DIRECT, NULL);
     is("it is INCOMPLETE", path.state, ND_REACHABILITY_INCOMPLETE);
     is("there is no lease", path.until == 3000, true);
     is("its record", nd_poll(node, &out, buffer, sizeof buffer), ND_DONE);
@@ -475,25 +478,25 @@ static void try_paths(nd_node *node)
     is("which is its bytes", out.length == sizeof first && memcmp(buffer, &first, sizeof first) == 0, true);
     is("and no other", nd_poll(node, &out, buffer, sizeof buffer), ND_NOTHING);
     is("the path then", nd_resolve(node, 3500, &neighbour, &path), ND_DONE);
-    goes_to(&path, &neighbour, ND_HOP_DIRECT, &first);
+    goes_to(node, &path, &neighbour, ND_HOP_DIRECT, &first);
     is("another link-layer address", receive_digits(node, 3600, OTHER_ADVERTISEMENT), ND_DONE);
     is("is a record", nd_poll(node, &out, buffer, sizeof buffer), ND_DONE);
     is("of a message", out.kind, ND_OUT_HEARD);
     is("and no other", nd_poll(node, &out, buffer, sizeof buffer), ND_NOTHING);
     is("the path then", nd_resolve(node, 3600, &neighbour, &path), ND_DONE);
-    goes_to(&path, &neighbour, ND_HOP_DIRECT, &second);
+    goes_to(node, &path, &neighbour, ND_HOP_DIRECT, &second);
     is("it is REACHABLE", path.state, ND_REACHABILITY_REACHABLE);
     is("its row", nd_neighbour_of(node, 3600, &neighbour, &row), ND_DONE);
     is("for so long", row.reachable_left > 0, true);
     is("at the latest", path.until > 3600 && path.until <= 3600 + row.reachable_left && path.until <= nd_next_due(node), true);
     is("a path to a group", nd_resolve(node, 3600, &group, &path), ND_DONE);
-    goes_to(&path, &group, ND_HOP_DIRECT, &all);
+    goes_to(node, &path, &group, ND_HOP_DIRECT, &all);
     is("which has no state", path.state, 0);
     is("a path through the router", nd_resolve(node, 3600, &behind, &path), ND_DONE);
-    goes_to(&path, &router, ND_HOP_VIA, &of_router);
+    goes_to(node, &path, &router, ND_HOP_VIA, &of_router);
     is("which is used now", path.state, ND_REACHABILITY_DELAY);
     is("a path to the node itself", nd_resolve(node, 3600, &LINK_LOCAL, &path), ND_NOTHING);
-    goes_to(&path, &none, 0, NULL);
+    goes_to(node, &path, &none, 0, NULL);
     is("none of them has a record", nd_poll(node, &out, buffer, sizeof buffer), ND_NOTHING);
     nd_close(node);
 }

@@ -48,6 +48,19 @@ static void send_again(nd_node *node, uint64_t now, size_t i)
     require(status >= 0 && nd_last_moment(node) == now, "nd_send");
 }
 
+/* Asks where packets go: to a neighbour of the link, or through a router. Returns the hash with the answer mixed in, but for its version: a call that
+ * is made again may raise it twice. */
+static uint64_t resolve_again(nd_node *node, uint64_t now, size_t i, uint64_t hash)
+{
+    const nd_addr on_link = {{0xfe, 0x80, [14] = 0x77, [15] = (uint8_t)i}}, far = {{0x20, 0x01, 0x0d, 0xb8, 0, 0x77, [14] = 1, [15] = (uint8_t)i}};
+    nd_path path;
+    int32_t status;
+    RETRIED(status, nd_resolve(node, now, i % 16 < 8 ? &on_link : &far, &path));
+    require(status >= 0 && nd_last_moment(node) == now, "nd_resolve");
+    path.version = 0;
+    return mix(mix(hash, &status, sizeof status), &path, sizeof path);
+}
+
 /* Gives the node an address by hand, takes another one back, and lets the first one be tried. */
 static void give_address_again(nd_node *node, uint64_t now)
 {
@@ -129,6 +142,8 @@ static uint64_t run(size_t refuse)
         receive_again(&node, now, &frames[i]);
         if (i % 8 == 0)
             send_again(&node, now, i);
+        if (i % 8 == 4)
+            hash = resolve_again(&node, now, i, hash);
         hash = drain(&node, hash);
     }
     turn_again(&node, now + LATER);
