@@ -218,7 +218,7 @@ fn a_stack_that_keeps_its_packets_asks_where_they_go() {
     assert_eq!(node.receive(1200, &advertisement_of_router), Ok(Outcome::Done));
     assert_eq!(node.turn(2200), Ok(Outcome::Done));
     said(&mut node);
-    let waiting = Path { next_hop: neighbour, hop: Hop::Direct, mac: None, state: Some(Reachability::Incomplete), until: 3000 };
+    let waiting = Path { next_hop: neighbour, hop: Hop::Direct, mac: None, state: Some(Reachability::Incomplete), until: 3000, version: 0 };
     for solicitations in [1, 0] {
         assert_eq!(node.resolve(3000, neighbour), Ok(Resolution::Path(waiting)));
         assert_eq!(node.poll().count(), solicitations);
@@ -230,11 +230,32 @@ fn a_stack_that_keeps_its_packets_asks_where_they_go() {
     assert_eq!((path.next_hop, path.mac, path.state), (neighbour, Some(mac), Some(Reachability::Reachable)));
     let left = node.neighbour(3500, neighbour).unwrap().unwrap().reachable_left.unwrap();
     assert!(path.until > 3500 && path.until <= 3500 + left && path.until <= node.next_due());
+    assert_eq!(path.version, node.lease_version());
     let Ok(Resolution::Path(path)) = node.resolve(3500, address("ff02::1:2")) else { panic!("a group needs no resolution") };
     assert_eq!((path.mac, path.state), (Some([0x33, 0x33, 0, 1, 0, 2]), None));
     let own = node.addresses(3500).unwrap().last().unwrap().address;
     assert_eq!(node.resolve(3500, own), Ok(Resolution::NoRoute));
     assert_eq!(node.poll().count(), 0);
+}
+
+#[test]
+fn a_lease_has_a_version_that_an_event_ends() {
+    let (router, mac) = (address("fe80::2"), [2, 0, 0, 0, 0, 2]);
+    let mut node = informed();
+    assert_eq!(node.confirm(2300, router), Ok(Outcome::Done));
+    let Ok(Resolution::Path(lease)) = node.resolve(2300, router) else { panic!("it is known") };
+    assert_eq!((lease.mac, lease.state, lease.version), (Some(mac), Some(Reachability::Reachable), node.lease_version()));
+    assert!(lease.until > 2301 && lease.version > 0);
+    assert!(node.poll().count() > 0);
+    assert_eq!(node.lease_version(), lease.version);
+    assert_eq!(node.resolve(2301, router), Ok(Resolution::Path(lease)));
+    assert_eq!(node.turn(2301), Ok(Outcome::Done));
+    assert_eq!(node.turn(2300), Err(Error::Past));
+    assert_eq!(node.lease_version(), lease.version);
+    assert_eq!(node.receive(2301, &[]), Ok(Outcome::Done));
+    assert!(node.lease_version() > lease.version);
+    let Ok(Resolution::Path(next)) = node.resolve(2301, router) else { panic!("it is known") };
+    assert_eq!(next, Path { version: node.lease_version(), ..lease });
 }
 
 #[test]
