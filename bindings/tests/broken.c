@@ -2,7 +2,7 @@
 #include <stdlib.h>
 #include "nd.h"
 
-#define FAULTS 22 /* bindings/check reads it */
+#define FAULTS 25 /* bindings/check reads it */
 
 /* Returns true each second time if this is the fault. */
 static bool is_wrong(int fault)
@@ -106,6 +106,21 @@ WRAP(int32_t, nd_remove_address, nd_node *node, uint64_t now, const nd_addr *add
 {
     int32_t status = __real_nd_remove_address(node, now, address);
     return status == ND_DONE && is_wrong(22) ? ND_NOTHING : status;
+}
+
+WRAP(int32_t, nd_resolve, nd_node *node, uint64_t now, const nd_addr *to, nd_path *path)
+{
+    int32_t status = __real_nd_resolve(node, now, to, path);
+    if (status == ND_DONE && is_wrong(23))
+        path->until += 7200000;
+    if (status == ND_DONE && is_wrong(24))
+        path->version--;
+    return status;
+}
+
+WRAP(uint64_t, nd_lease_version, nd_node *node)
+{
+    return is_wrong(25) ? 1 : __real_nd_lease_version(node);
 }
 
 WRAP(int32_t, nd_offer, nd_node *node, uint64_t now, const nd_offer_row *offer)

@@ -2,7 +2,8 @@
  * nd.h says is required of each. With -DFUZZER this is a target of libFuzzer; else byte strings are made of seeds, and it prints what was done.
  *   Required: a status is one that nd.h allows for the call; an error changes nothing, nor does ND_REFUSED or ND_NO_MEMORY where nothing was due before;
  * ND_NO_MEMORY is returned only where a request was refused; no table passes its limit; rows are in order, none is there twice, and indices end; records are in the order of their moments,
- * none after nd_last_moment; frames that are sent are read by nd_hear; and nd_next_due is not before nd_last_moment. */
+ * none after nd_last_moment; frames that are sent are read by nd_hear; nd_next_due is not before nd_last_moment; and the version of leases grows with
+ * each event, and with what is due. */
 #include <time.h>
 #include "heap.h"
 #include "fuzz.h"
@@ -48,6 +49,7 @@ static int32_t resolve(uint64_t at)
     require(path.has_mac == 1 || memcmp(&path.mac, &none, sizeof none) == 0, "and zeros where not");
     require((path.hop != 0) == has_hop && (path.refusal != 0) == (status == ND_REFUSED), "a next hop, or the reason of a refusal");
     require((path.limit != 0) == (path.refusal == ND_REFUSAL_FULL), "a limit where it is full");
+    require(path.version == (status == ND_DONE ? nd_lease_version(&node) : 0), "a lease has the version of the node");
     require(path.until >= at && (status == ND_DONE || path.until == at), "a lease where the link-layer address is known");
     require(path.until == at || path.until <= nd_next_due(&node), "a lease ends where something is due");
     return status;
@@ -196,7 +198,7 @@ static int32_t error_of(enum call call, uint64_t at)
 /* Makes a call that has to return an error, and requires that it changes nothing. Questions return the same error for a moment. */
 static void call_wrongly(enum call call, uint64_t at, int32_t error)
 {
-    uint64_t before, last = nd_last_moment(&node);
+    uint64_t before, last = nd_last_moment(&node), version = nd_lease_version(&node);
     nd_neighbour_row row;
     if (call == FORGET)
         require(nd_neighbour_of(&node, at, &with.one, &row) == error && nd_neighbour_at(&node, at, 0, &row) == error &&
@@ -210,6 +212,20 @@ static void call_wrongly(enum call call, uint64_t at, int32_t error)
     before = tables_of(&node, last);
     require(call_twice(call, at, error) == error, "the first error that holds is returned");
     require(tables_of(&node, last) == before && nd_poll(&node, &(nd_out){0}, with.bytes, 0) == ND_NOTHING, "an error changes nothing");
+    require(nd_lease_version(&node) == version, "an error keeps the version of leases");
+}
+
+/* Makes a call whose arguments are good, and requires that the version of leases grows where nd.h says it, and never falls. Returns its status. */
+static int32_t call_well(enum call call, uint64_t at)
+{
+    uint64_t before = nd_lease_version(&node);
+    bool is_due = nd_next_due(&node) <= at, is_event = call != TURN && call != NEXT_HOP && call != RESOLVE && call != OPEN;
+    int32_t status = call_twice(call, at, 0);
+    bool grows = nd_lease_version(&node) > before;
+    require(nd_lease_version(&node) >= before, "the version of leases never falls");
+    require(grows || status != ND_DONE || !is_event, "an event raises the version of leases");
+    require((call != TURN && call != NEXT_HOP) || grows == is_due, "nd_turn and nd_next_hop raise it where something is due, and else keep it");
+    return status;
 }
 
 static void prepare_open(void)
@@ -241,7 +257,7 @@ static void step(void)
         return;
     }
     settled = call != OPEN && once_in(4) && nd_turn(&node, at) == ND_DONE ? tables_of(&node, at) : 0;
-    status = call_twice(call, at, error);
+    status = call_well(call, at);
     require(status != ND_REFUSED || settled == 0 || tables_of(&node, at) == settled, "an event that is refused changes nothing");
     settled = 0;
     require(call == OPEN ? status == ND_DONE : is_allowed(call, status), "a status is one that nd.h allows");
