@@ -299,11 +299,11 @@ def check_leases(room, archive):
     program = build(room, "leases", [f"{TESTS}/leases.c", COUNTING, archive])
     for number, role in ((0, "host"), (1, "router")) if program else ():
         for seed in range(4861, 4861 + (4 if IS_FULL else 1)):
-            said = run([program, str(number), "20000", str(seed)], input=STEADY)
-            report(f"leases: {role}, 20000 questions and 20000 packets with each limit, seed {seed}", said)
+            said = run([program, str(number), "50000", str(seed)], input=STEADY)
+            report(f"leases: {role}, runs of 50000 steps, seed {seed}", said)
             print(said.stdout, end="")
         if has("valgrind", f"leases: {role}, under valgrind"):
-            report(f"leases: {role}, under valgrind", run([*VALGRIND, program, str(number), "300", "4861"], input=STEADY))
+            report(f"leases: {role}, under valgrind", run([*VALGRIND, program, str(number), "1000", "4861"], input=STEADY))
 
 
 def check_bare(room, archive):

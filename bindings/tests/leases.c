@@ -2,9 +2,9 @@
  * The arguments are the role, a number of `enum nd_role`; the steps of each run; and the seed. Reads frames (`frames.py steady`).
  *   Two nodes get the same frames, calls and moments. In a run of questions both are asked where packets go, and the second one is made to forget its
  * answers before each, by nd_confirm of an address that no neighbour has. In a run of packets the first one is asked for each, the second one only if
- * no lease of its own holds: else its time passes, and nothing is due. It requires after each step that both returned and reported the same, and show
- * the same; at the end that they do so later, too; that a path which is asked for in its lease is as it was; and that a tenth of the steps is in a
- * lease.
+ * no lease of its own holds: else its time passes, or it gets no call. After each step both have returned and reported the same, and show the same;
+ * and so they do later. A path that is asked for in its lease is as it was. A tenth of the steps, or more, is in a lease. In every second run memory
+ * is refused to the first node now and then, and its call is made again; a question in a lease needs none.
  *   The version of leases grows with each event, and with nd_turn and nd_next_hop where something is due. It stays with all else that changes no more
  * than the moment, and never falls. The lines are the counts of each run. */
 #include "heap.h"
@@ -24,13 +24,20 @@ static const nd_addr NO_NEIGHBOUR = {{0x20, 1, 0xd, 0xb8, 0xff, [15] = 1}};
 
 static struct frame frames[MOST_FRAMES];
 static nd_addr destinations[MOST_DESTINATIONS];
-static size_t frame_count, destination_count, asked, last_asked, before_last;
+static size_t frame_count, destination_count, asked;
 static nd_node one = ND_NODE_INIT, other = ND_NODE_INIT;
 static uint32_t role;
 static uint64_t now;
 
 /* The last answer for each destination, of the first node in a run of questions, of the second one in a run of packets. */
 static nd_path answers[MOST_DESTINATIONS];
+
+/* The number of the last destination; and the one of the last step, if it was a question or a packet. */
+static size_t last_destination, last_question;
+
+/* In a run with scarce memory, how often a call was made again. */
+static bool is_scarce;
+static size_t again;
 
 /* Of the questions or packets of a run: the statuses, and how many were in a lease, and how many of those after one for another destination. */
 static size_t statuses[STATUSES], in_lease, in_others;
@@ -78,18 +85,29 @@ static void make_destinations(void)
  * link-layer address. */
 static size_t a_destination(void)
 {
-    before_last = last_asked;
     if (once_in(4))
-        return last_asked;
+        return last_destination;
     for (size_t tries = 1 + below(8); tries > 0; tries--) {
-        last_asked = below(once_in(4) ? asked : 16);
-        if (answers[last_asked].has_mac == 1)
+        last_destination = below(once_in(4) ? asked : 16);
+        if (answers[last_destination].has_mac == 1)
             break;
     }
-    return last_asked;
+    return last_destination;
 }
 
 /* ---- events ---------------------------------------------------------------------------------- */
+
+/* Names the request of the next call that is refused, or none. */
+static void refuse_some(const nd_node *node)
+{
+    heap_refuse = is_scarce && node == &one && once_in(2) ? 1 + below(4) : 0;
+}
+
+/* Makes a call at a node, and again while memory is refused. */
+#define RETRIED(status, node, call) \
+    while (refuse_some(node), (status = (call)) == ND_NO_MEMORY) \
+        require(!heap_is_spent, "a question in a lease needs no memory"), again++; \
+    heap_refuse = 0
 
 enum call { RECEIVE, SEND, CONFIRM, FORGET, CLEAR, ADD_ADDRESS, REMOVE_ADDRESS, ROUTE, TURN, NEXT_HOP };
 
@@ -149,7 +167,8 @@ static int32_t done(nd_node *node, const struct act *act)
 static int32_t with_version(nd_node *node, const struct act *act)
 {
     uint64_t before = nd_lease_version(node), due = nd_next_due(node), after;
-    int32_t status = done(node, act);
+    int32_t status;
+    RETRIED(status, node, done(node, act));
     after = nd_lease_version(node);
     require(after >= before, "the version never falls");
     if (act->call == TURN || act->call == NEXT_HOP)
@@ -164,6 +183,7 @@ static void act_at_both(void)
     struct act act = an_act();
     int32_t status = with_version(&one, &act);
     require(status >= 0 && with_version(&other, &act) == status, "both nodes return the same status");
+    last_question = SIZE_MAX;
 }
 
 /* ---- questions and packets ------------------------------------------------------------------- */
@@ -184,7 +204,8 @@ static bool holds(const nd_path *lease, nd_node *node)
 static int32_t path_of(nd_node *node, size_t to, nd_path *path)
 {
     uint64_t before = nd_lease_version(node);
-    int32_t status = nd_resolve(node, now, &destinations[to], path);
+    int32_t status;
+    RETRIED(status, node, nd_resolve(node, now, &destinations[to], path));
     require(status >= 0 && nd_lease_version(node) >= before, "a question does not lower the version");
     require(path->version == (status == ND_DONE ? nd_lease_version(node) : 0), "a lease has the version of the node");
     return status;
@@ -194,7 +215,8 @@ static void count(int32_t status, bool is_in_lease, size_t to)
 {
     statuses[status]++;
     in_lease += is_in_lease;
-    in_others += is_in_lease && to != before_last;
+    in_others += is_in_lease && to != last_question;
+    last_question = to;
 }
 
 /* Asks both nodes, the second one once it has forgotten what it answered. */
@@ -202,21 +224,26 @@ static void ask_both(size_t to)
 {
     bool is_in_lease = holds(&answers[to], &one);
     nd_path before = answers[to], path;
-    int32_t status = path_of(&one, to, &answers[to]);
+    size_t requests = heap_requests;
+    int32_t status;
+    heap_is_spent = is_in_lease;
+    status = path_of(&one, to, &answers[to]);
+    heap_is_spent = false;
     require(!is_in_lease || (status == ND_DONE && memcmp(&answers[to], &before, sizeof before) == 0), "a path in its lease is as it was");
+    require(!is_in_lease || to != last_question || heap_requests == requests, "a question that is asked again in its lease requests no memory");
     require(nd_confirm(&other, now, &NO_NEIGHBOUR) == ND_DONE, "no neighbour is confirmed");
     require(path_of(&other, to, &path) == status && are_same(path, answers[to]), "a path is that of a node that remembers none");
     count(status, is_in_lease, to);
 }
 
-/* Sends a packet from both nodes. The first one is asked, the second one if it gave no lease that holds. */
+/* Sends a packet from both nodes. The first one is asked, the second one if it gave no lease that holds: in a lease it gets no call, or nd_turn. */
 static void send_both(size_t to)
 {
     bool is_in_lease = holds(&answers[to], &other);
     nd_path path;
     int32_t status = path_of(&one, to, &path);
     if (is_in_lease) {
-        require(nd_next_due(&other) > now && nd_turn(&other, now) == ND_DONE, "nothing is due in a lease");
+        require(nd_next_due(&other) > now && (once_in(2) || nd_turn(&other, now) == ND_DONE), "nothing is due in a lease");
         require(status == ND_DONE && are_same(path, answers[to]), "a lease has the path of a question");
     } else
         require(path_of(&other, to, &answers[to]) == status && are_same(path, answers[to]), "both nodes answer the same");
@@ -243,38 +270,43 @@ static void open_node(nd_node *node, const struct setting *setting)
 }
 
 /* Requires that both nodes have reported the same, and show the same. */
-static void require_same(void)
+static void require_same(uint64_t (*shown)(nd_node *, uint64_t))
 {
     require(drain(&one, FIRST_HASH) == drain(&other, FIRST_HASH), "both nodes report the same");
     require(nd_next_due(&one) == nd_next_due(&other), "the same is due at both nodes");
-    require(tables_of(&one, now) == tables_of(&other, now), "both nodes show the same");
+    require(shown(&one, now) == shown(&other, now), "both nodes show the same");
 }
 
 /* Runs steps, most of which are questions, or packets. */
 static void run(const char *what, const struct setting *setting, size_t steps, void (*question)(size_t))
 {
     static const uint64_t STEPS[] = {0, 1, 1, 10, 50, 100, 500, 3000};
+    uint64_t (*shown)(nd_node *, uint64_t) = question == ask_both ? tables_of : rows_at;
     open_node(&one, setting);
     open_node(&other, setting);
     now = OPENED_AT;
     asked = setting->asked;
-    in_lease = in_others = last_asked = 0;
+    in_lease = in_others = again = last_destination = 0;
+    last_question = SIZE_MAX;
     memset(answers, 0, sizeof answers);
     memset(statuses, 0, sizeof statuses);
-    require_same();
+    require_same(shown);
     for (size_t i = 0; i < steps; i++) {
         bool is_quiet = i / PHASE % 2 == 0;
         now += once_in(is_quiet ? 20 : 3) ? STEPS[below(sizeof STEPS / sizeof *STEPS)] : 0;
         once_in(is_quiet ? 40 : 4) ? act_at_both() : question(a_destination());
-        require_same();
+        require_same(shown);
     }
+    require(nd_turn(&one, now) == ND_DONE && nd_turn(&other, now) == ND_DONE, "nd_turn");
+    require_same(tables_of);
     require(later_of(&one) == later_of(&other), "both nodes report and show the same later");
     nd_close(&one);
     nd_close(&other);
-    printf("  %s, %u destinations remembered, %zu asked: in a lease %zu, %zu of them after another destination; done %zu, waiting %zu, nothing %zu, "
-           "refused %zu\n", what, setting->destinations, asked, in_lease, in_others, statuses[ND_DONE], statuses[ND_WAITING], statuses[ND_NOTHING],
-           statuses[ND_REFUSED]);
-    require(in_lease >= steps / 10, "many packets are asked for or sent in a lease");
+    printf("  %s, %u of %zu destinations remembered: in a lease %zu, %zu of them after another destination; done %zu, waiting %zu, nothing %zu, "
+           "refused %zu; made again %zu\n", what, setting->destinations, asked, in_lease, in_others, statuses[ND_DONE], statuses[ND_WAITING],
+           statuses[ND_NOTHING], statuses[ND_REFUSED], again);
+    require(in_lease >= steps / 10 && in_others >= steps / 100, "many questions or packets are in a lease, many of them after another destination");
+    require(!is_scarce || again > 0, "memory is refused");
 }
 
 /* ---- versions -------------------------------------------------------------------------------- */
@@ -356,14 +388,13 @@ static void try_versions(void)
     RAISES(nd_confirm(&one, now, &destinations[0]), ND_DONE);
     require(path_of(&one, 0, &path) == ND_DONE && path.until > now + 4, "a neighbour that is confirmed has a lease");
     keep_version(&path);
-    now = path.until, version = path.version;
+    version = path.version;
+    now = nd_next_due(&one);
     RAISES(nd_turn(&one, now), ND_DONE);
     RAISES(nd_send(&one, now, &LINK_LOCAL, &destinations[0], 17, PAYLOAD, sizeof PAYLOAD), ND_DONE);
     RAISES(nd_confirm(&one, now, &NO_NEIGHBOUR), ND_DONE);
     RAISES(nd_forget(&one, now, &destinations[0]), ND_DONE);
     RAISES(nd_resolve(&one, now, &destinations[0], &path), ND_WAITING);
-    now = nd_next_due(&one);
-    RAISES(nd_turn(&one, now), ND_DONE);
     nd_close(&one);
     version = 0;
     refuse_moment(now, ND_CLOSED, version);
@@ -382,8 +413,11 @@ int main(int argc, char **argv)
     printf("%s\n", role == ND_ROLE_HOST ? "host" : "router");
     try_versions();
     for (size_t i = 0; i < sizeof SETTINGS / sizeof *SETTINGS; i++) {
-        run("questions", &SETTINGS[i], steps, ask_both);
-        run("packets", &SETTINGS[i], steps, send_both);
+        for (int scarce = 0; scarce < 2; scarce++) {
+            is_scarce = scarce == 1;
+            run("questions", &SETTINGS[i], steps, ask_both);
+            run("packets", &SETTINGS[i], steps, send_both);
+        }
     }
     require(heap_blocks == 0 && heap_now == 0, "all memory is given back");
     free_frames(frames, frame_count);

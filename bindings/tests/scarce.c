@@ -16,6 +16,10 @@ struct event {
 };
 
 static uint32_t role;
+
+/* The last answer of nd_resolve, but for its version, which a call that is made again may raise twice. */
+static nd_path answer;
+
 static size_t all_requests, all_refused, all_given_up;
 
 /* ---- events ---------------------------------------------------------------------------------- */
@@ -60,6 +64,33 @@ static int32_t send_from_another(nd_node *node, const char *digits)
 {
     const nd_addr source = address_of(digits);
     return nd_send(node, BUSY_AT, &source, &UNRESOLVED, 17, PAYLOAD, sizeof PAYLOAD);
+}
+
+/* Asks where packets go. Returns ND_DONE too where they are to wait. */
+static int32_t resolve(nd_node *node, const char *digits)
+{
+    static const nd_path none;
+    const nd_addr destination = address_of(digits);
+    nd_path path = none;
+    int32_t status = nd_resolve(node, BUSY_AT, &destination, &path);
+    require(status != ND_NO_MEMORY || memcmp(&path, &none, sizeof path) == 0, "where memory is refused there is no path");
+    answer = path;
+    answer.version = 0;
+    return status == ND_WAITING ? ND_DONE : status;
+}
+
+/* Asks where packets go, and again in the lease. */
+static int32_t resolve_in_lease(nd_node *node, const char *digits)
+{
+    const nd_addr destination = address_of(digits);
+    nd_path path, again;
+    int32_t status = nd_resolve(node, BUSY_AT, &destination, &path);
+    require(status == ND_DONE && path.until > BUSY_AT && path.version == nd_lease_version(node), "a path has a lease");
+    status = nd_resolve(node, BUSY_AT, &destination, &again);
+    require(status == ND_DONE && memcmp(&again, &path, sizeof path) == 0, "a path that is asked for in its lease is as it was");
+    answer = again;
+    answer.version = 0;
+    return status;
 }
 
 static int32_t confirm(nd_node *node, const char *digits)
@@ -126,6 +157,9 @@ static int32_t stop(nd_node *node, const char *nothing)
 #define WAITED_FOR "20010db8000000000000000000000001"
 #define OF_NONE "fe800000000000000000000000000077"
 #define FORMED "20010db800000000365678fffe9abcde"
+#define SECOND "fe800000000000000000000000000002"
+#define ALL "ff020000000000000000000000000001"
+#define OF_HOST "fe80000000000000365678fffe9abcde"
 
 static const struct event AT_HOST[] = {
     {"an advertisement with a new router, prefix, server and search name", receive, "ADVERTISEMENT_OF_ALL_THAT_IS_NEW", false},
@@ -141,8 +175,11 @@ static const struct event AT_HOST[] = {
     {"a packet that is sent to a new neighbour", send_to, NEW, false},
     {"a packet that waits", send_to, WAITED_FOR, false},
     {"a packet that is sent through a router", send_to, FAR, false},
-    {"a packet to ff02::1", send_to, "ff020000000000000000000000000001", false},
+    {"a packet to ff02::1", send_to, ALL, false},
     {"a packet without a next hop", send_to, "00000000000000000000000000000001", false},
+    {"a path to a new neighbour", resolve, NEW, false},
+    {"a path through a router", resolve, FAR, false},
+    {"a path to a neighbour for which packets wait", resolve, WAITED_FOR, false},
     {"a neighbour with packets that is forgotten", forget, WAITED_FOR, false},
     {"a new address by hand", add_address, NEW, false},
     {"lifetimes by hand of an address that was formed", add_address, FORMED, false},
@@ -162,6 +199,7 @@ static const struct event AT_ROUTER[] = {
     {"a packet in transit with a Redirect", receive, "DATAGRAM_TO_ROUTED", false},
     {"a packet in transit that waits", receive, "DATAGRAM_IN_TRANSIT", false},
     {"a packet that is sent to a new neighbour", send_to, NEW, false},
+    {"a path to a new neighbour", resolve, NEW, false},
     {"a prefix is offered", offer, "20010db8000600000000000000000000", false},
     {"a route is put", route, "20010db8000600000000000000000000", false},
     {"a new address by hand", add_address, NEW, false},
@@ -184,6 +222,9 @@ static const struct event WITHOUT_MEMORY_AT_HOST[] = {
     {"a last advertisement", receive, "LAST_ADVERTISEMENT", false},
     {"a confirmation", confirm, FIRST, false},
     {"a confirmation of no neighbour", confirm, OF_NONE, false},
+    {"a path to a neighbour that is known", resolve, FIRST, false},
+    {"a path to ff02::1", resolve, ALL, false},
+    {"a path in its lease", resolve_in_lease, SECOND, false},
     {"a neighbour that is forgotten", forget, FIRST, false},
     {"a neighbour with packets that is forgotten", forget, WAITED_FOR, false},
     {"no neighbour that is forgotten", forget, OF_NONE, false},
@@ -213,7 +254,8 @@ static const struct event WITHOUT_MEMORY_AT_ROUTER[] = {
     {"time passes", turn, "0", false},
     {"a frame that is cut", receive_cut, "ROUTER_SOLICITATION", false},
     {"an advertisement at a router", receive, "ADVERTISEMENT", false},
-    {"a confirmation", confirm, "fe80000000000000365678fffe9abcde", false},
+    {"a confirmation", confirm, OF_HOST, false},
+    {"a path in its lease", resolve_in_lease, OF_HOST, false},
     {"a neighbour with packets that is forgotten", forget, "20010db8000000000000000000000009", false},
     {"no neighbour that is forgotten", forget, OF_NONE, false},
     {"a new address by hand", add_address, NEW, false},
@@ -224,7 +266,7 @@ static const struct event WITHOUT_MEMORY_AT_ROUTER[] = {
 
 struct outcome {
     int32_t status;
-    uint64_t records, tables, later;
+    uint64_t records, tables, later; /* the records with the last answer */
 };
 
 static bool are_same(const struct outcome *one, const struct outcome *other)
@@ -268,7 +310,7 @@ static struct outcome outcome_of(const struct event *event, size_t first, size_t
     if (tries == 0 || outcome.status == ND_NO_MEMORY)
         outcome.status = event->call(&node, event->argument);
     require_of(outcome.status == ND_DONE, event, "it is done");
-    outcome.records = drain(&node, outcome.records);
+    outcome.records = mix(drain(&node, outcome.records), &answer, sizeof answer);
     outcome.tables = tables_of(&node, nd_last_moment(&node));
     outcome.later = later_of(&node);
     nd_close(&node);
@@ -311,12 +353,12 @@ static void do_without(const struct event *event, int32_t wanted)
     requests = heap_requests;
     heap_is_spent = true;
     status = event->call(&node, event->argument);
-    records = drain(&node, FIRST_HASH);
+    records = mix(drain(&node, FIRST_HASH), &answer, sizeof answer);
     heap_is_spent = false;
     require_of(status == wanted, event, "it takes no memory");
     require_of(heap_requests == requests, event, "it requests no memory");
     require_of(event->call(&other, event->argument) == wanted, event, "it has the same status with memory");
-    others = drain(&other, FIRST_HASH);
+    others = mix(drain(&other, FIRST_HASH), &answer, sizeof answer);
     require_of(records == others && tables_of(&node, BUSY_AT) == tables_of(&other, BUSY_AT), event, "it has the same records and tables with memory");
     require_of(later_of(&node) == later_of(&other), event, "and the same ones later");
     nd_close(&node);
@@ -333,19 +375,20 @@ static void do_all_without(const struct event *events, size_t count)
     open_busy(&node, role);
     open_busy(&other, role);
     for (i = 0; i < count; i++) {
-        uint64_t records, shown;
+        uint64_t records, others, shown;
         /* What an event has made due at its own moment is done by the next call, and may take memory. */
         require(nd_turn(&node, BUSY_AT) == ND_DONE && nd_turn(&other, BUSY_AT) == ND_DONE, "nd_turn");
         require(drain(&node, FIRST_HASH) == drain(&other, FIRST_HASH), "what is due is the same");
         requests = heap_requests;
         heap_is_spent = true;
         require_of(events[i].call(&node, events[i].argument) == ND_DONE, &events[i], "it takes no memory after the others");
-        records = drain(&node, FIRST_HASH);
+        records = mix(drain(&node, FIRST_HASH), &answer, sizeof answer);
         shown = tables_of(&node, BUSY_AT);
         heap_is_spent = false;
         require_of(heap_requests == requests, &events[i], "neither it nor a question requests memory");
         require_of(events[i].call(&other, events[i].argument) == ND_DONE, &events[i], "it is done with memory");
-        require_of(drain(&other, FIRST_HASH) == records && tables_of(&other, BUSY_AT) == shown, &events[i], "it has the same records and tables");
+        others = mix(drain(&other, FIRST_HASH), &answer, sizeof answer);
+        require_of(records == others && tables_of(&other, BUSY_AT) == shown, &events[i], "it has the same records and tables");
     }
     require(later_of(&node) == later_of(&other), "events without memory have the same records later");
     nd_close(&node);

@@ -14,10 +14,10 @@
         hash = mix(hash, &i, sizeof i); \
     } while (0)
 
-/* Returns the hash of what a node shows at a moment, where nothing is due before it. */
-static inline uint64_t tables_of(nd_node *node, uint64_t now)
+/* Returns the hash of what a node shows at a moment, where nothing is due before it, but for the moment up to which its time has passed. */
+static inline uint64_t rows_at(nd_node *node, uint64_t now)
 {
-    uint64_t hash = FIRST_HASH, due = nd_next_due(node), last = nd_last_moment(node);
+    uint64_t hash = FIRST_HASH, due = nd_next_due(node);
     nd_parameters_row parameters;
     nd_advertising settings;
     nd_counts_row counts;
@@ -38,7 +38,14 @@ static inline uint64_t tables_of(nd_node *node, uint64_t now)
     require(status == ND_DONE || status == ND_NOTHING, "nd_advertising_of");
     if (status == ND_DONE)
         hash = mix(hash, &settings, sizeof settings);
-    return mix(mix(mix(hash, &status, sizeof status), &due, sizeof due), &last, sizeof last);
+    return mix(mix(hash, &status, sizeof status), &due, sizeof due);
+}
+
+/* Returns the hash of all of it. */
+static inline uint64_t tables_of(nd_node *node, uint64_t now)
+{
+    uint64_t last = nd_last_moment(node);
+    return mix(rows_at(node, now), &last, sizeof last);
 }
 
 /* The tables that nd_counts_of counts. */
