@@ -1,7 +1,7 @@
-/* exhausted: a pool that fills up with packets which wait for neighbours that never answer. The pool has each size from what nd_open needs on, in steps
- * of STEP bytes. A host answers datagrams of its neighbours, or a router passes packets on to as many, until nothing more fits; then no frame arrives
- * for a day. It requires: a call with an empty queue is done, or has done something that was due; the node comes to the end of the day; then it
- * defends its address.
+/* exhausted: a pool that fills up with packets which wait for neighbours that never answer. The pool has each size from what nd_open and one answer
+ * need on, in steps of STEP bytes. A host answers datagrams of its neighbours, or a router passes packets on to as many, until nothing more fits; then
+ * no frame arrives for a day. It requires: a call with an empty queue is done, or has done something that was due; the node comes to the end of the
+ * day; then it defends its address.
  * Built with ND_MEMORY_BYTES, as dist/nd.c is then, it tries the pool that this one has.
  *   A line for each flood says at how many sizes the node was out of memory. */
 #include <sys/wait.h>
@@ -143,6 +143,12 @@ static bool fill(nd_node *node, const struct flood *flood)
     return is_full;
 }
 
+/* Another node's detection of the node's address is answered: there is memory for one frame. */
+static bool defends(nd_node *node)
+{
+    return nd_receive(node, nd_last_moment(node), DETECTION, sizeof DETECTION) == ND_DONE && taken(node, 136) == 1;
+}
+
 /* What a run in a pool comes to: 1 is a failure. */
 enum { HAD_MEMORY = 0, WAS_FULL = 2, TOO_SMALL = 3 };
 
@@ -151,15 +157,14 @@ static int run_in(size_t bytes, const struct flood *flood)
 {
     nd_node node = ND_NODE_INIT;
     bool is_full;
-    if (!open_in(&node, bytes, flood->role))
+    if (!open_in(&node, bytes, flood->role) || !defends(&node))
         return TOO_SMALL;
     is_full = fill(&node, flood);
     while (nd_next_due(&node) < AT + DAY)
         is_full |= pass(&node, nd_next_due(&node)) > 0;
     is_full |= pass(&node, AT + DAY) > 0;
     require(nd_last_moment(&node) == AT + DAY, "the day has passed");
-    require(nd_receive(&node, AT + DAY, DETECTION, sizeof DETECTION) == ND_DONE, "the solicitation of another node is heard");
-    require(taken(&node, 136) == 1, "the address is defended");
+    require(defends(&node), "the address is defended");
     nd_close(&node);
     return is_full ? WAS_FULL : HAD_MEMORY;
 }

@@ -21,5 +21,5 @@ index_bytes destinations =
 -- an address has two dates: that of its next step, and that of its end
 abbrev pub node_bytes : Limits → ℕ
 node_bytes limits =
-    9216 + rows_bytes limits + (dates_bytes limits.neighbours + dates_bytes limits.routers + 2 * dates_bytes limits.addresses)
+    9344 + rows_bytes limits + (dates_bytes limits.neighbours + dates_bytes limits.routers + 2 * dates_bytes limits.addresses)
     + (index_bytes limits.redirects + index_bytes limits.destinations)

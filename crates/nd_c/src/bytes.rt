@@ -36,7 +36,7 @@ const BLOCK: usize = 816;
 const ROWS: usize = 32;
 
 /// The bytes that a node takes besides, with one block of each schedule, as measured and rounded up.
-const FIXED: usize = 9_216;
+const FIXED: usize = 9_344;
 
 /// Returns the most bytes that the tables of a node take with these limits, 0 for the usual ones. Returns 0 if a limit is out of its range.
 #[unsafe(no_mangle)]

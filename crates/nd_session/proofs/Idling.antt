@@ -1,18 +1,22 @@
 -- A node at which nothing is due, and a question that is answered at once.
-use Rattle.std.proofs.Common.{◌≡◌, ◌<◌, ◌≤◌, ℕ, List, refl, sym, subst}
+use Rattle.std.proofs.Common.{◌≡◌, ◌<◌, ◌≤◌, ℕ, List, [], ◌∷◌, append-nil, ⊎_elim, arith, refl, sym, subst}
+use Rattle.std.proofs.lemmas.Bool.{cases_lt}
 use Rattle.std.specs.Global.{Global}
 use Rattle.nd_addr.specs.declared.addr.Addr.{Addr}
 use Rattle.nd_neighbour.proofs.Dues as neighbour_dues
 use Rattle.nd_routers.proofs.Dues as router_dues
 use Rattle.nd_slaac.proofs.Dues as address_dues
+use Rattle.nd_chronicle.specs.Answer as answers
 use Rattle.nd_chronicle.specs.Event as events
-use Rattle.nd_chronicle.specs.Happening.{Chronicle}
+use Rattle.nd_chronicle.specs.Happening.{Chronicle, Passed, last_moment}
 use Rattle.nd_chronicle.specs.Histories.{address_history, neighbour_history, router_history}
 use Rattle.nd_chronicle.specs.Start.{Start}
 use Rattle.nd_chronicle.proofs.Idle.{idle_passes}
 use Rattle.nd_out.specs.declared.out.Out.{Out}
 use Rattle.nd_node.specs.declared.node.Node.{Node}
+use Rattle.nd_steps.specs.Outputs.{happenings}
 use Rattle.nd_node.specs.Event.{FollowsBy}
+use Rattle.nd_node.specs.EventKept.{AddsEvent}
 use Rattle.nd_node.specs.Node.{NextDue}
 use Rattle.nd_node.specs.NodeKept.{Stands, next_of}
 use Rattle.nd_node.specs.Resolve.{answer_by, with_answer}
@@ -61,3 +65,18 @@ leads_on old mid later node queue leads = rw (node, queue) leads
 
 pub ready_on : (mid later : Session) → later.node ≡ mid.node → later.queue ≡ mid.queue → later.room ≡ mid.room → IsReady mid → IsReady later
 ready_on mid later node queue room ready = rw (node, queue, room) ready
+
+-- a node at which time alone passed
+pub time_alone : (node later : Node Source Global) (now : ℕ) → (node.last ≤ now → later ≡ record node { last = now }) → (now ≤ node.last → later ≡ node) → later ≡ record node { last = later.last }
+time_alone node later now moves past = ⊎_elim
+    (λ lt. let same = past (omega (arith, lt)) in subst (λ (n : Node Source Global). n ≡ record node { last = n.last }) (sym same) refl)
+    (λ le. let moved = moves le in subst (λ (n : Node Source Global). n ≡ record node { last = n.last }) (sym moved) refl)
+    (cases_lt now node.last)
+
+-- the event that time passes adds nothing
+pub passing_adds : (old new : Node Source Global) (queue : List (ℕ × Out Global)) (now : ℕ)
+    → ((start : Start) (c : Chronicle) → Stands stream_of_source start old c → last_moment start.at c ≤ now → Stands stream_of_source start new ((now, Passed) ∷ c))
+    → AddsEvent stream_of_source old new queue queue now events.Passes answers.Done
+passing_adds old new queue now passes = record {
+  each = λ start c s le. ((now, Passed) ∷ c, refl, passes start c s le, record { newer = []; told = refl; outs = sym (append-nil (happenings queue)) }, refl);
+}

@@ -85,12 +85,17 @@ impl Paths {
     }
 
     /// Returns what is remembered of a destination, if `now`, in milliseconds, is within its lease.
+    #[inline(always)]
     pub(crate) fn recall(&self, now: u64, destination: Addr) -> Option<LeasedPath>
         ensures { IfSome result (λ path. IsRecalled self.now now destination path) }
     {
-        let path = self.slots.get(self.slot_of(destination))?;
+        nd_addr::laws::addresses_are_told_by_numbers();
+        let _bytes = destination.as_bytes();
+        let bits = destination.to_bits();
+        let path = self.slots.get(self.slot_of(bits))?;
+        let _bytes = path.destination.as_bytes();
         if path.version == self.version
-            && path.destination == destination
+            && path.destination.to_bits() == bits
             && path.from <= now
             && now < path.until
         {
@@ -105,16 +110,16 @@ impl Paths {
         ensures paths { (p : _) → Contains self.new.paths p → Contains self.old.paths p ⊎ (p ≡ record path { version = self.old.version }) }
     {
         path.version = self.version;
-        let slot = self.slot_of(path.destination);
+        let slot = self.slot_of(path.destination.to_bits());
         if slot < self.slots.len() && self.version < LAST_VERSION {
             self.slots[slot] = path;
         }
     }
 
-    /// Returns the slot of a destination. The upper bits of the product depend on all bits of the address, so that near ones, and those with one identifier
+    /// Returns the slot of a destination, by its number. The upper bits of the product depend on all bits of the address, so that near ones, and those with one identifier
     /// behind several prefixes, have different slots.
-    fn slot_of(&self, destination: Addr) -> usize {
-        let product = destination.to_bits().wrapping_mul(GOLDEN);
+    fn slot_of(&self, destination: u128) -> usize {
+        let product = destination.wrapping_mul(GOLDEN);
         (product >> 120) as usize & self.slots.len().wrapping_sub(1)
     }
 }

@@ -154,6 +154,7 @@ impl Session {
     }
 
     /// Does what is due up to `now`, in milliseconds, and answers by the node; the path is remembered if it has a lease. Otherwise as `resolve`.
+    #[inline(never)]
     fn look_up(&mut self, now: u64, destination: Addr) -> Result<PathAnswer, AllocError>
         requires moment { IsMoment now }
         requires in_time { last_of self.old.node ≤ now }

@@ -121,6 +121,10 @@ impl Session {
             return Ok(past);
         }
         self.settle(now)?;
+        if let Event::Passes = event {
+            self.node.pass(now);
+            return Ok(Answer::Done);
+        }
         self.paths.forget();
         self.node.add(now, event, &mut self.queue.back)
     }

@@ -8,12 +8,14 @@ use Rattle.nd_node.specs.Event.{event_of}
 use Rattle.nd_node.specs.EventKept.{AddsEvent}
 use Rattle.nd_node.specs.Node.{last_of}
 use Rattle.nd_node.specs.Time.{Leads, Onward, Passes}
+use Rattle.nd_node.proofs.Steps.{follows}
 use Rattle.nd_random.specs.Source.{stream_of_source}
 use Rattle.nd_session.specs.Ready.{IsReady}
 use Rattle.nd_session.specs.declared.session.Session.{Session}
 use Rattle.nd_session.proofs.Behind.{adds_behind, event_taken, on_err}
+use Rattle.nd_session.proofs.Idling.{passing_adds, time_alone}
 use Rattle.nd_session.proofs.Keeping.{event_ready}
-use Rattle.nd_session.proofs.Remembered.{remembers_nothing}
+use Rattle.nd_session.proofs.Remembered.{remembers_later, remembers_nothing}
 use Rattle.nd_session.proofs.session.Session.event.Goals as goal
 
 pub returns-clause-takes : goal.returns-clause-takes
@@ -45,3 +47,23 @@ returns-clause-ready c = λ start history s ready.
 
 pub invariant_of-self-inside : goal.invariant_of-self-inside
 invariant_of-self-inside c = record { remembered = remembers_nothing c.forget.new.self c.add.new.self c.forget.ensures.forgotten }
+
+-- ---- time passes
+
+pub invariant_of-self : goal.invariant_of-self
+invariant_of-self c = record {
+  remembered = remembers_later c.settle.new.self.paths c.settle.new.self.node c.pass.new.self c.pass.new.self.last
+      (time_alone c.settle.new.self.node c.pass.new.self c.args.now c.pass.ensures.moves c.pass.ensures.past) c.settle.new.self.remembered;
+}
+
+pub returns-in-Passes-clause-takes : goal.returns-in-Passes-clause-takes
+returns-in-Passes-clause-takes c = rw c.in-Passes.is (record {
+  past = λ lt. absurd (let is = c.past.ensures.past lt in let none = c.in_default.is in let no : ⊥ = cc in no);
+  taken = λ le.
+      follows stream_of_source c.args.self.now.node c.settle.new.self.node c.pass.new.self c.args.self.now.queue c.settle.new.self.queue c.settle.new.self.queue c.args.now events.Passes le
+      c.in_ok-settle.ensures.passes (passing_adds c.settle.new.self.node c.pass.new.self c.settle.new.self.queue c.args.now c.pass.ensures.passes);
+})
+
+pub returns-in-Passes-clause-ready : goal.returns-in-Passes-clause-ready
+returns-in-Passes-clause-ready c = λ start history s ready.
+    rw (time_alone c.settle.new.self.node c.pass.new.self c.args.now c.pass.ensures.moves c.pass.ensures.past) (c.in_ok-settle.ensures.ready ready)
