@@ -141,8 +141,8 @@
  *     options reports the same on the same frames.
  *   - nd_close, and an nd_open that returned ND_NO_MEMORY, give all memory of the node back, and
  *     nd_poll that of the record that it takes.
- *   - nd_poll, the questions (nd_.._at, nd_.._of), nd_last_moment and nd_next_due ask for no
- *     memory.
+ *   - nd_poll, the questions (nd_.._at, nd_.._of), nd_last_moment, nd_next_due and
+ *     nd_lease_version ask for no memory.
  *   - ND_BUFFER_BYTES, nd_node_bytes and nd_pool_bytes are enough, and a row costs what its index
  *     is.
  * TRUSTED: the duties above, enough stack, the toolchain, and what nd.c is made by, which README.md
@@ -411,6 +411,7 @@ int32_t nd_next_hop(nd_node *node, uint64_t now, const nd_addr *destination, nd_
 
 typedef struct nd_path { /* a field is 0 where the status does not have it */
     uint64_t until;      /* DONE: the end of the lease; else `now` */
+    uint64_t version;    /* DONE: nd_lease_version of the lease; else 0 */
     nd_addr next_hop;    /* DONE, WAITING: the destination, or the router */
     nd_mac mac;          /* DONE: its link-layer address */
     uint8_t has_mac;     /* 1: DONE; else 0 */
@@ -437,11 +438,20 @@ typedef struct nd_path { /* a field is 0 where the status does not have it */
  *   ND_REFUSED     ND_REFUSAL_DISABLED, _TENTATIVE (the link-local address is not assigned yet), or
  *                  _FULL. `path->refusal` and `path->limit` say it; there is no ND_OUT_REFUSED.
  * With any other status `path` is unchanged.
- * The lease: after ND_DONE packets to `destination` may be sent to `path->mac` without a call as
- * long as no other call for this node was made (but nd_poll and questions) and the moment is before
- * `path->until`. Once that is over, ask again: a use is then counted where one is to be (RFC 4861,
- * 7.3.3). Where `until` is `now` there is no lease: ask for each packet. */
+ * The lease: after ND_DONE packets to `destination` may be sent to `path->mac` without a call while
+ *     now < path->until && path->version == version
+ * where `version` is nd_lease_version after the last call. Such a packet leaves the node as it would
+ * be with a call: its neighbour is used, and not STALE (RFC 4861, 7.3.3). Once the lease is over,
+ * ask again. Where `until` is `now` there is none: ask for each packet.
+ * Asked again in its lease, a destination costs little, however many neighbours there are: a node
+ * keeps such answers, one for each of limits.destinations, rounded down to a power of two. */
 int32_t nd_resolve(nd_node *node, uint64_t now, const nd_addr *destination, nd_path *path);
+
+/* Returns the version of all leases. It never falls, and it grows with each call that may change
+ * more than the moment: not with nd_poll, a question, nd_resolve in a lease, a call that returns
+ * ND_PAST, ND_INVALID or ND_CLOSED, nor with nd_turn and nd_next_hop where nothing is due. 0 if the
+ * node is closed. It changes nothing. */
+uint64_t nd_lease_version(nd_node *node);
 
 /* ---- events at a router ---------------------------------------------------------------------- */
 
