@@ -94,7 +94,7 @@ static void get_fields(void *to, uint32_t at, const char *fields)
 #define OPTIONS "4m11488" LIMITS
 #define COUNTS "4444444444" LIMITS
 #define OWN_ADDRESS "a44"
-#define PATH "8am114444"
+#define PATH "88am114444"
 #define ADVERTISING "44444411114"
 #define OFFER "a4441111"
 #define ROUTE "aa44"
