@@ -1,9 +1,9 @@
 -- The path of a destination stays the same up to the end of its lease, as long as nothing happens.
-use Rattle.std.proofs.Common.{◌≡◌, ◌<◌, ◌≤◌, ◌+◌, ◌-◌, ℕ, Bool, true, false, List, Option, Some, None, refl, sym, ◌∙◌, ap, subst, arith, inl, inr}
-use Rattle.std.specs.Prelude.{◌&&◌}
+use Rattle.std.proofs.Common.{◌≡◌, ◌<◌, ◌≤◌, ◌+◌, ◌-◌, ℕ, Bool, true, false, List, Option, Some, None, refl, sym, ◌∙◌, ap, subst, arith, inl, inr, ⊎_elim}
+use Rattle.std.specs.Prelude.{◌&&◌, ◌⊎◌}
 use Rattle.std.specs.Option.{option_map}
 use Rattle.std.proofs.lemmas.Bool.Decides.{nat_tests}
-use Rattle.std.proofs.lemmas.Bool.{cases_Bool, cond-false, cond-true}
+use Rattle.std.proofs.lemmas.Bool.{cases_Bool, cases_lt, cond-false, cond-true}
 use Rattle.nd_addr.specs.declared.addr.Addr.{Addr}
 use Rattle.nd_addr.specs.declared.role.Role.{Role}
 use Rattle.nd_addr.specs.declared.role.Role.TheVariants.{Host, Router}
@@ -14,10 +14,11 @@ use Rattle.nd_table.specs.declared.lasting.Lasting.{Lasting}
 use Rattle.nd_table.specs.Ends.{is_before}
 use Rattle.nd_table.specs.Listing.{open_at}
 use Rattle.nd_neighbour.specs.declared.shown.Reachability.{Reachability}
-use Rattle.nd_neighbour.specs.declared.shown.Reachability.TheVariants.{Stale}
+use Rattle.nd_neighbour.specs.declared.shown.Reachability.TheVariants.{Delay, Stale}
+use Rattle.nd_neighbour.specs.declared.unreachability_detection.Probing.{Probing}
 use Rattle.nd_neighbour.specs.EntryKept.{Known, NeighbourEntry, Resolving, Stage, known_mac}
-use Rattle.nd_neighbour.specs.Shown.{is_leased}
-use Rattle.nd_neighbour.specs.ShownKept.{left_in, seen, state_in}
+use Rattle.nd_neighbour.specs.Shown.{Seen, is_leased}
+use Rattle.nd_neighbour.specs.ShownKept.{left_in, probing_state, seen, state_in}
 use Rattle.nd_neighbour.specs.TableKept.{entry_in}
 use Rattle.nd_neighbour.proofs.Leases.{end_lasts, state_lasts}
 use Rattle.nd_nexthop.specs.Choice.{target_in}
@@ -29,9 +30,10 @@ use Rattle.nd_node.specs.declared.node.Node.{Node}
 use Rattle.nd_node.specs.Moments.{earlier}
 use Rattle.nd_node.specs.NodeKept.{next_of}
 use Rattle.nd_node.specs.Path.{PathSeen, first_end, lease, path_by, path_to_all}
-use Rattle.nd_node.specs.PathKept.{hop_kept, path_by_hop, path_kept, up_kept}
+use Rattle.nd_node.specs.PathKept.{hop_kept, path_by_hop, path_kept, towards, up_kept}
 use Rattle.nd_node.proofs.Moments.{before_second}
 use Rattle.nd_node.proofs.NextHops.{before_next}
+use Rattle.nd_node.proofs.Paths.{next_of_path}
 
 -- ---- a neighbour that stays in its state
 
@@ -60,6 +62,26 @@ fresh (Known mac false since (Some p)) m x due after leased before = grind (arit
 fresh (Known mac true since None) m x due after leased before = grind (arith, nat_tests, after, leased, before)
 fresh (Known mac true since (Some p)) m x due after leased before = grind (arith, nat_tests)
 
+-- a state other than DELAY lasts up to its end
+probing_on : (p : Probing) (m x : ℕ) → m ≤ x → (probing_state (Some p) m ≡ Delay → ⊥) → probing_state (Some p) x ≡ probing_state (Some p) m
+probing_on p m x after other = ⊎_elim (λ lt. absurd (other (grind (arith, nat_tests, lt)))) (λ le. grind (arith, nat_tests, after, le)) (cases_lt m p.from)
+
+confirmed_on : (mac since : ℕ) (p : Probing) (m x due : ℕ) → m ≤ x → x < earlier (option_map (λ left. m + left) (left_in (Known mac true since (Some p)) m)) due → (state_in (Known mac true since (Some p)) m ≡ Delay → ⊥)
+    → state_in (Known mac true since (Some p)) x ≡ state_in (Known mac true since (Some p)) m
+confirmed_on mac since p m x due after before other =
+    ⊎_elim (λ lt. grind (arith, nat_tests, after, before, lt))
+    (λ le.
+    let over : (y : ℕ) → since ≤ y → state_in (Known mac true since (Some p)) y ≡ probing_state (Some p) y = λ y late. grind (arith, nat_tests, late) in
+    over x (omega (arith, after, le)) ∙ (probing_on p m x after (λ delayed. other (over m le ∙ delayed)) ∙ sym (over m le)))
+    (cases_lt m since)
+
+lasts_on : (k : Stage) (m x due : ℕ) → m ≤ x → is_leased (state_in k m) ≡ true → x < earlier (option_map (λ left. m + left) (left_in k m)) due → (state_in k m ≡ Delay → ⊥) → state_in k x ≡ state_in k m
+lasts_on (Resolving r n b ws) m x due after leased before other = refl
+lasts_on (Known mac false since None) m x due after leased before other = refl
+lasts_on (Known mac false since (Some p)) m x due after leased before other = probing_on p m x after other
+lasts_on (Known mac true since None) m x due after leased before other = grind (arith, nat_tests, after, leased, before)
+lasts_on (Known mac true since (Some p)) m x due after leased before other = confirmed_on mac since p m x due after before other
+
 not_stale : (r : Reachability) → is_leased r ≡ true → Some r ≡ Some Stale → ⊥
 not_stale r leased is =
     let same : r ≡ Stale = cc in
@@ -77,6 +99,10 @@ module _ (up : Bool) (due m : ℕ) (entries : List NeighbourEntry) (destination 
     (to_all : (x : ℕ) → holds multicast_prefix destination.0 ≡ true → next x ≡ next m) where
   abbrev by_then : ℕ → PathSeen
   by_then x = path_by_hop up x due (end x) entries destination (next x)
+
+  -- its state is the same at the end, or it isn't DELAY, which ends by itself
+  abbrev Steady : Type 0
+  Steady = ((by_then ((by_then m).until - 1)).state ≡ (by_then m).state) ⊎ ((by_then m).state ≡ Some Delay → ⊥)
 
   module _ (x : ℕ) (after : m ≤ x) where
     -- to all of a group
@@ -98,7 +124,7 @@ module _ (up : Bool) (due m : ℕ) (entries : List NeighbourEntry) (destination 
           ∙ (is y (end m) ∙ ap (λ (o : Option NeighbourEntry). path_by up y due (end m) h (option_map (seen y) o)) found))
 
       to_entry : (o : Option NeighbourEntry) → entry_in key entries ≡ o → x < (path_by up m due (end m) h (option_map (seen m) o)).until
-          → (by_then ((by_then m).until - 1)).state ≡ (by_then m).state → by_then x ≡ by_then m
+          → Steady → by_then x ≡ by_then m
       to_entry None found before steady = let never : ⊥ = omega (arith, before, after) in absurd never
       to_entry (Some n) found before steady = by (up && is_leased (state_in n.stage m)) refl
         where
@@ -116,10 +142,15 @@ module _ (up : Bool) (due m : ℕ) (entries : List NeighbourEntry) (destination 
               let last_is : (by_then m).until - 1 ≡ last = ap (λ (p : PathSeen). p.until - 1) here_m ∙ ap (λ (u : ℕ). u - 1) until_is in
               let last_lt : last < earlier (end m) over = omega (arith, lt) in
               let here_last = here n found last (omega (arith, lt, after)) (before_next (end m) over last last_lt) in
+              let in_lease = leased_too up (state_in n.stage m) e in
+              let same : state_in n.stage x ≡ state_in n.stage m =
+              ⊎_elim
+              (λ at_end.
               let same_last : Some (state_in n.stage last) ≡ Some (state_in n.stage m) =
-              sym (ap (λ (p : PathSeen). p.state) here_last) ∙ (ap (λ (y : ℕ). (by_then y).state) (sym last_is) ∙ (steady ∙ ap (λ (p : PathSeen). p.state) here_m)) in
-              let same_end : state_in n.stage last ≡ state_in n.stage m = cc in
-              let same : state_in n.stage x ≡ state_in n.stage m = state_lasts n.stage m x last after (omega (arith, lt)) (leased_too up (state_in n.stage m) e) same_end in
+              sym (ap (λ (p : PathSeen). p.state) here_last) ∙ (ap (λ (y : ℕ). (by_then y).state) (sym last_is) ∙ (at_end ∙ ap (λ (p : PathSeen). p.state) here_m)) in
+              let same_end : state_in n.stage last ≡ state_in n.stage m = cc in state_lasts n.stage m x last after (omega (arith, lt)) in_lease same_end)
+              (λ other. lasts_on n.stage m x due after in_lease (before_second x (end m) over lt) (λ delayed. other (ap (λ (p : PathSeen). p.state) here_m ∙ ap Some delayed)))
+              steady in
               here n found x after (before_next (end m) over x lt) ∙ (seen_same up m x due (end m) h n e same ∙ sym here_m)
 
       -- without more of its state
@@ -142,7 +173,7 @@ module _ (up : Bool) (due m : ℕ) (entries : List NeighbourEntry) (destination 
                 λ stale. not_stale (state_in n.stage x) (fresh n.stage m x due after (leased_too up (state_in n.stage m) e) (before_second x (end m) over lt)) (sym (ap (λ (p : PathSeen). p.state) here_x) ∙ stale),
               )
 
-      to_neighbour : x < (path_by_hop up m due (end m) entries destination h).until → (by_then ((by_then m).until - 1)).state ≡ (by_then m).state → by_then x ≡ by_then m
+      to_neighbour : x < (path_by_hop up m due (end m) entries destination h).until → Steady → by_then x ≡ by_then m
       to_neighbour before steady = to_entry (entry_in key entries) refl (subst (λ (p : PathSeen). x < p.until) (is m (end m)) before) steady
 
       on_to_neighbour : x < (path_by_hop up m due (end m) entries destination h).until → GoesOn (by_then m) (by_then x)
@@ -165,7 +196,7 @@ module _ (up : Bool) (due m : ℕ) (entries : List NeighbourEntry) (destination 
     pub path_goes_on : x < (by_then m).until → GoesOn (by_then m) (by_then x)
     path_goes_on before = on_by_next (next m) refl before
 
-    by_next : (h : NextHop) → next m ≡ h → x < (path_by_hop up m due (end m) entries destination h).until → (by_then ((by_then m).until - 1)).state ≡ (by_then m).state → by_then x ≡ by_then m
+    by_next : (h : NextHop) → next m ≡ h → x < (path_by_hop up m due (end m) entries destination h).until → Steady → by_then x ≡ by_then m
     by_next no_route goes before steady = let never : ⊥ = omega (arith, before, after) in absurd never
     by_next (via key) goes before steady = to_neighbour (via key) key goes (λ y e. refl) before steady
     by_next direct goes before steady = elim (cases_Bool (holds multicast_prefix destination.0)) [
@@ -176,7 +207,7 @@ module _ (up : Bool) (due m : ℕ) (entries : List NeighbourEntry) (destination 
       | inr single ↦ to_neighbour direct (number_of destination.0) goes (λ y e. cond-false (holds multicast_prefix destination.0) _ _ single) before steady
     ]
 
-    pub path_lasts : x < (by_then m).until → (by_then ((by_then m).until - 1)).state ≡ (by_then m).state → by_then x ≡ by_then m
+    pub path_lasts : x < (by_then m).until → Steady → by_then x ≡ by_then m
     path_lasts before steady = by_next (next m) refl before steady
 
 -- ---- of a node
@@ -195,8 +226,9 @@ module _ {R A : Type 0} (node : Node R A) (m : ℕ) (destination : Addr) where
   hop_to_all Router x multicast = refl
   hop_to_all Host x multicast = rw multicast refl
 
-  -- up to the end of its lease the path is the same, if the state of its neighbour is, at the end
-  pub kept_lasts : (x : ℕ) → m ≤ x → x < (path_kept node m destination).until → (path_kept node ((path_kept node m destination).until - 1) destination).state ≡ (path_kept node m destination).state
+  -- up to the end of its lease the path is the same, if the state of its neighbour is, at the end, or isn't DELAY
+  pub kept_lasts : (x : ℕ) → m ≤ x → x < (path_kept node m destination).until
+      → ((path_kept node ((path_kept node m destination).until - 1) destination).state ≡ (path_kept node m destination).state) ⊎ ((path_kept node m destination).state ≡ Some Delay → ⊥)
       → path_kept node x destination ≡ path_kept node m destination
   kept_lasts x after before steady =
       path_lasts (up_kept node) (next_of node) m node.neighbours.entries destination (λ y. first_end node.role (open_at y node.prefixes.entries)) (λ y. hop_kept node.role node y destination)
@@ -207,3 +239,59 @@ module _ {R A : Type 0} (node : Node R A) (m : ℕ) (destination : Addr) where
   kept_goes_on x after before =
       path_goes_on (up_kept node) (next_of node) m node.neighbours.entries destination (λ y. first_end node.role (open_at y node.prefixes.entries)) (λ y. hop_kept node.role node y destination)
       (hop_stays node.role) (hop_to_all node.role) x after before
+
+  -- it goes by the next hop
+  next_is : (h : NextHop) (x : ℕ) (end : Option ℕ) → (path_by_hop (up_kept node) x (next_of node) end node.neighbours.entries destination h).next ≡ h
+  next_is no_route x end = refl
+  next_is (via key) x end = next_of_path (up_kept node) x (next_of node) end (via key) (option_map (seen x) (entry_in key node.neighbours.entries))
+  next_is direct x end = elim (cases_Bool (holds multicast_prefix destination.0)) [
+    | inl multicast ↦ ap (λ (p : PathSeen). p.next)
+        (cond-true (holds multicast_prefix destination.0) (path_to_all (up_kept node) x (next_of node) destination)
+        (path_by (up_kept node) x (next_of node) end direct (option_map (seen x) (entry_in (number_of destination.0) node.neighbours.entries))) multicast)
+    | inr single ↦ ap (λ (p : PathSeen). p.next)
+        (cond-false (holds multicast_prefix destination.0) (path_to_all (up_kept node) x (next_of node) destination)
+        (path_by (up_kept node) x (next_of node) end direct (option_map (seen x) (entry_in (number_of destination.0) node.neighbours.entries))) single)
+        ∙ next_of_path (up_kept node) x (next_of node) end direct (option_map (seen x) (entry_in (number_of destination.0) node.neighbours.entries))
+  ]
+
+  pub kept_next : (path_kept node m destination).next ≡ hop_kept node.role node m destination
+  kept_next = next_is (hop_kept node.role node m destination) m (first_end node.role (open_at m node.prefixes.entries))
+
+  -- ---- in DELAY
+
+  state_of_path : (x : ℕ) (end : Option ℕ) (next : NextHop) (found : Option Seen) → (path_by (up_kept node) x (next_of node) end next found).state ≡ option_map (λ (n : Seen). n.state) found
+  state_of_path x end next None = refl
+  state_of_path x end next (Some n) = refl
+
+  -- by a next hop to a neighbour in DELAY
+  by_delayed : (h : NextHop) (x : ℕ) (end later : Option ℕ) → m ≤ x → x < (path_by_hop (up_kept node) m (next_of node) end node.neighbours.entries destination h).until
+      → (path_by_hop (up_kept node) m (next_of node) end node.neighbours.entries destination h).state ≡ Some Delay
+      → (path_by_hop (up_kept node) x (next_of node) later node.neighbours.entries destination h).state ≡ option_map (λ (n : Seen). n.state) (option_map (seen x) (entry_in (towards h destination) node.neighbours.entries))
+  by_delayed no_route x end later after before delayed = absurd (let never : ⊥ = omega (arith, after, before) in never)
+  by_delayed (via key) x end later after before delayed = state_of_path x later (via key) (option_map (seen x) (entry_in key node.neighbours.entries))
+  by_delayed direct x end later after before delayed = elim (cases_Bool (holds multicast_prefix destination.0)) [
+    | inl multicast ↦ absurd (
+        let none : None ≡ Some Delay =
+        sym (ap (λ (p : PathSeen). p.state)
+        (cond-true (holds multicast_prefix destination.0) (path_to_all (up_kept node) m (next_of node) destination)
+        (path_by (up_kept node) m (next_of node) end direct (option_map (seen m) (entry_in (number_of destination.0) node.neighbours.entries))) multicast))
+        ∙ delayed in
+        let no : ⊥ = cc in no)
+    | inr single ↦ ap (λ (p : PathSeen). p.state)
+        (cond-false (holds multicast_prefix destination.0) (path_to_all (up_kept node) x (next_of node) destination)
+        (path_by (up_kept node) x (next_of node) later direct (option_map (seen x) (entry_in (number_of destination.0) node.neighbours.entries))) single)
+        ∙ state_of_path x later direct (option_map (seen x) (entry_in (number_of destination.0) node.neighbours.entries))
+  ]
+
+-- the state of the path to a neighbour that is in DELAY now is what is seen of that neighbour, up to the end of the lease
+pub delayed_later : {R A : Type 0} (node : Node R A) (m x : ℕ) (destination : Addr) (key : ℕ) → m ≤ x → x < (path_kept node m destination).until → towards (path_kept node m destination).next destination ≡ key
+    → (path_kept node m destination).state ≡ Some Delay → (path_kept node x destination).state ≡ option_map (λ (n : Seen). n.state) (option_map (seen x) (entry_in key node.neighbours.entries))
+delayed_later node m x destination key after before to delayed =
+    let h = hop_kept node.role node m destination in
+    let end = first_end node.role (open_at m node.prefixes.entries) in
+    let later = first_end node.role (open_at x node.prefixes.entries) in
+    let same : hop_kept node.role node x destination ≡ h = sym (kept_next node x destination) ∙ ((kept_goes_on node m destination x after before).0 ∙ kept_next node m destination) in
+    let to_key : towards h destination ≡ key = ap (λ (n : NextHop). towards n destination) (sym (kept_next node m destination)) ∙ to in
+    ap (λ (n : NextHop). (path_by_hop (up_kept node) x (next_of node) later node.neighbours.entries destination n).state) same
+    ∙ (by_delayed node m destination h x end later after before delayed
+    ∙ ap (λ (k : ℕ). option_map (λ (n : Seen). n.state) (option_map (seen x) (entry_in k node.neighbours.entries))) to_key)

@@ -90,7 +90,7 @@ module _ {R A : Type 0} (stream : R → Stream) (start : Start) (node : Node R A
       sym (cond-false (states.is_duplicate (story_of c (link_local_key start))) (Some Disabled) _ (assigned_is_none (story_of c (link_local_key start)) assigned)
       ∙ cond-true (is_up start c) None (Some Tentative) assigned)
 
-  due_is : NextDue start c (next_of node)
+  pub due_is : NextDue start c (next_of node)
   due_is =
       next_due_at stream start node c s _ _ _ refl refl refl (router_dues.next_is_due node.routers.entries (router_history c) s.routers.routers _ refl)
       (address_dues.next_is_due node.addresses.transmits node.addresses.addresses (address_history c) s.addresses _ refl)

@@ -17,4 +17,5 @@ pub mod OutgoingPacket
 pub mod Resolve
 pub mod Path
 pub mod PathKept
+pub mod ReachabilityConfirmation
 pub mod Forwarding

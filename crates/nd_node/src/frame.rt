@@ -1,6 +1,6 @@
 //! Receives a frame.
 
-ghost use Rattle.std.specs.Prelude.{◌≡◌, ◌∷◌, ◌-◌, ◌<◌, ◌≤◌, ℕ, List, IsOk, OnErr, vec_len, vec_capacity, IfOk};
+ghost use Rattle.std.specs.Prelude.{◌≡◌, ◌∷◌, ◌-◌, ◌<◌, ◌≤◌, ℕ, List, IsOk, OnErr, OnOk, false, vec_len, vec_capacity, IfOk};
 ghost use Rattle.nd_addr.specs.Ip6.{packet_parts};
 ghost use Rattle.nd_decode.specs.Message.{parts};
 ghost use Rattle.nd_decode.specs.Pieces.{options_left};
@@ -10,12 +10,12 @@ ghost use Rattle.nd_validity.specs.Hearing.{Hears, other, valid};
 ghost use Rattle.nd_addr.specs.declared.why.Why.{Why};
 ghost use Rattle.nd_table.specs.Moment.{IsMoment};
 ghost use Rattle.nd_chronicle.specs.Start.{Start};
-ghost use Rattle.nd_chronicle.specs.Happening.{Chronicle, Passed, last_moment};
+ghost use Rattle.nd_chronicle.specs.Happening.{Chronicle, Dropped, Passed, last_moment};
 ghost use Rattle.nd_chronicle.specs.Hearing.{Judges, Verdict, drops};
 ghost use Rattle.nd_chronicle.specs.Event as events;
 ghost use Rattle.nd_chronicle.specs.Event.{EventAdds, VerdictAdds};
 ghost use Rattle.nd_node.specs.EventKept.{AddsEvent};
-ghost use Rattle.nd_node.specs.Frame.{Stays};
+ghost use Rattle.nd_node.specs.Frame.{AddsAlone, Stays};
 ghost use Rattle.nd_node.specs.Memory.{AddsNoName, AddsRefusal, AsksForNone};
 ghost use Rattle.nd_node.specs.Answer.{answer_of};
 
@@ -28,6 +28,15 @@ use nd_validity::{Heard, Hearing, hear};
 use rand_core::Rng;
 use std::alloc::{AllocError, Allocator};
 
+/// How a node took a frame.
+#[derive(Clone, Copy, Debug, PartialEq, Eq)]
+pub struct Reception {
+    /// How it took the event.
+    pub answer: Answer,
+    /// False if nothing of the node has changed but the moment up to which time has passed: the frame was dropped, or its packet went to the upper layer.
+    pub changes_tables: bool,
+}
+
 impl<R: Rng + Drop, A: Allocator + Clone> Node<R, A> {
     ghost use Rattle.nd_node.specs.NodeKept.{Stands, next_of};
 
@@ -39,11 +48,12 @@ impl<R: Rng + Drop, A: Allocator + Clone> Node<R, A> {
         frame: &[u8],
         packet: Ip6Ref<'_>,
         outs: &mut Vec<(u64, Out<A>), A>,
-    ) -> Result<Answer, AllocError>
+    ) -> Result<Reception, AllocError>
         requires moment { IsMoment now }
         requires settled { now < next_of self.old }
         requires by_frame { Hears frame.now self.old.role (other (packet_parts packet)) }
-        ensures adds { IfOk result (λ answer. AddsEvent R.stream self.old self.new outs.old.items outs.new.items now (events.Receives frame.now) (answer_of answer)) }
+        ensures adds { IfOk result (λ reception. AddsEvent R.stream self.old self.new outs.old.items outs.new.items now (events.Receives frame.now) (answer_of reception.answer)) }
+        ensures leaves { IfOk result (λ reception. reception.changes_tables ≡ false → self.new ≡ record self.old { last = now }) }
         ensures stays { OnErr result (Stays R.stream self.old self.new) }
         ensures told { OnErr result (outs.new.items ≡ outs.old.items) }
         ensures refused { (verdict : Verdict) (start : Start) (c : Chronicle) → Stands R.stream start self.old c → last_moment start.at c ≤ now → Judges start ((now, Passed) ∷ c) now (other (packet_parts packet.entry)) verdict → AddsRefusal now c (VerdictAdds start now frame.now verdict) → vec_len outs.old < vec_capacity outs.old → IsOk result }
@@ -51,14 +61,43 @@ impl<R: Rng + Drop, A: Allocator + Clone> Node<R, A> {
     {
         if !self.is_packet_for_us(packet.header.destination) {
             if self.is_in_transit(&packet.header) {
-                return self.forward(now, frame, &packet, outs);
+                let answer = self.forward(now, frame, &packet, outs)?;
+                return Ok(Reception {
+                    answer,
+                    changes_tables: true,
+                });
             }
-            return self.drop_frame(now, Why::NotForUs, outs);
+            return self.drop_unheard(now, Why::NotForUs, outs);
         }
         let mut up = Vec::new(outs.allocator().clone()?);
         up.extend_from_slice(packet_in(frame, packet.payload.len()))?;
         self.report(now, Out::Up(up), outs)?;
-        Ok(Answer::Done)
+        Ok(Reception {
+            answer: Answer::Done,
+            changes_tables: false,
+        })
+    }
+
+    /// Drops a frame, with the reason `why`, before anything of it is heard. Returns an error if out of memory; nothing has changed then.
+    fn drop_unheard(
+        &mut self,
+        now: u64,
+        why: Why,
+        outs: &mut Vec<(u64, Out<A>), A>,
+    ) -> Result<Reception, AllocError>
+        requires settled { now < next_of self.old }
+        ensures adds { OnOk result (AddsAlone R.stream self.old self.new outs.old.items outs.new.items now (Dropped why)) }
+        ensures answer { IfOk result (λ reception. reception ≡ record { answer = Answer.Done; changes_tables = false }) }
+        ensures clock { OnOk result (self.new ≡ record self.old { last = now }) }
+        ensures keeps { OnErr result (self.new ≡ self.old) }
+        ensures told { OnErr result (outs.new.items ≡ outs.old.items) }
+        ensures quiet { vec_len outs.old < vec_capacity outs.old → IsOk result }
+    {
+        let answer = self.drop_frame(now, why, outs)?;
+        Ok(Reception {
+            answer,
+            changes_tables: false,
+        })
     }
 
     /// Handles a valid message if it is for this node.
@@ -67,10 +106,11 @@ impl<R: Rng + Drop, A: Allocator + Clone> Node<R, A> {
         now: u64,
         heard: &Heard<'_>,
         outs: &mut Vec<(u64, Out<A>), A>,
-    ) -> Result<Answer, AllocError>
+    ) -> Result<Reception, AllocError>
         requires moment { IsMoment now }
         requires settled { now < next_of self.old }
-        ensures adds { IfOk result (λ answer. (frame : List ℕ) → Hears frame self.old.role (valid heard.now.source heard.now.destination (parts heard.now.message)) → AddsEvent R.stream self.old self.new outs.old.items outs.new.items now (events.Receives frame) (answer_of answer)) }
+        ensures adds { IfOk result (λ reception. (frame : List ℕ) → Hears frame self.old.role (valid heard.now.source heard.now.destination (parts heard.now.message)) → AddsEvent R.stream self.old self.new outs.old.items outs.new.items now (events.Receives frame) (answer_of reception.answer)) }
+        ensures leaves { IfOk result (λ reception. reception.changes_tables ≡ false → self.new ≡ record self.old { last = now }) }
         ensures stays { OnErr result (Stays R.stream self.old self.new) }
         ensures told { OnErr result (outs.new.items ≡ outs.old.items) }
         ensures refused { (frame : List ℕ) (verdict : Verdict) (start : Start) (c : Chronicle) → Stands R.stream start self.old c → last_moment start.at c ≤ now → Judges start ((now, Passed) ∷ c) now (valid heard.now.source heard.now.destination (parts heard.now.message)) verdict → AddsRefusal now c (VerdictAdds start now frame verdict) → vec_len outs.old < vec_capacity outs.old → IsOk result }
@@ -78,14 +118,40 @@ impl<R: Rng + Drop, A: Allocator + Clone> Node<R, A> {
         ensures dropped { (why : Why) (start : Start) (c : Chronicle) → Stands R.stream start self.old c → last_moment start.at c ≤ now → Judges start ((now, Passed) ∷ c) now (valid heard.now.source heard.now.destination (parts heard.now.message)) (drops why) → vec_len outs.old < vec_capacity outs.old → IsOk result }
     {
         if !self.is_for_us(heard.source, heard.destination, &heard.message.body) {
-            return self.drop_frame(now, Why::NotForUs, outs);
+            return self.drop_unheard(now, Why::NotForUs, outs);
         }
-        self.hear_message(now, heard, outs)
+        let answer = self.hear_message(now, heard, outs)?;
+        Ok(Reception {
+            answer,
+            changes_tables: true,
+        })
     }
 
     /// Receives a frame at `now`, in milliseconds, up to which nothing is due. The frame is dropped for the first reason that holds; a message for
     /// this node is heard, and another packet for this node goes to the upper layer (RFC 4861, sections 6.1, 7.1 and 8.1). Returns an error if out
     /// of memory; nothing has happened then.
+    pub fn hear_frame(
+        &mut self,
+        now: u64,
+        frame: &[u8],
+        outs: &mut Vec<(u64, Out<A>), A>,
+    ) -> Result<Reception, AllocError>
+        requires moment { IsMoment now }
+        requires settled { now < next_of self.old }
+        ensures adds { IfOk result (λ reception. AddsEvent R.stream self.old self.new outs.old.items outs.new.items now (events.Receives frame.now) (answer_of reception.answer)) }
+        ensures leaves { IfOk result (λ reception. reception.changes_tables ≡ false → self.new ≡ record self.old { last = now }) }
+        ensures stays { OnErr result (Stays R.stream self.old self.new) }
+        ensures told { OnErr result (outs.new.items ≡ outs.old.items) }
+        ensures refused { (start : Start) (c : Chronicle) → Stands R.stream start self.old c → last_moment start.at c ≤ now → AddsRefusal now c (EventAdds start now (events.Receives frame.now)) → vec_len outs.old < vec_capacity outs.old → IsOk result }
+        ensures quiet { (start : Start) (c : Chronicle) → Stands R.stream start self.old c → last_moment start.at c ≤ now → AsksForNone start c self.old now (vec_capacity outs.old - vec_len outs.old) (events.Receives frame.now) → IsOk result }
+    {
+        match hear(frame, self.role) {
+            Hearing::Drop(why) => self.drop_unheard(now, why, outs),
+            Hearing::Other(packet) => self.hear_packet(now, frame, packet, outs),
+            Hearing::Valid(heard) => self.judge_message(now, &heard, outs),
+        }
+    }
+    /// Receives a frame as `hear_frame` does, and returns how the node took the event.
     pub fn judge_frame(
         &mut self,
         now: u64,
@@ -100,10 +166,7 @@ impl<R: Rng + Drop, A: Allocator + Clone> Node<R, A> {
         ensures refused { (start : Start) (c : Chronicle) → Stands R.stream start self.old c → last_moment start.at c ≤ now → AddsRefusal now c (EventAdds start now (events.Receives frame.now)) → vec_len outs.old < vec_capacity outs.old → IsOk result }
         ensures quiet { (start : Start) (c : Chronicle) → Stands R.stream start self.old c → last_moment start.at c ≤ now → AsksForNone start c self.old now (vec_capacity outs.old - vec_len outs.old) (events.Receives frame.now) → IsOk result }
     {
-        match hear(frame, self.role) {
-            Hearing::Drop(why) => self.drop_frame(now, why, outs),
-            Hearing::Other(packet) => self.hear_packet(now, frame, packet, outs),
-            Hearing::Valid(heard) => self.judge_message(now, &heard, outs),
-        }
+        let reception = self.hear_frame(now, frame, outs)?;
+        Ok(reception.answer)
     }
 }

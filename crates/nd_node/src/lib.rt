@@ -26,8 +26,8 @@
 //! - `next_due` returns the moment at which something is due next, `settled` whether nothing is due up to a moment, and `last_moment` the moment
 //!   up to which time has passed.
 //! - `neighbours`, `default_routers`, `prefixes`, `addresses`, `servers`, `search_names`, `redirects`, `parameters`, `advertising`, `offers` and
-//!   `routes` return what the node knows, row by row. `neighbour`, `next_hop_to` and `path` look one thing up; `counts` and `waiting_at` return numbers of
-//!   entries and of waiting packets. The event `Shows` returns the rows of a table as text, and so does `rows`.
+//!   `routes` return what the node knows, row by row. `neighbour`, `next_hop_to`, `path` and `confirmed_by` look one thing up; `counts` and `waiting_at` return
+//!   numbers of entries and of waiting packets. The event `Shows` returns the rows of a table as text, and so does `rows`.
 //!
 //! # What may fail
 //! Only memory. `Node::new` returns the generator then, with no word drawn. After an error of `event` a part of what is due may have been done and
@@ -87,6 +87,7 @@ pub use answer::Answer;
 pub use clearing::Clearable;
 pub use counts::Counts;
 pub use event::{Event, Table};
+pub use frame::Reception;
 pub use limits::{Limits, USUAL_NEIGHBOURS, USUAL_ROUTERS};
 pub use nd_steps::{OutgoingPacket, Turned};
 pub use node::Node;

@@ -80,6 +80,7 @@ impl<R: Rng + Drop, A: Allocator + Clone> Node<R, A> {
         requires settled { now < next_of self.old }
         ensures adds { OnOk result (AddsAlone R.stream self.old self.new outs.old.items outs.new.items now (Dropped why)) }
         ensures answer { IfOk result (λ answer. answer ≡ Answer.Done) }
+        ensures clock { OnOk result (self.new ≡ record self.old { last = now }) }
         ensures keeps { OnErr result (self.new ≡ self.old) }
         ensures told { OnErr result (outs.new.items ≡ outs.old.items) }
 

@@ -10,6 +10,8 @@ ghost use Rattle.nd_table.specs.Shown.{Shows};
 ghost use Rattle.nd_neighbour.specs.History as neighbour_rows;
 ghost use Rattle.nd_neighbour.specs.Left.{neighbours_left};
 ghost use Rattle.nd_neighbour.specs.Shown as neighbours;
+ghost use Rattle.nd_neighbour.specs.ShownKept.{seen};
+ghost use Rattle.nd_neighbour.specs.TableKept.{entry_in};
 ghost use Rattle.nd_neighbour.specs.View as neighbour_view;
 ghost use Rattle.nd_slaac.specs.Left.{addresses_left};
 ghost use Rattle.nd_slaac.specs.Shown as addresses;
@@ -63,7 +65,8 @@ impl<R: Rng + Drop, A: Allocator + Clone> Node<R, A> {
 
     /// Returns the neighbour of an address as it is at `now`, if there is an entry for it.
     pub fn neighbour(&self, now: u64, addr: Addr) -> Option<Neighbour>
-        ensures { (start : Start) (c : Chronicle) → Stands R.stream start self.now c
+        ensures value { option_map (λ n. neighbour_view.seen_in n) result ≡ option_map (seen now) (entry_in (number_of addr.0) self.now.neighbours.entries) }
+        ensures seen { (start : Start) (c : Chronicle) → Stands R.stream start self.now c
             → option_map (λ n. neighbour_view.seen_in n) result ≡ neighbours.seen_of (number_of addr.0) (neighbour_rows.story (number_of addr.0) (neighbour_history c)) now }
     {
         self.neighbours.entry(now, addr)

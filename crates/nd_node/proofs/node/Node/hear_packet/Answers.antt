@@ -1,9 +1,11 @@
-use Rattle.std.proofs.Common.{◌≡◌, ◌∷◌, ◌+◌, ◌++◌, ℕ, List, take, length, refl, ◌∙◌, ap}
-use Rattle.std.proofs.lemmas.Result.{IfOk-weaker, on_err_weaker}
+use Rattle.std.proofs.Common.{◌≡◌, ◌∷◌, ◌+◌, ◌++◌, ℕ, List, take, length, false, refl, sym, ◌∙◌, ap}
+use Rattle.std.proofs.lemmas.Bool.{true≢false}
+use Rattle.std.proofs.lemmas.Result.{on_err_weaker}
 use Rattle.nd_addr.specs.Ip6.{PacketParts, packet_parts, ipv6_header_length, payload_length_of}
 use Rattle.nd_addr.specs.Places.{packet_in}
 use Rattle.nd_chronicle.specs.Happening.{Up, Passed}
 use Rattle.nd_chronicle.specs.Hearing.{IsPacketForUs}
+use Rattle.nd_node.proofs.Growing.{on_err_of}
 use Rattle.nd_node.proofs.Reporting.{answered}
 use Rattle.nd_node.proofs.Judging.{goes_up, in_transit_later, is_not, packet_goes_on, packet_goes_up, packet_is_strange, up_to_payload, stays_keeps, stays_same}
 use Rattle.nd_node.proofs.Memory.{packet_stays, passing_stays}
@@ -14,16 +16,15 @@ use Rattle.nd_node.proofs.node.Node.hear_packet.Goals as goal
 
 pub returns-then-is_in_transit-clause-adds : goal.returns-then-is_in_transit-clause-adds
 returns-then-is_in_transit-clause-adds g c =
-    IfOk-weaker c.forward.result _ _ (λ a adds. packet_goes_on g.R.Rng.stream c.args.self.now c.forward.new.self c.args.outs.now.items c.forward.new.outs.items c.args.now c.args.frame.now
+    packet_goes_on g.R.Rng.stream c.args.self.now c.forward.new.self c.args.outs.now.items c.forward.new.outs.items c.args.now c.args.frame.now
     (packet_parts c.args.packet) c.requires.by_frame c.is_packet_for_us.result (λ start c' s. c.is_packet_for_us.ensures start c' (packet_parts c.args.packet) s refl) c.if-not-is_packet_for_us.true
-    c.is_in_transit.result (λ start c' s. c.is_in_transit.ensures start c' (packet_parts c.args.packet) s refl) c.if-is_in_transit.true adds)
-    c.forward.ensures.adds
+    c.is_in_transit.result (λ start c' s. c.is_in_transit.ensures start c' (packet_parts c.args.packet) s refl) c.if-is_in_transit.true c.in_ok-answer.ensures.adds
 
-pub returns-then-is_in_transit-clause-stays : goal.returns-then-is_in_transit-clause-stays
-returns-then-is_in_transit-clause-stays g c = on_err_weaker c.forward.result (stays_keeps g.R.Rng.stream c.args.self.now c.forward.new.self) c.forward.ensures.keeps
+pub returns-in_err-answer-clause-stays : goal.returns-in_err-answer-clause-stays
+returns-in_err-answer-clause-stays g c = on_err_of c.from_residual.result (stays_keeps g.R.Rng.stream c.args.self.now c.forward.new.self c.in_err-answer.ensures.keeps)
 
-pub returns-then-is_in_transit-clause-quiet : goal.returns-then-is_in_transit-clause-quiet
-returns-then-is_in_transit-clause-quiet g c = λ why start c' s le judged place.
+pub returns-in_err-answer-clause-quiet : goal.returns-in_err-answer-clause-quiet
+returns-in_err-answer-clause-quiet g c = λ why start c' s le judged place.
     let packet : PacketParts = packet_parts c.args.packet in
     let stranger = is_not c.is_packet_for_us.result (IsPacketForUs start c' packet) (c.is_packet_for_us.ensures start c' packet s refl) c.if-not-is_packet_for_us.true in
     let passes = (c.is_in_transit.ensures start c' packet s refl stranger).0 c.if-is_in_transit.true in
@@ -31,14 +32,14 @@ returns-then-is_in_transit-clause-quiet g c = λ why start c' s le judged place.
 
 pub returns-then-not-is_packet_for_us-clause-adds : goal.returns-then-not-is_packet_for_us-clause-adds
 returns-then-not-is_packet_for_us-clause-adds g c =
-    answered c.drop_frame.result Done _ (λ adds. packet_is_strange g.R.Rng.stream c.args.self.now c.drop_frame.new.self c.args.outs.now.items c.drop_frame.new.outs.items c.args.now c.args.frame.now
+    answered c.drop_unheard.result (record { answer = Done; changes_tables = false }) _ (λ adds. packet_is_strange g.R.Rng.stream c.args.self.now c.drop_unheard.new.self c.args.outs.now.items c.drop_unheard.new.outs.items c.args.now c.args.frame.now
     (packet_parts c.args.packet) c.requires.by_frame c.is_packet_for_us.result (λ start c' s. c.is_packet_for_us.ensures start c' (packet_parts c.args.packet) s refl) c.if-not-is_packet_for_us.true
     c.is_in_transit.result (λ start c' s. c.is_in_transit.ensures start c' (packet_parts c.args.packet) s refl) c.if-is_in_transit.false adds)
-    c.drop_frame.ensures.adds c.drop_frame.ensures.answer
+    c.drop_unheard.ensures.adds c.drop_unheard.ensures.answer
 
 pub returns-then-not-is_packet_for_us-clause-stays : goal.returns-then-not-is_packet_for_us-clause-stays
 returns-then-not-is_packet_for_us-clause-stays g c =
-    on_err_weaker c.drop_frame.result (λ same. stays_same g.R.Rng.stream c.args.self.now c.drop_frame.new.self same) c.drop_frame.ensures.keeps
+    on_err_weaker c.drop_unheard.result (λ same. stays_same g.R.Rng.stream c.args.self.now c.drop_unheard.new.self same) c.drop_unheard.ensures.keeps
 
 pub returns-clause-adds : goal.returns-clause-adds
 returns-clause-adds g c =
@@ -62,12 +63,12 @@ returns-in_err-extend_from_slice-clause-quiet g c = λ why start c' s le judged 
     let ours = (c.is_packet_for_us.ensures start c' (packet_parts c.args.packet) s refl).0 c.if-not-is_packet_for_us.false in
     absurd (packet_stays start ((c.args.now, Passed) ∷ c') c.args.now (packet_parts c.args.packet) why (record { destination_is = ours.destination_is; up = ours.up }) judged)
 
-pub returns-then-is_in_transit-clause-refused : goal.returns-then-is_in_transit-clause-refused
-returns-then-is_in_transit-clause-refused g c = λ verdict start c' s le judged adds place.
+pub returns-in_err-answer-clause-refused : goal.returns-in_err-answer-clause-refused
+returns-in_err-answer-clause-refused g c = λ verdict start c' s le judged adds place.
     let packet : PacketParts = packet_parts c.args.packet in
     let stranger = is_not c.is_packet_for_us.result (IsPacketForUs start c' packet) (c.is_packet_for_us.ensures start c' packet s refl) c.if-not-is_packet_for_us.true in
     let passes = in_transit_later start c' c.args.now packet ((c.is_in_transit.ensures start c' packet s refl stranger).0 c.if-is_in_transit.true) in
-    c.forward.ensures.refused (packet_bytes c.args.frame.now) start c' s (passing_refused start c.args.now c.args.frame.now packet c' verdict passes.not_ours judged adds) place
+    absurd (true≢false (sym (c.in_err-answer.ensures.refused (packet_bytes c.args.frame.now) start c' s (passing_refused start c.args.now c.args.frame.now packet c' verdict passes.not_ours judged adds) place)))
 
 pub returns-in_err-clone-clause-refused : goal.returns-in_err-clone-clause-refused
 returns-in_err-clone-clause-refused g c = λ verdict start c' s le judged adds place.

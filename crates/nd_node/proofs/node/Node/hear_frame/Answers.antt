@@ -1,4 +1,4 @@
-use Rattle.std.proofs.Common.{◌≡◌, ◌∷◌, ⊎_elim, subst, arith}
+use Rattle.std.proofs.Common.{◌≡◌, ◌∷◌, false, ⊎_elim, subst, arith}
 use Rattle.std.proofs.lemmas.Result.{IfOk-weaker}
 use Rattle.nd_addr.specs.Ip6.{packet_parts}
 use Rattle.nd_decode.specs.Message.{parts}
@@ -10,21 +10,21 @@ use Rattle.nd_node.proofs.Memory.{judged_by_frame, nameless, no_other}
 use Rattle.nd_node.proofs.Refusals.{judged_frame}
 use Rattle.nd_node.specs.declared.answer.Answer.TheVariants.{Done}
 use Rattle.nd_node.proofs.Reporting.{answered}
-use Rattle.nd_node.proofs.node.Node.judge_frame.Goals as goal
+use Rattle.nd_node.proofs.node.Node.hear_frame.Goals as goal
 
 pub returns-in-Drop-clause-adds : goal.returns-in-Drop-clause-adds
 returns-in-Drop-clause-adds g c =
     let h = subst (λ (r : Hearing). Hears c.args.frame.now c.args.self.now.role (outcome r)) c.in-Drop.is c.hear.ensures.heard in
-    answered c.drop_frame.result Done _ (λ adds. dropped_by_frame g.R.Rng.stream c.args.self.now c.drop_frame.new.self c.args.outs.now.items c.drop_frame.new.outs.items c.args.now c.args.frame.now c.in-Drop.why h adds) c.drop_frame.ensures.adds c.drop_frame.ensures.answer
+    answered c.drop_unheard.result (record { answer = Done; changes_tables = false }) _ (λ adds. dropped_by_frame g.R.Rng.stream c.args.self.now c.drop_unheard.new.self c.args.outs.now.items c.drop_unheard.new.outs.items c.args.now c.args.frame.now c.in-Drop.why h adds) c.drop_unheard.ensures.adds c.drop_unheard.ensures.answer
 
 pub returns-in-Valid-clause-adds : goal.returns-in-Valid-clause-adds
 returns-in-Valid-clause-adds g c =
     let h = subst (λ (r : Hearing). Hears c.args.frame.now c.args.self.now.role (outcome r)) c.in-Valid.is c.hear.ensures.heard in
-    IfOk-weaker c.judge_message.result _ _ (λ a adds. adds c.args.frame.now h) c.judge_message.ensures.adds
+    IfOk-weaker c.judge_message.result _ _ (λ r adds. adds c.args.frame.now h) c.judge_message.ensures.adds
 
 pub returns-in-Drop-clause-quiet : goal.returns-in-Drop-clause-quiet
 returns-in-Drop-clause-quiet g c = λ start c' s le asks.
-    ⊎_elim (λ d. c.drop_frame.ensures.quiet (omega (arith, d.told))) (λ n. c.drop_frame.ensures.quiet (omega (arith, n.adds.told))) asks
+    ⊎_elim (λ d. c.drop_unheard.ensures.quiet (omega (arith, d.told))) (λ n. c.drop_unheard.ensures.quiet (omega (arith, n.adds.told))) asks
 
 pub returns-in-Other-clause-quiet : goal.returns-in-Other-clause-quiet
 returns-in-Other-clause-quiet g c = λ start c' s le asks.
