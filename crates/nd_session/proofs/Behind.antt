@@ -1,7 +1,8 @@
 -- What leads a node on and is reported behind some reports leads it on and is reported behind more.
-use Rattle.std.proofs.Common.{◌≡◌, ◌≤◌, ℕ, List, [], ◌∷◌, ◌++◌, append_assoc, sym, ◌∙◌, ap, subst, Ok, Err}
+use Rattle.std.proofs.Common.{◌≡◌, ◌≤◌, ℕ, List, [], ◌∷◌, ◌++◌, append_assoc, false, sym, ◌∙◌, ap, subst, Ok, Err}
 use Rattle.std.specs.Prelude.{Result, IfOk, OnOk, OnErr, MatchResult}
 use Rattle.std.specs.declared.alloc.AllocError.{AllocError}
+use Rattle.std.proofs.lemmas.Bool.{true≢false}
 use Rattle.std.proofs.lemmas.List.{map-append}
 use Rattle.rand_core.specs.Stream.{Stream}
 use Rattle.nd_chronicle.specs.Start.{Start}
@@ -14,6 +15,7 @@ use Rattle.nd_node.specs.declared.node.Node.{Node}
 use Rattle.nd_node.specs.declared.resolve.Resolution.{Resolution}
 use Rattle.nd_node.specs.Resolve.{answer_by, answer_told, with_answer}
 use Rattle.nd_node.specs.declared.answer.Answer.{Answer}
+use Rattle.nd_node.specs.declared.frame.Reception.{Reception}
 use Rattle.nd_chronicle.specs.Answer as answers
 use Rattle.nd_chronicle.specs.Event as events
 use Rattle.nd_node.specs.Answer.{answer_of}
@@ -22,6 +24,7 @@ use Rattle.nd_node.specs.EventKept.{AddsEvent}
 use Rattle.nd_node.specs.Frame.{Stays}
 use Rattle.nd_node.specs.Time.{Leads, Onward, Passes}
 use Rattle.nd_node.proofs.Steps.{follows}
+use Rattle.nd_session.specs.Reception.{answer_in, changes_tables}
 
 module _ {A : Type 0} (xs before after : List (ℕ × Out A)) where
   tells_behind : {c d : Chronicle} → Tells c d before after → Tells c d (xs ++ before) (xs ++ after)
@@ -47,6 +50,33 @@ on_ok (Err e) f p = p
 pub on_err : {X E P Q : Type 0} (r : Result X E) → (P → Q) → OnErr r P → OnErr r Q
 on_err (Ok x) f p = p
 on_err (Err e) f p = f p
+
+-- ---- a frame
+
+module _ (heard : Result Reception AllocError) where
+  -- what is so where the node took it, is so of its answer
+  pub answered_of : (r : Result Answer AllocError) → r ≡ answer_in heard → (S : Answer → Type 0) → IfOk heard (λ reception. S reception.answer) → IfOk r S
+  answered_of r is S given = subst (λ (x : Result Answer AllocError). IfOk x S) (sym is) (by heard given)
+    where
+      by : (h : Result Reception AllocError) → IfOk h (λ reception. S reception.answer) → IfOk (answer_in h) S
+      by (Ok reception) given' = given'
+      by (Err e) given' = tt
+
+  -- and what is so where it failed
+  pub failed_of : (P : Type 0) (r : Result Answer AllocError) → r ≡ answer_in heard → OnErr heard P → OnErr r P
+  failed_of P r is given = subst (λ (x : Result Answer AllocError). OnErr x P) (sym is) (by heard given)
+    where
+      by : (h : Result Reception AllocError) → OnErr h P → OnErr (answer_in h) P
+      by (Ok reception) given' = tt
+      by (Err e) given' = given'
+
+  -- nothing but the last moment has changed
+  pub left_alone : (P : Type 0) → changes_tables heard ≡ false → IfOk heard (λ reception. reception.changes_tables ≡ false → P) → P
+  left_alone P same given = by heard same given
+    where
+      by : (h : Result Reception AllocError) → changes_tables h ≡ false → IfOk h (λ reception. reception.changes_tables ≡ false → P) → P
+      by (Ok reception) same' given' = given' same'
+      by (Err e) same' given' = absurd (true≢false same')
 
 -- ---- an event
 

@@ -3,13 +3,9 @@ use Rattle.std.proofs.Common.{◌≡◌, ◌<◌, ◌≤◌, ℕ, List, [], ◌�
 use Rattle.std.proofs.lemmas.Bool.{cases_lt}
 use Rattle.std.specs.Global.{Global}
 use Rattle.nd_addr.specs.declared.addr.Addr.{Addr}
-use Rattle.nd_neighbour.proofs.Dues as neighbour_dues
-use Rattle.nd_routers.proofs.Dues as router_dues
-use Rattle.nd_slaac.proofs.Dues as address_dues
 use Rattle.nd_chronicle.specs.Answer as answers
 use Rattle.nd_chronicle.specs.Event as events
 use Rattle.nd_chronicle.specs.Happening.{Chronicle, Passed, last_moment}
-use Rattle.nd_chronicle.specs.Histories.{address_history, neighbour_history, router_history}
 use Rattle.nd_chronicle.specs.Start.{Start}
 use Rattle.nd_chronicle.proofs.Idle.{idle_passes}
 use Rattle.nd_out.specs.declared.out.Out.{Out}
@@ -17,12 +13,11 @@ use Rattle.nd_node.specs.declared.node.Node.{Node}
 use Rattle.nd_steps.specs.Outputs.{happenings}
 use Rattle.nd_node.specs.Event.{FollowsBy}
 use Rattle.nd_node.specs.EventKept.{AddsEvent}
-use Rattle.nd_node.specs.Node.{NextDue}
 use Rattle.nd_node.specs.NodeKept.{Stands, next_of}
 use Rattle.nd_node.specs.Resolve.{answer_by, with_answer}
 use Rattle.nd_node.specs.Time.{Leads, Passes}
 use Rattle.nd_node.proofs.Steps.{follows}
-use Rattle.nd_node.proofs.Turns.{next_due_at}
+use Rattle.nd_node.proofs.Leases.{due_is}
 use Rattle.nd_node.proofs.Walks.{settle_end, still}
 use Rattle.nd_random.specs.declared.source.Source.{Source}
 use Rattle.nd_random.specs.Source.{stream_of_source}
@@ -31,17 +26,11 @@ use Rattle.nd_session.specs.declared.session.Session.{Session}
 use Rattle.nd_session.specs.Ready.{IsReady}
 use Rattle.nd_session.specs.Resolve.{AnsweredAtOnce, AnsweredBy}
 
-due_is : (start : Start) (node : Node Source Global) (c : Chronicle) → Stands stream_of_source start node c → NextDue start c (next_of node)
-due_is start node c s =
-    next_due_at stream_of_source start node c s _ _ _ refl refl refl (router_dues.next_is_due node.routers.entries (router_history c) s.routers.routers _ refl)
-    (address_dues.next_is_due node.addresses.transmits node.addresses.addresses (address_history c) s.addresses _ refl)
-    (neighbour_dues.next_is_due node.neighbours.entries (neighbour_history c) s.neighbours _ refl) (next_of node) refl
-
 -- time passes, and nothing happens
 pub time_passes : (node : Node Source Global) (queue : List (ℕ × Out Global)) (now : ℕ) → now < next_of node → Leads stream_of_source node node queue queue (Passes now)
 time_passes node queue now lt =
     settle_end stream_of_source (λ start c d next end idle moment le le' w. idle_passes start c d next end idle moment le le' w) node node queue queue now (next_of node)
-    (still stream_of_source node queue now) (λ start c s. due_is start node c s) lt
+    (still stream_of_source node queue now) (λ start c s. due_is stream_of_source start node c s) lt
 
 -- what is due is done, and then the question is answered at once
 pub answered_at_once : (old mid new : Session) (now : ℕ) (destination : Addr) (answer : PathAnswer) → old.node.last ≤ now

@@ -1,5 +1,6 @@
 -- A lease holds as long as the version is the same.
-use Rattle.std.proofs.Common.{◌≡◌, ◌<◌, ◌≤◌, ◌-◌, ◌^◌, ℕ, sym, ◌∙◌, ap, subst, arith}
+use Rattle.std.proofs.Common.{◌≡◌, ◌<◌, ◌≤◌, ◌-◌, ◌^◌, ℕ, Bool, true, false, refl, sym, ◌∙◌, ap, subst, arith, inl, inr}
+use Rattle.std.proofs.lemmas.Bool.{cases_Bool}
 use Rattle.std.specs.Global.{Global}
 use Rattle.nd_addr.specs.declared.addr.Addr.{Addr}
 use Rattle.nd_chronicle.specs.Happening.{Chronicle, last_moment}
@@ -37,3 +38,14 @@ one_after_another old mid new first second = record {
       let mid_is : mid.paths.version ≡ old.paths.version = omega (arith, first.grows, second.grows, same) in
       second.keeps (same ∙ sym mid_is) (omega (arith, mid_is, lt)) ∙ ap (λ (n : Node Source Global). record n { last = new.node.last }) (first.keeps mid_is lt);
 }
+
+-- where nothing has changed but the last moment, and the version grows where something has
+pub keeps_where : (changed : Bool) (old mid new : Session) (at : ℕ) → KeepsLeases old mid → mid.paths.version ≤ new.paths.version
+    → (changed ≡ true → mid.paths.version < 2 ^ 64 - 1 → mid.paths.version < new.paths.version) → (changed ≡ false → new.node ≡ record mid.node { last = at }) → KeepsLeases old new
+keeps_where changed old mid new at first least grows same = one_after_another old mid new first (record {
+  grows = least;
+  keeps = λ version lt. elim (cases_Bool changed) [
+    | inl changes ↦ absurd (omega (arith, grows changes lt, version))
+    | inr stays ↦ subst (λ (n : Node Source Global). n ≡ record mid.node { last = n.last }) (sym (same stays)) refl
+  ];
+})

@@ -7,3 +7,4 @@ pub mod Slots
 pub mod Remembered
 pub mod Idling
 pub mod Lasting
+pub mod Confirming

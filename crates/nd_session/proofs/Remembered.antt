@@ -1,6 +1,7 @@
 -- The paths that a session remembers.
-use Rattle.std.proofs.Common.{◌≡◌, ℕ, zero, suc, ◌<◌, ◌≤◌, ◌-◌, Contains, Option, Some, None, refl, sym, ◌∙◌, ap, subst, arith, inl, inr}
+use Rattle.std.proofs.Common.{◌≡◌, Bool, true, false, ℕ, ◌<◌, ◌≤◌, ◌-◌, Contains, Option, Some, refl, sym, ◌∙◌, ap, subst, arith, inl, inr, ⊎_elim}
 use Rattle.std.specs.Prelude.{◌⊎◌}
+use Rattle.std.proofs.lemmas.Bool.{cases_Bool}
 use Rattle.std.specs.Global.{Global}
 use Rattle.nd_addr.specs.declared.addr.Addr.{Addr}
 use Rattle.nd_addr.specs.declared.mac.Mac.{Mac}
@@ -9,7 +10,7 @@ use Rattle.nd_addr.specs.declared.role.Role.TheVariants.{Host, Router}
 use Rattle.nd_addr.specs.Number.{number_of}
 use Rattle.nd_table.specs.Listing.{open_at}
 use Rattle.nd_neighbour.specs.declared.shown.Reachability.{Reachability}
-use Rattle.nd_neighbour.specs.declared.shown.Reachability.TheVariants.{Delay, Incomplete, Probe, Reachable, Stale}
+use Rattle.nd_neighbour.specs.declared.shown.Reachability.TheVariants.{Delay}
 use Rattle.nd_nexthop.specs.NextHop.{NextHop}
 use Rattle.nd_node.specs.declared.node.Node.{Node}
 use Rattle.nd_node.specs.NodeKept.{next_of}
@@ -21,31 +22,9 @@ use Rattle.nd_random.specs.declared.source.Source.{Source}
 use Rattle.nd_random.specs.Source.{stream_of_source}
 use Rattle.nd_session.specs.declared.paths.LeasedPath.{LeasedPath}
 use Rattle.nd_session.specs.declared.session.Session.{Session}
-use Rattle.nd_session.specs.Paths.{AreRemembered, IsPathAt, state_number}
+use Rattle.nd_session.specs.Paths.{AreRemembered, IsPathAt}
 use Rattle.nd_session.specs.Resolve.{IsLeased}
 use Rattle.nd_session.specs.Slots.{AreForgotten, IsRecalled, Slots}
-
--- ---- states by their numbers
-
-state_of_number : ℕ → Option Reachability
-state_of_number zero = None
-state_of_number (suc zero) = Some Incomplete
-state_of_number (suc (suc zero)) = Some Reachable
-state_of_number (suc (suc (suc zero))) = Some Stale
-state_of_number (suc (suc (suc (suc zero)))) = Some Delay
-state_of_number (suc (suc (suc (suc (suc n))))) = Some Probe
-
-number_told : (s : Option Reachability) → state_of_number (state_number s) ≡ s
-unfolding state_of_number
-number_told None = refl
-number_told (Some Incomplete) = refl
-number_told (Some Reachable) = refl
-number_told (Some Stale) = refl
-number_told (Some Delay) = refl
-number_told (Some Probe) = refl
-
-pub same_state : (a b : Option Reachability) → state_number a ≡ state_number b → a ≡ b
-same_state a b is = sym (number_told a) ∙ (ap state_of_number is ∙ number_told b)
 
 -- ---- what is remembered
 
@@ -61,25 +40,35 @@ path_later node at now destination =
 -- what is remembered is so when time has passed
 pub remembers_later : (slots : Slots) (node later : Node Source Global) (at : ℕ) → later ≡ record node { last = at } → AreRemembered slots node → AreRemembered slots later
 remembers_later slots node later at is r path there version now from until =
-    subst (λ (q : PathSeen). (q.until ≡ path.until) × (towards q.next path.destination ≡ number_of path.to.0) × (q.mac ≡ Some (number_of path.mac.0)) × (state_number q.state ≡ state_number path.state))
+    subst (λ (q : PathSeen). (q.until ≡ path.until) × (towards q.next path.destination ≡ number_of path.to.0) × (q.mac ≡ Some (number_of path.mac.0)) × (q.state ≡ path.state))
     (sym (ap (λ (n : Node Source Global). path_kept n now path.destination) is ∙ path_later node at now path.destination)) (r path there version now from until)
 
 -- nothing is, at any node
 pub remembers_nothing : (slots : Slots) (node : Node Source Global) → AreForgotten slots → AreRemembered slots node
 remembers_nothing slots node none path there version now from until = absurd (none path there version)
 
+-- where something has changed it is forgotten
+pub remembers_where : (changed : Bool) (slots left : Slots) (node later : Node Source Global) (at : ℕ) → (changed ≡ true → AreForgotten left) → (changed ≡ false → left ≡ slots)
+    → (changed ≡ false → later ≡ record node { last = at }) → AreRemembered slots node → AreRemembered left later
+remembers_where changed slots left node later at forgotten kept same r = elim (cases_Bool changed) [
+  | inl changes ↦ remembers_nothing left later (forgotten changes)
+  | inr stays ↦ subst (λ (s : Slots). AreRemembered s later) (sym (kept stays)) (remembers_later slots node later at (same stays) r)
+]
+
 module _ (node : Node Source Global) (now : ℕ) (destination to : Addr) (mac : Mac) (state : Option Reachability) (p : PathSeen)
     (is : p ≡ path_kept node now destination) (to_is : towards p.next destination ≡ number_of to.0) (mac_is : p.mac ≡ Some (number_of mac.0)) (state_is : p.state ≡ state)
-    (steady : (path_kept node (p.until - 1) destination).state ≡ p.state) where
+    (steady : ((path_kept node (p.until - 1) destination).state ≡ p.state) ⊎ (p.state ≡ Some Delay → ⊥)) where
   -- a path in its lease
   lasts_until : (version t : ℕ) → now ≤ t → t < p.until → IsPathAt node (record { destination = destination; to = to; mac = mac; state = state; from = now; until = p.until; version = version }) t
   lasts_until version t from until =
       let same = kept_lasts node now destination t from (subst (λ (q : PathSeen). t < q.until) is until)
-      (ap (λ (q : PathSeen). (path_kept node (q.until - 1) destination).state) (sym is) ∙ (steady ∙ ap (λ (q : PathSeen). q.state) is)) ∙ sym is in (
+      (⊎_elim (λ at_end. inl (ap (λ (q : PathSeen). (path_kept node (q.until - 1) destination).state) (sym is) ∙ (at_end ∙ ap (λ (q : PathSeen). q.state) is)))
+      (λ other. inr (λ delayed. other (ap (λ (q : PathSeen). q.state) is ∙ delayed))) steady)
+      ∙ sym is in (
         ap (λ (q : PathSeen). q.until) same,
         ap (λ (q : PathSeen). towards q.next destination) same ∙ to_is,
         ap (λ (q : PathSeen). q.mac) same ∙ mac_is,
-        ap (λ (q : PathSeen). state_number q.state) same ∙ ap state_number state_is,
+        ap (λ (q : PathSeen). q.state) same ∙ state_is,
       )
 
   -- it is remembered beside the others
@@ -93,11 +82,6 @@ module _ (node : Node Source Global) (now : ℕ) (destination to : Addr) (mac : 
       by (inr this) =
           subst (λ (q : LeasedPath). IsPathAt node q t) (sym this)
           (lasts_until old.version t (subst (λ (q : LeasedPath). q.from ≤ t) this from) (subst (λ (q : LeasedPath). t < q.until) this until))
-
--- nothing is due at the last moment of a lease
-pub last_settled : (node : Node Source Global) (now : ℕ) (destination : Addr) (p : PathSeen) → p ≡ path_kept node now destination → now < p.until → p.until - 1 < next_of node
-last_settled node now destination p is lt =
-    lease_settled node now (p.until - 1) destination (omega (arith, lt)) (subst (λ (q : PathSeen). p.until - 1 < q.until) is (omega (arith, lt)))
 
 -- ---- what is recalled
 
@@ -124,9 +108,7 @@ module _ (slots : Slots) (node : Node Source Global) (now : ℕ) (destination : 
         settled = λ lt start c s le. (
           path_kept session.node now destination,
           kept_is_path stream_of_source start session.node c s now destination le lt,
-          same_state path.state (path_kept session.node now destination).state
-              (sym (subst (λ (d : Addr). state_number (path_kept session.node now d).state ≡ state_number path.state) recalled.destination_is
-              (ap (λ (q : PathSeen). state_number q.state) (at_node path.destination) ∙ here.3))),
+          sym (subst (λ (d : Addr). (path_kept session.node now d).state ≡ path.state) recalled.destination_is (ap (λ (q : PathSeen). q.state) (at_node path.destination) ∙ here.3)),
           sym (subst (λ (d : Addr). (path_kept session.node now d).until ≡ path.until) recalled.destination_is (ap (λ (q : PathSeen). q.until) (at_node path.destination) ∙ here.0)),
         );
         due = λ le. absurd (omega (arith, le, same_next, recalled_settled));

@@ -3,6 +3,8 @@ pub mod Paths
 pub mod Held
 pub mod Boxed
 pub mod Event
+pub mod Reception
 pub mod Leases
 pub mod Resolve
+pub mod Confirmation
 pub mod Ready

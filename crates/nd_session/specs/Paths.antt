@@ -1,29 +1,18 @@
 -- What a session remembers of paths, and its node (RFC 4861, sections 5.2 and 7.3.3).
-use Rattle.std.specs.Prelude.{◌≡◌, ℕ, ◌<◌, ◌≤◌, Option, Some, None, Contains}
+use Rattle.std.specs.Prelude.{◌≡◌, ℕ, ◌<◌, ◌≤◌, Some, Contains}
 use Rattle.std.specs.Global.{Global}
 use Rattle.nd_addr.specs.Number.{number_of}
-use Rattle.nd_neighbour.specs.declared.shown.Reachability.{Reachability}
-use Rattle.nd_neighbour.specs.declared.shown.Reachability.TheVariants.{Delay, Incomplete, Probe, Reachable, Stale}
 use Rattle.nd_node.specs.declared.node.Node.{Node}
 use Rattle.nd_node.specs.PathKept.{path_kept, towards}
 use Rattle.nd_random.specs.declared.source.Source.{Source}
 use Rattle.nd_session.specs.declared.paths.LeasedPath.{LeasedPath}
 use Rattle.nd_session.specs.Slots.{Slots}
 
--- a state as a number
-abbrev pub state_number : Option Reachability → ℕ
-state_number None = 0
-state_number (Some Incomplete) = 1
-state_number (Some Reachable) = 2
-state_number (Some Stale) = 3
-state_number (Some Delay) = 4
-state_number (Some Probe) = 5
-
 -- in the lease it is the path of its destination, at this node
 abbrev pub IsPathAt : Node Source Global → LeasedPath → ℕ → Type 0
 IsPathAt node path now =
     ((path_kept node now path.destination).until ≡ path.until) × (towards (path_kept node now path.destination).next path.destination ≡ number_of path.to.0)
-    × ((path_kept node now path.destination).mac ≡ Some (number_of path.mac.0)) × (state_number (path_kept node now path.destination).state ≡ state_number path.state)
+    × ((path_kept node now path.destination).mac ≡ Some (number_of path.mac.0)) × ((path_kept node now path.destination).state ≡ path.state)
 
 -- what is remembered and not forgotten is what the node would answer
 abbrev pub AreRemembered : Slots → Node Source Global → Type 0

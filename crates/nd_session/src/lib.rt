@@ -7,6 +7,7 @@
 //! (`specs/Held.antt`). A function for that language takes the session out of the slot, calls it, and puts it back.
 #![tactic(auto)]
 
+mod confirmation;
 mod handle;
 pub mod laws;
 mod paths;
@@ -16,6 +17,7 @@ mod resolve;
 mod session;
 mod slot;
 
+pub use confirmation::Confirmation;
 pub use resolve::PathAnswer;
 pub use session::Session;
 pub use slot::Slot;

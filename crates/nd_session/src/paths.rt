@@ -1,7 +1,7 @@
 //! The paths that a session remembers: where packets to a destination go within a lease (RFC 4861, sections 5.2 and 7.3.3). The definitions are in
 //! `specs/Slots.antt`.
 
-ghost use Rattle.std.specs.Prelude.{◌≡◌, ◌⊎◌, ◌<◌, ◌≤◌, ◌^◌, ◌-◌, Contains, IfOk, IfSome};
+ghost use Rattle.std.specs.Prelude.{◌≡◌, ◌⊎◌, ◌<◌, ◌≤◌, ◌^◌, ◌-◌, Contains, IfOk, IfSome, false, true};
 
 use nd_addr::{Addr, Mac};
 use nd_neighbour::Reachability;
@@ -29,7 +29,7 @@ pub(crate) struct LeasedPath {
     pub(crate) version: u64,
 }
 
-/// The paths of the destinations that were asked for, each in the slot of its destination. Those of an earlier version are forgotten.
+/// The paths of the destinations that were asked for, each in the slot of its destination or in the one next to that. Those of an earlier version are forgotten.
 #[derive(Drop)]
 pub struct Paths {
     slots: Vec<LeasedPath, Global>,
@@ -84,18 +84,41 @@ impl Paths {
         }
     }
 
+    /// Forgets what is remembered where something has changed.
+    pub(crate) fn forget_where(&mut self, changed: bool)
+        ensures forgotten { changed ≡ true → AreForgotten self.new }
+        ensures kept { changed ≡ false → self.new ≡ self.old }
+        ensures least { self.old.version ≤ self.new.version }
+        ensures grows { changed ≡ true → self.old.version < 2 ^ 64 - 1 → self.old.version < self.new.version }
+    {
+        if changed {
+            self.forget();
+        }
+    }
+
     /// Returns what is remembered of a destination, if `now`, in milliseconds, is within its lease.
     #[inline(always)]
     pub(crate) fn recall(&self, now: u64, destination: Addr) -> Option<LeasedPath>
         ensures { IfSome result (λ path. IsRecalled self.now now destination path) }
     {
+        let slot = self.slot_of(destination.to_bits());
+        match self.recall_at(slot, now, destination) {
+            Some(path) => Some(path),
+            None => self.recall_at(slot ^ 1, now, destination),
+        }
+    }
+
+    /// Returns what a slot has of a destination, if `now`, in milliseconds, is within its lease.
+    #[inline(always)]
+    fn recall_at(&self, slot: usize, now: u64, destination: Addr) -> Option<LeasedPath>
+        ensures { IfSome result (λ path. IsRecalled self.now now destination path) }
+    {
         nd_addr::laws::addresses_are_told_by_numbers();
         let _bytes = destination.as_bytes();
-        let bits = destination.to_bits();
-        let path = self.slots.get(self.slot_of(bits))?;
+        let path = self.slots.get(slot)?;
         let _bytes = path.destination.as_bytes();
         if path.version == self.version
-            && path.destination.to_bits() == bits
+            && path.destination.to_bits() == destination.to_bits()
             && path.from <= now
             && now < path.until
         {
@@ -104,20 +127,43 @@ impl Paths {
         None
     }
 
-    /// Remembers a path in the slot of its destination.
+    /// Remembers a path in the slot of its destination, or in the one next to that if it has the path of another destination.
     pub(crate) fn remember(&mut self, mut path: LeasedPath)
         ensures version { self.new.version ≡ self.old.version }
         ensures paths { (p : _) → Contains self.new.paths p → Contains self.old.paths p ⊎ (p ≡ record path { version = self.old.version }) }
     {
         path.version = self.version;
-        let slot = self.slot_of(path.destination.to_bits());
+        let slot = self.free_slot(path.from, path.destination);
         if slot < self.slots.len() && self.version < LAST_VERSION {
             self.slots[slot] = path;
         }
     }
 
-    /// Returns the slot of a destination, by its number. The upper bits of the product depend on all bits of the address, so that near ones, and those with one identifier
-    /// behind several prefixes, have different slots.
+    /// Returns the slot of a destination, or the one next to it if that alone has no path of another destination at `now`, in milliseconds.
+    fn free_slot(&self, now: u64, destination: Addr) -> usize {
+        let slot = self.slot_of(destination.to_bits());
+        if self.has_another(slot, now, destination)
+            && !self.has_another(slot ^ 1, now, destination)
+        {
+            return slot ^ 1;
+        }
+        slot
+    }
+
+    /// Returns true if there is no such slot, or if `now`, in milliseconds, is within the lease of another destination that it has.
+    fn has_another(&self, slot: usize, now: u64, destination: Addr) -> bool {
+        match self.slots.get(slot) {
+            Some(path) => {
+                path.version == self.version
+                    && now < path.until
+                    && path.destination.to_bits() != destination.to_bits()
+            }
+            None => true,
+        }
+    }
+
+    /// Returns the slot of a destination, by its number. The upper bits of the product depend on all bits of the address, so that near ones, and those with one
+    /// identifier behind several prefixes, have different slots.
     fn slot_of(&self, destination: u128) -> usize {
         let product = destination.wrapping_mul(GOLDEN);
         (product >> 120) as usize & self.slots.len().wrapping_sub(1)

@@ -1,8 +1,9 @@
 //! Where packets go of a caller that keeps them (RFC 4861, sections 5.2, 7.2.2 and 7.3.3). The definitions are in `specs/Resolve.antt`.
 
-ghost use Rattle.std.specs.Prelude.{◌≡◌, ◌<◌, ◌≤◌, IfSome, MatchResult, Some};
+ghost use Rattle.std.specs.Prelude.{◌≡◌, ◌<◌, ◌≤◌, ◌-◌, ◌⊎◌, true, IfSome, MatchBool, MatchResult, Some};
 ghost use Rattle.nd_addr.specs.Number.{number_of};
 ghost use Rattle.nd_table.specs.Moment.{IsMoment};
+ghost use Rattle.nd_neighbour.specs.declared.shown.Reachability.TheVariants.{Delay};
 ghost use Rattle.nd_chronicle.specs.Happening.{Chronicle};
 ghost use Rattle.nd_chronicle.specs.Start.{Start};
 ghost use Rattle.nd_node.specs.Node.{last_of};
@@ -13,7 +14,6 @@ ghost use Rattle.nd_node.specs.Time.{Onward};
 ghost use Rattle.nd_random.specs.Source.{stream_of_source};
 ghost use Rattle.nd_session.specs.Event.{LedBy};
 ghost use Rattle.nd_session.specs.Leases.{KeepsLeases};
-ghost use Rattle.nd_session.specs.Paths.{state_number};
 ghost use Rattle.nd_session.specs.Ready.{IsReady};
 ghost use Rattle.nd_session.specs.Resolve.{AnsweredAtOnce, AnsweredBy, HasLease, Resolves, resolution_in};
 ghost use Rattle.nd_session.specs.Slots.{IsRecalled};
@@ -61,21 +61,40 @@ fn leased_to(now: u64, destination: Addr, path: Path) -> Option<(Addr, Mac)>
     }
 }
 
-/// Returns the number of a state, by which states are compared.
-fn state_number(state: Option<Reachability>) -> u8
-    ensures { result ≡ state_number state }
+/// Returns true if a neighbour is in DELAY.
+fn is_delayed(state: Option<Reachability>) -> bool
+    ensures { MatchBool result (state ≡ Some Delay) (state ≡ Some Delay → ⊥) }
 {
     match state {
-        None => 0,
-        Some(Reachability::Incomplete) => 1,
-        Some(Reachability::Reachable) => 2,
-        Some(Reachability::Stale) => 3,
-        Some(Reachability::Delay) => 4,
-        Some(Reachability::Probe) => 5,
+        Some(Reachability::Delay) => true,
+        None
+        | Some(
+            Reachability::Incomplete
+            | Reachability::Reachable
+            | Reachability::Stale
+            | Reachability::Probe,
+        ) => false,
     }
 }
 
 impl Session {
+    /// Returns true if the neighbour `to`, to which packets to a destination go at `now`, in milliseconds, is in the same state up to the end of the lease of
+    /// the path. DELAY ends by itself.
+    fn is_steady(&self, now: u64, destination: Addr, to: Addr, path: Path) -> bool
+        requires path { path_in path ≡ path_kept self.now.node now destination }
+        requires in_lease { now < path.until }
+        requires to_is { towards (path_in path).next destination ≡ number_of to.0 }
+        ensures { result ≡ true → ((path_kept self.now.node (path.until - 1) destination).state ≡ path.state) ⊎ (path.state ≡ Some Delay → ⊥) }
+    {
+        if !is_delayed(path.state) {
+            return true;
+        }
+        match self.node.neighbour(path.until - 1, to) {
+            Some(neighbour) => is_delayed(Some(neighbour.state)),
+            None => false,
+        }
+    }
+
     /// Remembers the path of a destination at `now`, in milliseconds, up to which nothing is due, if it has a lease.
     fn remember(&mut self, now: u64, destination: Addr, path: Path)
         requires settled { now < next_of self.old.node }
@@ -88,9 +107,7 @@ impl Session {
         let Some((to, mac)) = leased_to(now, destination, path) else {
             return;
         };
-        // DELAY ends by itself.
-        let last = self.node.path(path.until - 1, destination);
-        if state_number(last.state) == state_number(path.state) {
+        if self.is_steady(now, destination, to, path) {
             self.paths.remember(LeasedPath {
                 destination,
                 to,

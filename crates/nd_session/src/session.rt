@@ -17,13 +17,14 @@ ghost use Rattle.nd_node.specs.Time.{Advances, IsInHand, Leads, Onward, Passes, 
 ghost use Rattle.nd_steps.specs.Outputs.{frame_sent};
 ghost use Rattle.nd_random.specs.Source.{stream_of_source};
 ghost use Rattle.nd_session.specs.Paths.{AreRemembered};
+ghost use Rattle.nd_session.specs.Reception.{answer_in, changes_tables};
 ghost use Rattle.std.proofs.Props.{props};
 
 use crate::paths::Paths;
 use crate::queue::Queue;
 use nd_addr::{Addr, Mac, Role};
 use nd_compose::FrameRoom;
-use nd_node::{Answer, Event, Limits, Node};
+use nd_node::{Answer, Event, Limits, Node, Reception};
 use nd_out::Out;
 use nd_random::Source;
 use nd_slaac::Transmits;
@@ -37,7 +38,7 @@ pub struct Session {
     pub(crate) queue: Queue,
     /// The room in reserve: the next frame that is due is written into it. It is missing from then on until a frame's block is had back.
     pub(crate) room: Option<FrameRoom<Global>>,
-    /// The paths that were asked for. They are forgotten before anything happens to the node but that time passes.
+    /// The paths that were asked for. They are forgotten where more of the node may have changed than the moment up to which time has passed.
     pub(crate) paths: Paths,
     ghost remembered: { AreRemembered paths node } by { Prim.hlevel props },
 }
@@ -184,8 +185,9 @@ impl Session {
             return Ok(past);
         }
         self.settle(now)?;
-        self.paths.forget();
-        self.node.judge_frame(now, frame, &mut self.queue.back)
+        let heard = self.node.hear_frame(now, frame, &mut self.queue.back);
+        self.paths.forget_where(changes_tables(&heard));
+        answer_in(heard)
     }
 
     /// Sends a packet of the upper layer at `now`, in milliseconds (RFC 4861, section 5.2). `payload` is copied once the packet is not refused.
@@ -305,6 +307,26 @@ impl Session {
         };
         self.room = Some(room);
         true
+    }
+}
+
+/// Returns false if a frame has changed nothing of the node but the moment up to which time has passed.
+fn changes_tables(heard: &Result<Reception, AllocError>) -> bool
+    ensures { result ≡ changes_tables heard.now }
+{
+    match heard {
+        Ok(reception) => reception.changes_tables,
+        Err(_) => true,
+    }
+}
+
+/// Returns how the node took the event.
+fn answer_in(heard: Result<Reception, AllocError>) -> Result<Answer, AllocError>
+    ensures { result ≡ answer_in heard }
+{
+    match heard {
+        Ok(reception) => Ok(reception.answer),
+        Err(error) => Err(error),
     }
 }
 

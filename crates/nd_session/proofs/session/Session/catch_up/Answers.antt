@@ -1,4 +1,4 @@
-use Rattle.std.proofs.Common.{◌≡◌, List, [], ◌++◌, sym, ◌∙◌, ap, subst, arith}
+use Rattle.std.proofs.Common.{◌≡◌, [], ◌++◌, sym, ◌∙◌, ap, subst, arith}
 use Rattle.std.specs.Prelude.{OnOk, OnErr, reverse}
 use Rattle.nd_node.specs.Time.{Advances, Leads, Onward, Passes}
 use Rattle.nd_random.specs.Source.{stream_of_source}

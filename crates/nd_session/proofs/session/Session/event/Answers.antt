@@ -1,11 +1,10 @@
-use Rattle.std.proofs.Common.{◌≡◌, ◌<◌, ◌≤◌, ◌++◌, sym, ◌∙◌, ap, subst, ⊎_elim}
-use Rattle.std.specs.Prelude.{IfOk, OnErr, reverse}
+use Rattle.std.proofs.Common.{◌≤◌, ◌++◌, sym, ap, subst, ⊎_elim}
+use Rattle.std.specs.Prelude.{reverse}
 use Rattle.std.proofs.lemmas.Bool.{cases_lt}
 use Rattle.std.proofs.lemmas.Result.{IfOk-weaker}
 use Rattle.nd_chronicle.specs.Event as events
 use Rattle.nd_node.specs.Answer.{answer_of}
 use Rattle.nd_node.specs.Event.{event_of}
-use Rattle.nd_node.specs.EventKept.{AddsEvent}
 use Rattle.nd_node.specs.Node.{last_of}
 use Rattle.nd_node.specs.Time.{Leads, Onward, Passes}
 use Rattle.nd_node.proofs.Steps.{follows}

@@ -1,4 +1,4 @@
-use Rattle.std.proofs.Common.{◌≡◌, ◌≤◌, ◌++◌, ap, subst, sym}
+use Rattle.std.proofs.Common.{◌++◌, ap, subst, sym}
 use Rattle.std.specs.Prelude.{reverse}
 use Rattle.nd_chronicle.specs.Event as events
 use Rattle.nd_node.specs.Resolve.{with_answer}

@@ -1,4 +1,4 @@
-use Rattle.std.proofs.Common.{◌≡◌, ℕ, List, Some, sym, subst, inl, inr, ⊎_elim}
+use Rattle.std.proofs.Common.{◌≡◌, ℕ, List, sym, subst, inl, inr, ⊎_elim}
 use Rattle.std.specs.Prelude.{option_copied, slice_get}
 use Rattle.std.specs.Global.{Global}
 use Rattle.nd_out.specs.declared.out.Out.{Out}

@@ -1,0 +1,81 @@
+use Rattle.std.proofs.Common.{Bool, None, Some, arith, subst}
+use Rattle.std.specs.Prelude.{if◌then◌else◌}
+use Rattle.nd_addr.specs.Number.{number_of}
+use Rattle.nd_node.specs.ReachabilityConfirmation.{IsConfirmed}
+use Rattle.nd_session.proofs.Confirming.{confirms_then, ready_then}
+use Rattle.nd_session.proofs.Idling.{passing_adds, time_passes}
+use Rattle.nd_session.proofs.Remembered.{recalled_settled}
+use Rattle.nd_session.proofs.session.Session.confirm_to.Goals as goal
+
+-- ---- in a lease
+
+pub confirm-requires-clause-settled : goal.confirm-requires-clause-settled
+confirm-requires-clause-settled c =
+    recalled_settled c.args.self.now.paths c.args.self.now.node c.args.now c.args.destination c.in-Some.path c.args.self.now.remembered c.in-Some.ensures
+
+pub pass-requires : goal.pass-requires
+pass-requires c = record {
+  settled = recalled_settled c.args.self.now.paths c.args.self.now.node c.args.now c.args.destination c.in-Some.path c.args.self.now.remembered c.in-Some.ensures;
+}
+
+pub returns-then-is_confirmed_by-clause-confirms : goal.returns-then-is_confirmed_by-clause-confirms
+returns-then-is_confirmed_by-clause-confirms c =
+    let settled = recalled_settled c.args.self.now.paths c.args.self.now.node c.args.now c.args.destination c.in-Some.path c.args.self.now.remembered c.in-Some.ensures in
+    rw c.confirm.ensures.taken (record {
+      past = λ lt. absurd (omega (arith, lt, c.if-is_past.ensures));
+      taken = λ le. (
+        c.in-Some.path.to,
+        confirms_then c.args.self.now c.args.self.now c.confirm.new.self c.args.now (Some c.in-Some.path.to) le (time_passes c.args.self.now.node c.args.self.now.queue c.args.now settled)
+            (c.confirm.ensures.adds c.args.self.now.queue) c.confirm.ensures.queue c.args.destination c.args.least
+            (λ start c' s last. subst (λ (b : Bool). IsConfirmed start c' c.args.now c.args.destination c.args.least (if b then Some (number_of c.in-Some.path.to.0) else None)) c.if-is_confirmed_by.true
+            (c.is_confirmed_by.ensures start c' s last)),
+      );
+    })
+
+pub returns-then-is_confirmed_by-clause-ready : goal.returns-then-is_confirmed_by-clause-ready
+returns-then-is_confirmed_by-clause-ready c = λ start c' s ready.
+    let settled = recalled_settled c.args.self.now.paths c.args.self.now.node c.args.now c.args.destination c.in-Some.path c.args.self.now.remembered c.in-Some.ensures in
+    ready_then c.args.self.now c.args.self.now c.confirm.new.self c.args.now (Some c.in-Some.path.to) c.if-is_past.ensures (time_passes c.args.self.now.node c.args.self.now.queue c.args.now settled)
+    (c.confirm.ensures.adds c.args.self.now.queue) c.confirm.ensures.queue c.confirm.ensures.room start c' s ready
+
+pub returns-in-Some-clause-confirms : goal.returns-in-Some-clause-confirms
+returns-in-Some-clause-confirms c =
+    let settled = recalled_settled c.args.self.now.paths c.args.self.now.node c.args.now c.args.destination c.in-Some.path c.args.self.now.remembered c.in-Some.ensures in
+    rw c.pass.ensures.unneeded (record {
+      past = λ lt. absurd (omega (arith, lt, c.if-is_past.ensures));
+      taken = λ le.
+          confirms_then c.args.self.now c.args.self.now c.pass.new.self c.args.now None le (time_passes c.args.self.now.node c.args.self.now.queue c.args.now settled)
+          (passing_adds c.args.self.now.node c.pass.new.self.node c.args.self.now.queue c.args.now c.pass.ensures.passes) c.pass.ensures.queue c.args.destination c.args.least
+          (λ start c' s last. subst (λ (b : Bool). IsConfirmed start c' c.args.now c.args.destination c.args.least (if b then Some (number_of c.in-Some.path.to.0) else None)) c.if-is_confirmed_by.false
+          (c.is_confirmed_by.ensures start c' s last));
+    })
+
+-- ---- else
+
+pub returns-in-Some-confirmed_by-clause-confirms : goal.returns-in-Some-confirmed_by-clause-confirms
+returns-in-Some-confirmed_by-clause-confirms c = rw c.confirm-in-Some-confirmed_by.ensures.taken (record {
+  past = λ lt. absurd (omega (arith, lt, c.if-is_past.ensures));
+  taken = λ le. (
+    c.in-Some-confirmed_by.neighbour,
+    confirms_then c.args.self.now c.settle.new.self c.confirm-in-Some-confirmed_by.new.self c.args.now (Some c.in-Some-confirmed_by.neighbour) le c.in_ok-settle.ensures.passes
+        (c.confirm-in-Some-confirmed_by.ensures.adds c.settle.new.self.queue) c.confirm-in-Some-confirmed_by.ensures.queue c.args.destination c.args.least c.in-Some-confirmed_by.ensures,
+  );
+})
+
+pub returns-in-Some-confirmed_by-clause-ready : goal.returns-in-Some-confirmed_by-clause-ready
+returns-in-Some-confirmed_by-clause-ready c = λ start c' s ready.
+    ready_then c.args.self.now c.settle.new.self c.confirm-in-Some-confirmed_by.new.self c.args.now (Some c.in-Some-confirmed_by.neighbour) c.if-is_past.ensures c.in_ok-settle.ensures.passes
+    (c.confirm-in-Some-confirmed_by.ensures.adds c.settle.new.self.queue) c.confirm-in-Some-confirmed_by.ensures.queue c.confirm-in-Some-confirmed_by.ensures.room start c' s (c.in_ok-settle.ensures.ready ready)
+
+pub returns-in-None-clause-confirms : goal.returns-in-None-clause-confirms
+returns-in-None-clause-confirms c = rw c.pass-in-None.ensures.unneeded (record {
+  past = λ lt. absurd (omega (arith, lt, c.if-is_past.ensures));
+  taken = λ le.
+      confirms_then c.args.self.now c.settle.new.self c.pass-in-None.new.self c.args.now None le c.in_ok-settle.ensures.passes
+      (passing_adds c.settle.new.self.node c.pass-in-None.new.self.node c.settle.new.self.queue c.args.now c.pass-in-None.ensures.passes) c.pass-in-None.ensures.queue c.args.destination c.args.least c.in-None.ensures;
+})
+
+pub returns-in-None-clause-ready : goal.returns-in-None-clause-ready
+returns-in-None-clause-ready c = λ start c' s ready.
+    ready_then c.args.self.now c.settle.new.self c.pass-in-None.new.self c.args.now None c.if-is_past.ensures c.in_ok-settle.ensures.passes
+    (passing_adds c.settle.new.self.node c.pass-in-None.new.self.node c.settle.new.self.queue c.args.now c.pass-in-None.ensures.passes) c.pass-in-None.ensures.queue c.pass-in-None.ensures.room start c' s (c.in_ok-settle.ensures.ready ready)
