@@ -253,6 +253,13 @@ int32_t nd_confirm(nd_node *node, uint64_t now, const nd_addr *neighbour)
     return leave(node, MODULE(nd_confirm)(&module, slot, now, first));
 }
 
+int32_t nd_confirm_to(nd_node *node, uint64_t now, const nd_addr *destination, uint64_t least)
+{
+    enter(node);
+    put(first, destination, sizeof *destination);
+    return leave(node, MODULE(nd_confirm_to)(&module, slot, now, first, least));
+}
+
 int32_t nd_forget(nd_node *node, uint64_t now, const nd_addr *neighbour)
 {
     enter(node);

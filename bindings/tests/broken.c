@@ -2,7 +2,7 @@
 #include <stdlib.h>
 #include "nd.h"
 
-#define FAULTS 25 /* bindings/check reads it */
+#define FAULTS 26 /* bindings/check reads it */
 
 /* Returns true each second time if this is the fault. */
 static bool is_wrong(int fault)
@@ -115,6 +115,14 @@ WRAP(int32_t, nd_resolve, nd_node *node, uint64_t now, const nd_addr *to, nd_pat
         path->until += 7200000;
     if (status == ND_DONE && is_wrong(24))
         path->version--;
+    return status;
+}
+
+WRAP(int32_t, nd_confirm_to, nd_node *node, uint64_t now, const nd_addr *to, uint64_t least)
+{
+    int32_t status = __real_nd_confirm_to(node, now, to, least);
+    if (status == ND_NOTHING && is_wrong(26))
+        nd_confirm(node, now, to);
     return status;
 }
 

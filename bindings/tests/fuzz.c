@@ -11,7 +11,7 @@
 enum { LONGEST_INPUT = 1024, STATUSES = 8, KINDS = 14 };
 
 /* The calls by the value of a byte, the frequent ones more often. */
-static const enum call OFTEN[] = {TURN,  TURN,        RECEIVE,        RECEIVE,  RECEIVE,   RECEIVE, RECEIVE, RECEIVE, SEND, SEND, CONFIRM, FORGET,
+static const enum call OFTEN[] = {TURN,  TURN,        RECEIVE,        RECEIVE,  RECEIVE,   RECEIVE, RECEIVE, RECEIVE, SEND, SEND, CONFIRM, CONFIRM_TO, FORGET,
                                   CLEAR, ADD_ADDRESS, REMOVE_ADDRESS, NEXT_HOP, RESOLVE,   RESOLVE, ADVERTISE, OFFER, ROUTE, STOP};
 
 static size_t done[CALLS][STATUSES], kinds[KINDS], inputs;
@@ -63,6 +63,7 @@ static int32_t act(enum call call, uint64_t at)
     case RECEIVE: return nd_receive(&node, at, with.bytes, with.length);
     case SEND: return nd_send(&node, at, &with.one, &with.other, 17, with.bytes, with.length);
     case CONFIRM: return nd_confirm(&node, at, &with.one);
+    case CONFIRM_TO: return nd_confirm_to(&node, at, &with.one, with.number);
     case FORGET: return nd_forget(&node, at, &with.one);
     case CLEAR: return nd_clear(&node, at, with.number);
     case ADD_ADDRESS: return nd_add_address(&node, at, &with.own);
@@ -83,7 +84,7 @@ static bool is_allowed(enum call call, int32_t status)
     if (call >= ADVERTISE && call <= STOP && options.role == ND_ROLE_HOST)
         return status == ND_REFUSED;
     bool may_be_refused = call == RECEIVE || call == SEND || call == ADD_ADDRESS || call == RESOLVE || call == OFFER || call == ROUTE;
-    return status == ND_DONE || (status == ND_REFUSED && may_be_refused) || (status == ND_NOTHING && (call == NEXT_HOP || call == RESOLVE)) ||
+    return status == ND_DONE || (status == ND_REFUSED && may_be_refused) || (status == ND_NOTHING && (call == NEXT_HOP || call == RESOLVE || call == CONFIRM_TO)) ||
            (status == ND_WAITING && call == RESOLVE);
 }
 
@@ -223,7 +224,8 @@ static int32_t call_well(enum call call, uint64_t at)
     int32_t status = call_twice(call, at, 0);
     bool grows = nd_lease_version(&node) > before;
     require(nd_lease_version(&node) >= before, "the version of leases never falls");
-    require(grows || status != ND_DONE || !is_event, "an event raises the version of leases");
+    require(grows || status != ND_DONE || !is_event || call == RECEIVE, "an event raises the version of leases");
+    require(call != CONFIRM_TO || status != ND_NOTHING || grows == is_due, "a sign without effect keeps it");
     require((call != TURN && call != NEXT_HOP) || grows == is_due, "nd_turn and nd_next_hop raise it where something is due, and else keep it");
     return status;
 }
@@ -283,7 +285,7 @@ int LLVMFuzzerTestOneInput(const uint8_t *bytes, size_t length)
 }
 
 #ifndef FUZZER
-static const char *const NAMES[CALLS] = {"turn",     "receive",   "send",  "confirm", "forget", "clear", "add_address", "remove_address",
+static const char *const NAMES[CALLS] = {"turn",     "receive",   "send",  "confirm", "confirm_to", "forget", "clear", "add_address", "remove_address",
                                          "next_hop", "resolve",   "advertise", "offer", "route",   "stop",   "open",  "close"};
 static uint64_t seed;
 

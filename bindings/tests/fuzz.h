@@ -5,7 +5,7 @@
 #include "tables.h"
 
 enum { LONGEST = 2048 };
-enum call { TURN, RECEIVE, SEND, CONFIRM, FORGET, CLEAR, ADD_ADDRESS, REMOVE_ADDRESS, NEXT_HOP, RESOLVE, ADVERTISE, OFFER, ROUTE, STOP, OPEN, CLOSE, CALLS };
+enum call { TURN, RECEIVE, SEND, CONFIRM, CONFIRM_TO, FORGET, CLEAR, ADD_ADDRESS, REMOVE_ADDRESS, NEXT_HOP, RESOLVE, ADVERTISE, OFFER, ROUTE, STOP, OPEN, CLOSE, CALLS };
 
 static const nd_addr ALL_NODES = {{0xff, 2, [15] = 1}}, ALL_ROUTERS = {{0xff, 2, [15] = 2}};
 /* The solicited-node address of LINK_LOCAL. */
@@ -219,6 +219,8 @@ static void prepare(enum call call)
         with.length = put_frame(with.bytes);
     else if (call == SEND)
         with.length = LENGTHS[below(8)], with.one = once_in(4) ? with.one : LINK_LOCAL;
+    else if (call == CONFIRM_TO)
+        with.number = a_number();
     else if (call == CLEAR)
         with.number = below(7), with.are_good = with.number >= ND_CLEARABLE_NEIGHBOURS && with.number <= ND_CLEARABLE_DNS;
     else if (call == ADD_ADDRESS) {

@@ -6,7 +6,8 @@
  * and so they do later. A path that is asked for in its lease is as it was. A tenth of the steps, or more, is in a lease. In every second run memory
  * is refused to the first node now and then, and its call is made again; a question in a lease needs none.
  *   The version of leases grows with each event, and with nd_turn and nd_next_hop where something is due. It stays with all else that changes no more
- * than the moment, and never falls. The lines are the counts of each run. */
+ * than the moment, and never falls. nd_confirm_to does what nd_next_hop, nd_neighbour_of, nd_parameters_of and nd_confirm do. The lines are the counts of
+ * each run. */
 #include "heap.h"
 #include "busy.h"
 #include "words.h"
@@ -41,6 +42,9 @@ static size_t again;
 
 /* Of the questions or packets of a run: the statuses, and how many were in a lease, and how many of those after one for another destination. */
 static size_t statuses[STATUSES], in_lease, in_others;
+
+/* Of the signs that packets arrive: how many had no effect, and how many confirmed a neighbour. */
+static size_t signs, confirmations;
 
 /* ---- destinations ---------------------------------------------------------------------------- */
 
@@ -109,7 +113,7 @@ static void refuse_some(const nd_node *node)
         require(!heap_is_spent, "a question in a lease needs no memory"), again++; \
     heap_refuse = 0
 
-enum call { RECEIVE, SEND, CONFIRM, FORGET, CLEAR, ADD_ADDRESS, REMOVE_ADDRESS, ROUTE, TURN, NEXT_HOP };
+enum call { RECEIVE, SEND, CONFIRM, CONFIRM_TO, FORGET, CLEAR, ADD_ADDRESS, REMOVE_ADDRESS, ROUTE, TURN, NEXT_HOP };
 
 /* A call, and what it is passed. */
 struct act {
@@ -137,12 +141,16 @@ static const struct frame *a_frame(void)
 
 static struct act an_act(void)
 {
-    static const enum call OFTEN[] = {RECEIVE, RECEIVE, RECEIVE, RECEIVE, RECEIVE, RECEIVE, SEND, SEND, CONFIRM, CONFIRM, TURN, NEXT_HOP, NEXT_HOP};
+    static const enum call OFTEN[] = {RECEIVE, RECEIVE, RECEIVE, RECEIVE, RECEIVE, RECEIVE, SEND, SEND, CONFIRM, CONFIRM_TO, CONFIRM_TO, TURN, NEXT_HOP,
+                                      NEXT_HOP};
     static const enum call SELDOM[] = {FORGET, FORGET, CLEAR, ADD_ADDRESS, REMOVE_ADDRESS, ROUTE};
     struct act act = {.frame = a_frame(), .address = destinations[a_destination()], .number = (uint32_t)below(5)};
     act.call = once_in(20) ? SELDOM[below(sizeof SELDOM / sizeof *SELDOM)] : OFTEN[below(sizeof OFTEN / sizeof *OFTEN)];
     return act;
 }
+
+/* The least times, in ms, by the number of an act. */
+static const uint64_t LEAST[] = {0, 1, 50, 1000, UINT64_MAX};
 
 static int32_t done(nd_node *node, const struct act *act)
 {
@@ -153,6 +161,7 @@ static int32_t done(nd_node *node, const struct act *act)
     case RECEIVE: return nd_receive(node, now, act->frame->bytes, act->frame->length);
     case SEND: return nd_send(node, now, &LINK_LOCAL, &act->address, 17, PAYLOAD, sizeof PAYLOAD);
     case CONFIRM: return nd_confirm(node, now, &act->address);
+    case CONFIRM_TO: return nd_confirm_to(node, now, &act->address, LEAST[act->number]);
     case FORGET: return nd_forget(node, now, &act->address);
     case CLEAR: return nd_clear(node, now, 1 + act->number);
     case ADD_ADDRESS: return nd_add_address(node, now, &own);
@@ -163,26 +172,57 @@ static int32_t done(nd_node *node, const struct act *act)
     }
 }
 
+/* Returns true if a frame is a message, or a packet at a router, which may have to forward it. */
+static bool is_message(const struct frame *frame)
+{
+    nd_heard heard;
+    require(nd_hear(frame->bytes, frame->length, role, &heard) == ND_DONE, "nd_hear");
+    return heard.hearing == ND_HEARING_VALID || (heard.hearing == ND_HEARING_OTHER && role == ND_ROLE_ROUTER);
+}
+
 /* Makes a call, and requires that the version is what nd.h says of it. Returns the status. */
 static int32_t with_version(nd_node *node, const struct act *act)
 {
     uint64_t before = nd_lease_version(node), due = nd_next_due(node), after;
+    size_t made = again;
     int32_t status;
     RETRIED(status, node, done(node, act));
+    bool is_refused = again > made;
     after = nd_lease_version(node);
     require(after >= before, "the version never falls");
-    if (act->call == TURN || act->call == NEXT_HOP)
-        require((after > before) == (due <= now), "nd_turn and nd_next_hop raise the version where something is due, and else keep it");
+    if (act->call == TURN || act->call == NEXT_HOP || (act->call == CONFIRM_TO && status == ND_NOTHING))
+        require((after > before) == (due <= now), "nd_turn, nd_next_hop and a sign without effect raise the version where something is due, and else keep it");
+    else if (act->call == RECEIVE && !is_message(act->frame))
+        require(due <= now || after == before || is_refused, "a frame that is dropped, and a packet for the node, keep the version");
     else
-        require(after > before || status == ND_REFUSED, "an event raises the version");
+        require(after > before || status == ND_REFUSED || act->call == RECEIVE, "an event raises the version");
     return status;
+}
+
+/* Does what nd.h says of nd_confirm_to by other calls, and returns its status. */
+static int32_t confirmed_in_parts(nd_node *node, const struct act *act)
+{
+    nd_next_hop_row hop;
+    nd_neighbour_row row;
+    nd_parameters_row parameters;
+    int32_t found = nd_next_hop(node, now, &act->address, &hop);
+    require(nd_turn(node, now) == ND_DONE && nd_parameters_of(node, now, &parameters) == ND_DONE, "nd_turn and nd_parameters_of");
+    if (found == ND_NOTHING || act->address.bytes[0] == 0xff || nd_neighbour_of(node, now, &hop.address, &row) != ND_DONE || row.has_mac == 0)
+        return ND_NOTHING;
+    uint64_t spent = parameters.reachable_time > row.reachable_left ? parameters.reachable_time - row.reachable_left : 0;
+    if (row.state == ND_REACHABILITY_REACHABLE && spent < LEAST[act->number])
+        return ND_NOTHING;
+    return nd_confirm(node, now, &hop.address);
 }
 
 static void act_at_both(void)
 {
     struct act act = an_act();
     int32_t status = with_version(&one, &act);
-    require(status >= 0 && with_version(&other, &act) == status, "both nodes return the same status");
+    bool is_sign = act.call == CONFIRM_TO;
+    require(status >= 0, "a call takes place");
+    require((is_sign ? confirmed_in_parts(&other, &act) : with_version(&other, &act)) == status, "both nodes return the same status");
+    signs += is_sign && status == ND_NOTHING, confirmations += is_sign && status == ND_DONE;
     last_question = SIZE_MAX;
 }
 
@@ -286,7 +326,7 @@ static void run(const char *what, const struct setting *setting, size_t steps, v
     open_node(&other, setting);
     now = OPENED_AT;
     asked = setting->asked;
-    in_lease = in_others = again = last_destination = 0;
+    in_lease = in_others = signs = confirmations = again = last_destination = 0;
     last_question = SIZE_MAX;
     memset(answers, 0, sizeof answers);
     memset(statuses, 0, sizeof statuses);
@@ -303,9 +343,10 @@ static void run(const char *what, const struct setting *setting, size_t steps, v
     nd_close(&one);
     nd_close(&other);
     printf("  %s, %u of %zu destinations remembered: in a lease %zu, %zu of them after another destination; done %zu, waiting %zu, nothing %zu, "
-           "refused %zu; made again %zu\n", what, setting->destinations, asked, in_lease, in_others, statuses[ND_DONE], statuses[ND_WAITING],
-           statuses[ND_NOTHING], statuses[ND_REFUSED], again);
+           "refused %zu; confirmed %zu, not %zu; made again %zu\n", what, setting->destinations, asked, in_lease, in_others, statuses[ND_DONE], statuses[ND_WAITING],
+           statuses[ND_NOTHING], statuses[ND_REFUSED], confirmations, signs, again);
     require(in_lease >= steps / 10 && in_others >= steps / 100, "many questions or packets are in a lease, many of them after another destination");
+    require(signs > 0 && confirmations > 0, "some signs confirm a neighbour, some don't");
     require(!is_scarce || again > 0, "memory is refused");
 }
 
@@ -331,6 +372,7 @@ static void refuse_moment(uint64_t at, int32_t error, uint64_t version)
     KEEPS(nd_receive(&one, at, frame->bytes, frame->length), error);
     KEEPS(nd_send(&one, at, &LINK_LOCAL, &destinations[0], 17, PAYLOAD, sizeof PAYLOAD), error);
     KEEPS(nd_confirm(&one, at, &destinations[0]), error);
+    KEEPS(nd_confirm_to(&one, at, &destinations[0], 0), error);
     KEEPS(nd_forget(&one, at, &destinations[0]), error);
     KEEPS(nd_clear(&one, at, ND_CLEARABLE_NEIGHBOURS), error);
     KEEPS(nd_add_address(&one, at, &own), error);
@@ -344,6 +386,16 @@ static void refuse_moment(uint64_t at, int32_t error, uint64_t version)
     KEEPS(nd_neighbour_of(&one, at, &destinations[0], &row), error);
 }
 
+/* Writes a packet without a payload for a destination, in a frame, and returns how long that is. */
+static size_t packet_for(const nd_addr *destination, uint8_t *frame)
+{
+    static const uint8_t HEADERS[] = {2, 0, 0, 0, 0, 1, 2, 0, 0, 0, 0, 2, 0x86, 0xdd, 0x60, 0, 0, 0, 0, 0, 59, 64};
+    memcpy(frame, HEADERS, sizeof HEADERS);
+    memcpy(frame + sizeof HEADERS, &UNRESOLVED, sizeof UNRESOLVED);
+    memcpy(frame + sizeof HEADERS + sizeof UNRESOLVED, destination, sizeof *destination);
+    return sizeof HEADERS + 2 * sizeof *destination;
+}
+
 /* Requires that what is no event keeps the version, at a node that has just given this lease for the first destination. */
 static void keep_version(const nd_path *lease)
 {
@@ -353,7 +405,8 @@ static void keep_version(const nd_path *lease)
     nd_next_hop_row hop;
     nd_path path;
     nd_out out;
-    uint8_t buffer[LONGEST_FRAME];
+    uint8_t buffer[LONGEST_FRAME], packet[64];
+    size_t length = packet_for(&LINK_LOCAL, packet);
     KEEPS(nd_poll(&one, &out, buffer, 0), ND_NO_ROOM);
     KEEPS(nd_poll(&one, &out, buffer, sizeof buffer), ND_DONE);
     drain(&one, FIRST_HASH);
@@ -364,6 +417,12 @@ static void keep_version(const nd_path *lease)
     KEEPS(nd_resolve(&one, last, &destinations[0], &path) == ND_DONE && memcmp(&path, lease, sizeof path) == 0, true);
     KEEPS(nd_turn(&one, last + 1), ND_DONE);
     KEEPS(nd_next_hop(&one, last + 2, &destinations[0], &hop), ND_DONE);
+    KEEPS(nd_confirm_to(&one, last + 2, &destinations[0], 3), ND_NOTHING);
+    KEEPS(nd_confirm_to(&one, last + 2, &NO_NEIGHBOUR, 0), ND_NOTHING);
+    KEEPS(nd_receive(&one, last + 2, (const uint8_t[]){0}, 1), ND_DONE);
+    KEEPS(nd_receive(&one, last + 2, packet, length), ND_DONE);
+    KEEPS(nd_poll(&one, &out, buffer, sizeof buffer) == ND_DONE && out.kind == ND_OUT_DROPPED, true);
+    KEEPS(nd_poll(&one, &out, buffer, sizeof buffer) == ND_DONE && out.kind == ND_OUT_UP, true);
     refuse_moment(last, ND_PAST, version);
     refuse_moment(ND_MOMENT_LIMIT, ND_INVALID, version);
     KEEPS(nd_open(&one, &options, sizeof options), ND_INVALID);
@@ -393,6 +452,7 @@ static void try_versions(void)
     RAISES(nd_turn(&one, now), ND_DONE);
     RAISES(nd_send(&one, now, &LINK_LOCAL, &destinations[0], 17, PAYLOAD, sizeof PAYLOAD), ND_DONE);
     RAISES(nd_confirm(&one, now, &NO_NEIGHBOUR), ND_DONE);
+    RAISES(nd_confirm_to(&one, now, &destinations[0], 1), ND_DONE);
     RAISES(nd_forget(&one, now, &destinations[0]), ND_DONE);
     RAISES(nd_resolve(&one, now, &destinations[0], &path), ND_WAITING);
     nd_close(&one);

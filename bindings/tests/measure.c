@@ -3,11 +3,12 @@
  *   '>'  a packet to send: the destination, and then the payload
  *   '?'  nd_resolve of a destination
  *   '='  nd_next_hop of a destination, and nd_neighbour_of of that next hop
+ *   '!'  nd_confirm_to of a destination, which was confirmed less than a second ago
  * The lines up to the moment prepare the tables. Of the others those are measured that have the mark of the last line, or none if it has none. Run it
  * under callgrind with --toggle-collect=measured, which then counts these alone, with what the memory functions take. */
 #include "tested.h"
 
-enum { MOST_BYTES = 65600, FRAME = 0, SEND = '>', RESOLVE = '?', LOOK_UP = '=' };
+enum { MOST_BYTES = 65600, FRAME = 0, SEND = '>', RESOLVE = '?', LOOK_UP = '=', CONFIRM = '!' };
 
 static struct frame frames[MOST_FRAMES];
 static uint64_t moments[MOST_FRAMES];
@@ -16,13 +17,13 @@ static char marks[MOST_FRAMES];
 /* Returns the mark at the beginning of a text, FRAME if there is none. */
 static char mark_of(const char *text)
 {
-    return *text == SEND || *text == RESOLVE || *text == LOOK_UP ? *text : FRAME;
+    return *text == SEND || *text == RESOLVE || *text == LOOK_UP || *text == CONFIRM ? *text : FRAME;
 }
 
 static void require_length(char mark, size_t length)
 {
     require(mark == FRAME || length >= sizeof(nd_addr), "a destination");
-    require((mark != RESOLVE && mark != LOOK_UP) || length == sizeof(nd_addr), "a destination alone");
+    require(mark == FRAME || mark == SEND || length == sizeof(nd_addr), "a destination alone");
 }
 
 static size_t read_moments(void)
@@ -101,6 +102,18 @@ static size_t look_up(nd_node *node, size_t from, size_t end)
     return refused;
 }
 
+/* A sign that confirms a neighbour counts as refused. */
+static size_t confirm(nd_node *node, size_t from, size_t end)
+{
+    size_t refused = 0;
+    for (size_t i = from; i < end; i++) {
+        nd_addr to;
+        memcpy(to.bytes, frames[i].bytes, sizeof to.bytes);
+        refused += nd_confirm_to(node, moments[i], &to, 1000) != ND_NOTHING;
+    }
+    return refused;
+}
+
 /* Does lines of one mark, and returns how many are refused or dropped. */
 static size_t run(nd_node *node, size_t from, size_t end)
 {
@@ -111,6 +124,8 @@ static size_t run(nd_node *node, size_t from, size_t end)
         return resolve(node, from, end);
     case LOOK_UP:
         return look_up(node, from, end);
+    case CONFIRM:
+        return confirm(node, from, end);
     default:
         return receive(node, from, end);
     }

@@ -54,6 +54,7 @@ static void try_closed(nd_node *node)
     is("a row of a closed node", nd_neighbour_at(node, 0, 0, &neighbour), ND_CLOSED);
     is("a next hop of a closed node", nd_next_hop(node, 0, &LINK_LOCAL, &hop), ND_CLOSED);
     is("a path of a closed node", nd_resolve(node, 0, &LINK_LOCAL, &path), ND_CLOSED);
+    is("a sign at a closed node", nd_confirm_to(node, 0, &LINK_LOCAL, 0), ND_CLOSED);
     is("a stop of a closed node", nd_stop(node, 0), ND_CLOSED);
     is("an address for a closed node", nd_add_address(node, 0, &OWN), ND_CLOSED);
     is("an address that is removed from a closed node", nd_remove_address(node, 0, &OWN.address), ND_CLOSED);
@@ -450,6 +451,8 @@ static void try_paths(nd_node *node)
     is("is not written", memcmp(&path, &before, sizeof path), 0);
     is("what is due at the start", nd_turn(node, 999), ND_DONE);
     drain(node, FIRST_HASH);
+    is("a sign at a moment that is none", nd_confirm_to(node, ND_MOMENT_LIMIT, &neighbour, 0), ND_INVALID);
+    is("a sign of the past", nd_confirm_to(node, 998, &neighbour, 0), ND_PAST);
     is("a path of the past", nd_resolve(node, 998, &neighbour, &path), ND_PAST);
     is("is not written", memcmp(&path, &before, sizeof path), 0);
     is("a path before the link-local address is assigned", nd_resolve(node, 999, &group, &path), ND_REFUSED);
@@ -460,10 +463,12 @@ static void try_paths(nd_node *node)
     is("an advertisement of a router", receive_digits(node, 1200, ROUTER_ADVERTISEMENT), ND_DONE);
     is("detection ends", nd_turn(node, 2200), ND_DONE);
     drain(node, FIRST_HASH);
+    is("a sign of a neighbour that is not known", nd_confirm_to(node, 3000, &neighbour, 0), ND_NOTHING);
     is("a path to a neighbour that is not known", nd_resolve(node, 3000, &neighbour, &path), ND_WAITING);
     goes_to(node, &path, &neighbour, ND_HOP_DIRECT, NULL);
     is("it is INCOMPLETE", path.state, ND_REACHABILITY_INCOMPLETE);
     is("there is no lease", path.until == 3000, true);
+    is("a sign of it", nd_confirm_to(node, 3000, &neighbour, 0), ND_NOTHING);
     is("its record", nd_poll(node, &out, buffer, sizeof buffer), ND_DONE);
     is("is a solicitation", out.kind == ND_OUT_FRAME && out.length == length && memcmp(buffer, solicitation, length) == 0, true);
     is("and no other", nd_poll(node, &out, buffer, sizeof buffer), ND_NOTHING);

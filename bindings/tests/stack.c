@@ -66,6 +66,7 @@ WRAP(int32_t, nd_send,
 WRAP(int32_t, nd_stop, (nd_node * node, uint64_t now), node, now)
 WRAP(int32_t, nd_poll, (nd_node * node, nd_out *out, uint8_t *buffer, size_t size), node, out, buffer, size)
 WRAP(int32_t, nd_hear, (const uint8_t *frame, size_t length, uint32_t role, nd_heard *heard), frame, length, role, heard)
+WRAP(int32_t, nd_confirm_to, (nd_node * node, uint64_t now, const nd_addr *to, uint64_t least), node, now, to, least)
 WRAP_EVENT(nd_confirm, const nd_addr *)
 WRAP_EVENT(nd_forget, const nd_addr *)
 WRAP_EVENT(nd_clear, uint32_t)

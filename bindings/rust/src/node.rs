@@ -71,7 +71,8 @@ impl Node {
     }
 
     /// Returns the version of all leases: a lease holds while this is the version of its path. It grows with each call that may change more than the
-    /// moment: not with `poll`, a question, or `resolve` in a lease.
+    /// moment: not with `poll`, a question, `resolve` in a lease, `confirm_to` that confirms nothing, or `receive` of a frame that is dropped or whose packet is
+    /// for the node.
     pub fn lease_version(&self) -> u64 {
         unsafe { raw::nd_lease_version(self.slot.get()) }
     }
@@ -95,6 +96,12 @@ impl Node {
     /// Confirms that a neighbour, the next hop, is reached.
     pub fn confirm(&mut self, now: u64, neighbour: Ipv6Addr) -> Result<Outcome, Error> {
         outcome_of(unsafe { raw::nd_confirm(self.slot.get(), now, &neighbour.octets()) })
+    }
+
+    /// Confirms the next hop of a destination, since an upper layer knows that packets to it arrive, if that moves the end of its ReachableTime by `least`
+    /// milliseconds or more. Returns true if it does.
+    pub fn confirm_to(&mut self, now: u64, destination: Ipv6Addr, least: u64) -> Result<bool, Error> {
+        is_written(unsafe { raw::nd_confirm_to(self.slot.get(), now, &destination.octets(), least) })
     }
 
     /// Removes a neighbour.

@@ -274,6 +274,7 @@ extern "C" {
     pub fn nd_receive(node: *mut nd_node, now: u64, frame: *const u8, length: usize) -> i32;
     pub fn nd_send(node: *mut nd_node, now: u64, source: *const nd_addr, destination: *const nd_addr, next_header: u8, payload: *const u8, length: usize) -> i32;
     pub fn nd_confirm(node: *mut nd_node, now: u64, neighbour: *const nd_addr) -> i32;
+    pub fn nd_confirm_to(node: *mut nd_node, now: u64, destination: *const nd_addr, least: u64) -> i32;
     pub fn nd_forget(node: *mut nd_node, now: u64, neighbour: *const nd_addr) -> i32;
     pub fn nd_clear(node: *mut nd_node, now: u64, table: u32) -> i32;
     pub fn nd_add_address(node: *mut nd_node, now: u64, own: *const nd_own_address) -> i32;

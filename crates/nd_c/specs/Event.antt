@@ -6,6 +6,7 @@ use Rattle.nd_node.specs.Event.{FollowsBy}
 use Rattle.nd_node.specs.Node.{last_of}
 use Rattle.nd_node.specs.Time.{Onward}
 use Rattle.nd_session.specs.Event.{LedBy}
+use Rattle.nd_session.specs.Leases.{KeepsLeases}
 use Rattle.nd_session.specs.declared.session.Session.{Session}
 use Rattle.nd_c.specs.Status.{done, refused, no_memory, closed, invalid, past}
 
@@ -20,6 +21,7 @@ status_of (Past last) = past
 -- status says how it was answered. When out of memory a part of what is due is done, and the event adds nothing.
 pub record Comes (now : ℕ) (event : Event) (status : ℤ) (old new : Session) : Type 0 where
   pub early : now < last_of old.node → (status ≡ past) × (new ≡ old)
+  pub leases : KeepsLeases old new
   pub comes : last_of old.node ≤ now
       → ((status ≡ no_memory) × LedBy old new (Onward now)) ⊎ ((answer : Answer) × (status ≡ status_of answer) × LedBy old new (FollowsBy now event answer))
 

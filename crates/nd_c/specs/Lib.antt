@@ -7,5 +7,6 @@ pub mod Open
 pub mod Rows
 pub mod NextHop
 pub mod Resolve
+pub mod Confirmation
 pub mod Bytes
 pub mod PoolBytes

@@ -4,6 +4,7 @@ ghost use Rattle.std.specs.Prelude.{◌≡◌};
 ghost use Rattle.nd_table.specs.Moment.{IsMoment};
 ghost use Rattle.nd_node.specs.Answer.{answer_of};
 ghost use Rattle.nd_session.specs.Event.{Takes};
+ghost use Rattle.nd_session.specs.Leases.{KeepsLeases};
 ghost use Rattle.nd_c.specs.Event.{Answers, Comes, status_of};
 ghost use Rattle.nd_c.specs.Given.{event_given};
 
@@ -63,7 +64,8 @@ fn comes(session: &mut Session, now: u64, given: Given<'_>) -> i32
 #[inline(always)]
 fn give(session: &mut Session, now: u64, given: Given<'_>) -> Result<Answer, AllocError>
     requires { IsMoment now }
-    ensures { Takes now (event_given given.entry) result session.old session.new }
+    ensures takes { Takes now (event_given given.entry) result session.old session.new }
+    ensures leases { KeepsLeases session.old session.new }
 {
     match given {
         Given::Event(event) => session.event(now, event),

@@ -7,6 +7,7 @@
 
 mod answer;
 mod bytes;
+mod confirmation;
 mod events;
 mod hear;
 mod next_hop;
