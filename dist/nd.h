@@ -343,6 +343,16 @@ int32_t nd_send(nd_node *node, uint64_t now, const nd_addr *source, const nd_add
  *                  else nothing has changed. */
 int32_t nd_confirm(nd_node *node, uint64_t now, const nd_addr *neighbour);
 
+/* Confirms the next hop of a destination, since an upper layer knows that packets to it arrive (RFC
+ * 4861, 7.3.1): it finds the next hop as nd_next_hop does, and confirms it as nd_confirm does, if
+ * that makes it REACHABLE, or moves the end of its ReachableTime by `least` ms or more. So one that
+ * was confirmed less than `least` ms ago is left as it is. A caller may call this for each sign of
+ * life: in the lease of a path (nd_resolve) that costs little, and such a call leaves all leases.
+ *   ND_DONE        The neighbour is REACHABLE for ReachableTime from now.
+ *   ND_NOTHING     Nothing but the time has changed: there is no next hop, its link-layer address is
+ *                  not known, it was confirmed lately, or the destination is multicast. */
+int32_t nd_confirm_to(nd_node *node, uint64_t now, const nd_addr *destination, uint64_t least);
+
 /* Removes a neighbour. It does not count as a failure: Redirects to it stay.
  *   ND_DONE        There is no entry for it. Packets that waited for it are reported, oldest first,
  *                  as ND_OUT_LOST with ND_LOSS_FORGOTTEN. */
@@ -449,8 +459,10 @@ int32_t nd_resolve(nd_node *node, uint64_t now, const nd_addr *destination, nd_p
 
 /* Returns the version of all leases. It never falls, and it grows with each call that may change
  * more than the moment: not with nd_poll, a question, nd_resolve in a lease, a call that returns
- * ND_PAST, ND_INVALID or ND_CLOSED, nor with nd_turn and nd_next_hop where nothing is due. 0 if the
- * node is closed. It changes nothing. */
+ * ND_PAST, ND_INVALID or ND_CLOSED; nor, where nothing is due, with nd_turn, nd_next_hop,
+ * nd_confirm_to that returns ND_NOTHING, and nd_receive of a frame that is dropped or whose packet
+ * is for the node: what it reports is ND_OUT_DROPPED or ND_OUT_UP. 0 if the node is closed. It
+ * changes nothing. */
 uint64_t nd_lease_version(nd_node *node);
 
 /* ---- events at a router ---------------------------------------------------------------------- */
