@@ -346,11 +346,12 @@ int32_t nd_confirm(nd_node *node, uint64_t now, const nd_addr *neighbour);
 /* Confirms the next hop of a destination, since an upper layer knows that packets to it arrive (RFC
  * 4861, 7.3.1): it finds the next hop as nd_next_hop does, and confirms it as nd_confirm does, if
  * that makes it REACHABLE, or moves the end of its ReachableTime by `least` ms or more. So one that
- * was confirmed less than `least` ms ago is left as it is. A caller may call this for each sign of
- * life: in the lease of a path (nd_resolve) that costs little, and such a call leaves all leases.
+ * was confirmed less than `least` ms ago is left as it is, as long as ReachableTime is the same. A
+ * caller may call this for each sign of life: in the lease of a path (nd_resolve) it costs little,
+ * and a call that returns ND_NOTHING where nothing is due leaves all leases.
  *   ND_DONE        The neighbour is REACHABLE for ReachableTime from now.
- *   ND_NOTHING     Nothing but the time has changed: there is no next hop, its link-layer address is
- *                  not known, it was confirmed lately, or the destination is multicast. */
+ *   ND_NOTHING     Nothing has changed but what was due: there is no next hop, its link-layer
+ *                  address is not known, it was confirmed lately, or the destination is multicast. */
 int32_t nd_confirm_to(nd_node *node, uint64_t now, const nd_addr *destination, uint64_t least);
 
 /* Removes a neighbour. It does not count as a failure: Redirects to it stay.
