@@ -114,7 +114,7 @@ module _ (mid new : List NeighbourEntry) (m : NeighbourEntry) (planned planned' 
     room = omega (arith, room, same);
   }
 
-solicited_key : (now : ℕ) (n : NeighbourEntry) (k : Stage) → (solicited_to k now n).key ≡ n.key
+pub solicited_key : (now : ℕ) (n : NeighbourEntry) (k : Stage) → (solicited_to k now n).key ≡ n.key
 solicited_key now n (Resolving retrans sent wanted waiting) = refl
 solicited_key now n (Known mac confirmed since None) = refl
 solicited_key now n (Known mac confirmed since (Some p)) = refl

@@ -15,6 +15,7 @@ pub mod TableKept
 pub mod Rings
 pub mod Shown
 pub mod ShownKept
+pub mod LeaseKept
 pub mod Due
 pub mod DueKept
 pub mod Planned

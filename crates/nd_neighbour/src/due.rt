@@ -33,7 +33,8 @@ impl<A: Allocator> Cache<A> {
     ghost use Rattle.nd_neighbour.specs.History.{Row};
     ghost use Rattle.nd_neighbour.specs.TableKept.{GainsRow, Stands};
     ghost use Rattle.nd_neighbour.specs.Due.{FirstDue, NextDue, due_row};
-    ghost use Rattle.nd_neighbour.specs.DueKept.{NoneBefore, next_in, turns_left};
+    ghost use Rattle.nd_neighbour.specs.DueKept.{NoneBefore, next_in, stays, turns_left};
+    ghost use Rattle.nd_neighbour.specs.LeaseKept.{LeavesLeases};
     ghost use Rattle.nd_neighbour.specs.View.{falls_of};
 
     /// Returns the earliest moment at which something is due, in milliseconds, if there is one. It may have passed.
@@ -63,6 +64,9 @@ impl<A: Allocator> Cache<A> {
         ensures fewer { IfSome result (λ _. turns_left self.new.entries < turns_left self.old.entries) }
         ensures none { IfNone result (next_in self.old.entries ≢ Some now) }
         ensures later { NoneBefore self.new.entries now }
+
+        // A solicitation leaves the leases.
+        ensures leaves { IfSome result (λ due. stays (falls_of due) ≡ true → LeavesLeases self.old.entries self.new.entries) }
     {
         turn_first(&mut self.entries, &mut self.dates, now)
     }
@@ -96,6 +100,21 @@ pub(crate) fn turn_first<A: Allocator>(
     let entry = entries.remove(i);
     dates.change(was, None, addr);
     Some(entry.end())
+}
+
+impl<A: Allocator> Due<A> {
+    ghost use Rattle.nd_neighbour.specs.DueKept.{stays};
+    ghost use Rattle.nd_neighbour.specs.View.{falls_of};
+
+    /// Returns true if it is a solicitation: the neighbour stays.
+    pub fn stays(&self) -> bool
+        ensures { result ≡ stays (falls_of self.now) }
+    {
+        match self {
+            Due::Multicast(_) | Due::Unicast(..) => true,
+            Due::Failed(..) | Due::Aged(_) => false,
+        }
+    }
 }
 
 impl<A: Allocator> Entry<A> {

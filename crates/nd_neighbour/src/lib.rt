@@ -10,6 +10,7 @@ mod cache;
 mod due;
 mod entry;
 pub mod laws;
+mod lease;
 mod link_layer_address;
 mod neighbor_advertisement;
 mod news;

@@ -104,6 +104,21 @@ fn the_513th_neighbour_is_full_where_none_is_stale(rt: HostRuntime) {
     assert!(rt; cache.entry(1000, addr(512)) == None);
 }
 
+#[test]
+fn a_confirmation_that_ends_a_lease_earlier_says_so(rt: HostRuntime) {
+    let mut cache = Cache::new(rt.alloc(), 4, 3).expect(&rt, "memory");
+    is_given(&rt, &mut cache, 1000, 1);
+    assert!(rt; cache.confirmed(1000, addr(2), 15_000));
+    assert!(rt; cache.confirmed(1000, addr(1), 15_000));
+    assert!(rt; cache.confirmed(2000, addr(1), 14_000));
+    assert!(rt; !cache.confirmed(2001, addr(1), 13_998));
+    let _ = cache.used(16_000, addr(1), packet(&rt, 9), TIMES);
+    assert!(rt; state(&cache, 16_000, addr(1)) == Some(Reachability::Delay));
+    assert!(rt; !cache.confirmed(16_001, addr(1), 4998));
+    let _ = cache.used(21_000, addr(1), packet(&rt, 9), TIMES);
+    assert!(rt; cache.confirmed(21_001, addr(1), 4999));
+}
+
 /// The address that an advertisement gives, besides the known one.
 #[derive(Clone, Copy, Debug, PartialEq, Eq)]
 enum Gives {

@@ -1,7 +1,7 @@
-use Rattle.std.proofs.Common.{ap}
-use Rattle.nd_neighbour.specs.TableKept.{Table}
+use Rattle.std.proofs.Common.{ap, subst}
+use Rattle.nd_neighbour.specs.TableKept.{Rises, Table}
 use Rattle.nd_neighbour.specs.View.{falls_of}
-use Rattle.nd_neighbour.proofs.TurnCalls.{due_call, gains_call, fewer_call, later_call, none_call}
+use Rattle.nd_neighbour.proofs.TurnCalls.{due_call, gains_call, fewer_call, later_call, leaves_call, none_call}
 use Rattle.nd_neighbour.proofs.cache.Cache.turn.Goals as goal
 
 pub returns-clause-due : goal.returns-clause-due
@@ -18,3 +18,7 @@ returns-clause-none g c = none_call c.args.now c.turn_first.result _ _ (ap (λ (
 
 pub returns-clause-later : goal.returns-clause-later
 returns-clause-later g c = later_call falls_of c.args.now _ c.turn_first.result _ _ (ap (λ (t : Table). t.entries) c.self.view_is) c.turn_first.ensures.turns c.turn_first.ensures.same c.requires.none_before
+
+pub returns-clause-leaves : goal.returns-clause-leaves
+returns-clause-leaves g c =
+    leaves_call falls_of c.args.now _ c.turn_first.result _ _ (ap (λ (t : Table). t.entries) c.self.view_is) c.turn_first.ensures.turns (subst (λ (t : Table). Rises t.entries) c.self.view_is c.self.invariant.3.order)
