@@ -7,7 +7,7 @@ use Rattle.nd_chronicle.specs.Start.{Limits}
 abbrev pub rows_bytes : Limits → ℕ
 rows_bytes limits =
     72 * limits.neighbours + 65 * limits.routers + 40 * limits.prefixes + 72 * limits.addresses + 32 * limits.servers + 295 * limits.names
-    + 64 * limits.redirects + 128 * limits.destinations + 87 * limits.offers + 84 * limits.routes
+    + 64 * limits.redirects + 136 * limits.destinations + 87 * limits.offers + 84 * limits.routes
 
 -- the blocks of dates of so many rows, besides the first one: none, or one, and two for each 32 rows before the last row
 abbrev pub dates_bytes : ℕ → ℕ

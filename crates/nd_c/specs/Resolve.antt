@@ -34,7 +34,7 @@ pub record Finds (now : ℕ) (destination : Addr) (status : ℤ) (old new : Sess
   pub leases : KeepsLeases old new
   pub path : last_of old.node ≤ now
       → ((status ≡ no_memory) × LedBy old new (Onward now) × (row_new ≡ row_old))
-      ⊎ ((answer : PathAnswer) × AnsweredBy now destination answer old new × Says now destination new.paths.version answer status row_old row_new)
+      ⊎ ((answer : PathAnswer) × AnsweredBy now destination answer old new × Says now destination new.paths.leases answer status row_old row_new)
 
 -- A slot is asked.
 pub record PathAnswers (now : ℕ) (destination : Addr) (status : ℤ) (before after : Option Session) (row_old row_new : PathRow) : Type 0 where

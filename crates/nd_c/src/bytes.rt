@@ -24,7 +24,7 @@ const NAME: usize = 295;
 
 const REDIRECT: usize = 64;
 
-const DESTINATION: usize = 128;
+const DESTINATION: usize = 136;
 
 const OFFER: usize = 87;
 

@@ -110,7 +110,7 @@ pub extern "C" fn nd_next_due(alloc: Global, node: &mut Slot) -> u64
 #[unsafe(no_mangle)]
 pub extern "C" fn nd_lease_version(alloc: Global, node: &mut Slot) -> u64
     ensures closed { node.old.handle.session ≡ None → result ≡ 0 }
-    ensures value { (s : Session) → node.old.handle.session ≡ Some s → result ≡ s.paths.version }
+    ensures value { (s : Session) → node.old.handle.session ≡ Some s → result ≡ s.paths.leases }
     ensures kept { node.new.handle.session ≡ node.old.handle.session }
 {
     let Some(session) = node.take(alloc) else {

@@ -27,6 +27,7 @@ pub mod Wishes
 pub mod Paths
 pub mod Lasting
 pub mod Leases
+pub mod Leaving
 pub mod Confirming
 pub mod Commands
 pub mod ClearedTables

@@ -24,7 +24,7 @@ use Rattle.nd_chronicle.specs.OwnAddress.{is_up}
 use Rattle.nd_node.specs.declared.node.Node.{Node}
 use Rattle.nd_node.specs.Node.{NextDue}
 use Rattle.nd_node.specs.NodeKept.{Stands, next_of}
-use Rattle.nd_node.specs.PathKept.{hop_kept, path_by_hop, path_kept, up_kept}
+use Rattle.nd_node.specs.PathKept.{hop_kept, left_by_hop, left_kept, left_of, path_by_hop, path_kept, up_kept}
 use Rattle.nd_node.specs.Path.{IsPath, PathSeen, first_end, neighbour_at, path_by, path_of, path_to_all}
 
 -- it goes by this next hop
@@ -113,3 +113,23 @@ module _ {R A : Type 0} (node : Node R A) (now : ℕ) (destination : Addr) where
     unfolding by_hop
     kept_to_all next_is multicast is =
         is ∙ (sym (cond-true (holds multicast_prefix destination.0) (path_to_all up now due destination) _ multicast) ∙ kept_is up due direct up_is due_is next_is)
+
+-- ---- the time that is left
+
+module _ {R A : Type 0} (node : Node R A) (now : ℕ) (destination : Addr) where
+  pub left_of_none : no_route ≡ hop_kept node.role node now destination → None ≡ left_kept node now destination
+  left_of_none is = ap (λ (h : NextHop). left_by_hop now node.neighbours.entries destination h) is
+
+  pub left_by_router : (key : ℕ) → via key ≡ hop_kept node.role node now destination → left_of (option_map (seen now) (entry_in key node.neighbours.entries)) ≡ left_kept node now destination
+  left_by_router key is = ap (λ (h : NextHop). left_by_hop now node.neighbours.entries destination h) is
+
+  pub left_to_one : direct ≡ hop_kept node.role node now destination → holds multicast_prefix destination.0 ≡ false
+      → left_of (option_map (seen now) (entry_in (number_of destination.0) node.neighbours.entries)) ≡ left_kept node now destination
+  left_to_one is single =
+      sym (cond-false (holds multicast_prefix destination.0) None (left_of (option_map (seen now) (entry_in (number_of destination.0) node.neighbours.entries))) single)
+      ∙ ap (λ (h : NextHop). left_by_hop now node.neighbours.entries destination h) is
+
+  pub left_to_all : direct ≡ hop_kept node.role node now destination → holds multicast_prefix destination.0 ≡ true → None ≡ left_kept node now destination
+  left_to_all is multicast =
+      sym (cond-true (holds multicast_prefix destination.0) None (left_of (option_map (seen now) (entry_in (number_of destination.0) node.neighbours.entries))) multicast)
+      ∙ ap (λ (h : NextHop). left_by_hop now node.neighbours.entries destination h) is

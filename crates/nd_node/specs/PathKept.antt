@@ -1,5 +1,5 @@
 -- Only what is kept, in the code's terms: the path of a destination, by the tables of a node.
-use Rattle.std.specs.Prelude.{◌≡◌, ℕ, ◌<◌, Bool, if◌then◌else◌, List, Option, Some, None}
+use Rattle.std.specs.Prelude.{◌≡◌, ℕ, ◌<◌, ◌≤◌, Bool, false, if◌then◌else◌, List, Option, Some, None}
 use Rattle.std.specs.Option.{option_map}
 use Rattle.nd_addr.specs.declared.addr.Addr.{Addr}
 use Rattle.nd_addr.specs.declared.mac.Mac.{Mac}
@@ -8,7 +8,10 @@ use Rattle.nd_addr.specs.declared.role.Role.TheVariants.{Host, Router}
 use Rattle.nd_addr.specs.Kind.{multicast_prefix}
 use Rattle.nd_addr.specs.Number.{holds, number_of}
 use Rattle.nd_table.specs.Listing.{open_at}
+use Rattle.nd_neighbour.specs.DueKept.{stays}
 use Rattle.nd_neighbour.specs.EntryKept.{NeighbourEntry}
+use Rattle.nd_neighbour.specs.LeaseKept.{LeavesLeases}
+use Rattle.nd_neighbour.specs.Shown.{Seen}
 use Rattle.nd_neighbour.specs.ShownKept.{seen}
 use Rattle.nd_neighbour.specs.TableKept.{entry_in}
 use Rattle.nd_nexthop.specs.Choice.{target_in}
@@ -18,6 +21,7 @@ use Rattle.nd_slaac.specs.declared.destination.Counted.TheVariants.{Assigned}
 use Rattle.nd_slaac.specs.Destination.{counted_in}
 use Rattle.nd_slaac.specs.PrefixOption.{link_local_of}
 use Rattle.nd_slaac.specs.TableKept.{address_in}
+use Rattle.nd_chronicle.specs.Due.{NeighbourFalls, What}
 use Rattle.nd_steps.specs.DestinationCache.{linked_by, own_in}
 use Rattle.nd_steps.specs.NextHop.{candidates_in}
 use Rattle.nd_node.specs.declared.node.Node.{Node}
@@ -49,6 +53,22 @@ path_kept node now destination =
     path_by_hop (up_kept node) now (next_of node) (first_end node.role (open_at now node.prefixes.entries)) node.neighbours.entries destination
     (hop_kept node.role node now destination)
 
+-- for how long a neighbour still is REACHABLE
+abbrev pub left_of : Option Seen → Option ℕ
+left_of None = None
+left_of (Some seen) = seen.left
+
+-- the same by the next hop: a multicast destination has no neighbour
+abbrev pub left_by_hop : ℕ → List NeighbourEntry → Addr → NextHop → Option ℕ
+left_by_hop now entries destination no_route = None
+left_by_hop now entries destination direct =
+    if holds multicast_prefix destination.0 then None else left_of (option_map (seen now) (entry_in (number_of destination.0) entries))
+left_by_hop now entries destination (via key) = left_of (option_map (seen now) (entry_in key entries))
+
+-- the same of the path of the destination
+abbrev pub left_kept : {R A : Type 0} → Node R A → ℕ → Addr → Option ℕ
+left_kept node now destination = left_by_hop now node.neighbours.entries destination (hop_kept node.role node now destination)
+
 -- the neighbour that a packet to the destination goes to by the next hop, or the destination itself
 abbrev pub towards : NextHop → Addr → ℕ
 towards (via key) destination = key
@@ -59,3 +79,15 @@ pub record InLease {R A : Type 0} (node : Node R A) (now : ℕ) (destination to 
   pub holds : now < (path_kept node now destination).until
   pub to_is : towards (path_kept node now destination).next destination ≡ number_of to.0
   pub mac_is : (path_kept node now destination).mac ≡ Some (number_of mac.0)
+
+-- Packets go the same way at each moment: the next hops and the link-layer addresses are the same, no lease ends earlier, and nothing is due earlier.
+pub record LeavesPaths {R A : Type 0} (old new : Node R A) : Type 0 where
+  pub up : up_kept new ≡ up_kept old
+  pub hop : (now : ℕ) (destination : Addr) → hop_kept new.role new now destination ≡ hop_kept old.role old now destination
+  pub neighbours : LeavesLeases old.neighbours.entries new.neighbours.entries
+  pub due : next_of old ≤ next_of new
+
+-- of what is due, a solicitation for a neighbour leaves them
+abbrev pub leaves_paths : What → Bool
+leaves_paths (NeighbourFalls falls) = stays falls
+leaves_paths _ = false

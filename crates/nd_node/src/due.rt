@@ -1,8 +1,10 @@
 //! What is due at a node, and when.
 
-ghost use Rattle.std.specs.Prelude.{◌≡◌, ℕ, ◌<◌, ◌≤◌, ◌↔◌, IsTrue, Some};
+ghost use Rattle.std.specs.Prelude.{◌≡◌, ℕ, ◌<◌, ◌≤◌, ◌↔◌, IsTrue, Some, true};
 ghost use Rattle.nd_table.specs.Moment.{IsMoment};
+ghost use Rattle.nd_steps.specs.Turned.{what_of};
 ghost use Rattle.nd_node.specs.Moments.{earlier};
+ghost use Rattle.nd_node.specs.PathKept.{leaves_paths};
 
 use crate::node::Node;
 use nd_steps::{Turned, forget_if_ended, note_failure, redraw_reachable_time};
@@ -14,9 +16,9 @@ impl<R: Rng + Drop, A: Allocator + Clone> Node<R, A> {
     ghost use Rattle.nd_chronicle.specs.Happening.{Chronicle};
     ghost use Rattle.nd_chronicle.specs.Due.{Due, RouterAdvertises, comes};
     ghost use Rattle.nd_steps.specs.RouterTables.{next_advertisement};
-    ghost use Rattle.nd_steps.specs.Turned.{what_of};
     ghost use Rattle.nd_node.specs.Node.{NextDue};
     ghost use Rattle.nd_node.specs.NodeKept.{Stands, next_of, turns_left};
+    ghost use Rattle.nd_node.specs.PathKept.{LeavesPaths};
 
     /// Returns the moment, in milliseconds, at which something is due next.
     pub fn next_due(&self) -> u64
@@ -50,6 +52,7 @@ impl<R: Rng + Drop, A: Allocator + Clone> Node<R, A> {
         ensures limit { self.new.router.advertiser.limit ≡ self.old.router.advertiser.limit }
         ensures role { self.new.role ≡ self.old.role }
         ensures advertisement { what_of result ≡ RouterAdvertises → next_advertisement self.old.role self.old.router ≡ Some now }
+        ensures leaves { leaves_paths (what_of result) ≡ true → LeavesPaths self.old self.new }
     {
         let turned = self.do_first_due(now);
         self.advance_to(now);
@@ -66,6 +69,7 @@ impl<R: Rng + Drop, A: Allocator + Clone> Node<R, A> {
         ensures limit { self.new.router.advertiser.limit ≡ self.old.router.advertiser.limit }
         ensures role { self.new.role ≡ self.old.role }
         ensures advertisement { what_of result ≡ RouterAdvertises → next_advertisement self.old.role self.old.router ≡ Some now }
+        ensures leaves { leaves_paths (what_of result) ≡ true → LeavesPaths self.old self.new }
     {
         if let Some(addr) = self.routers.turn(now) {
             // "all entries in the Destination Cache that use that router" go with it (RFC 4861, section 6.3.5).
@@ -91,6 +95,20 @@ impl<R: Rng + Drop, A: Allocator + Clone> Node<R, A> {
         }
         redraw_reachable_time(&mut self.params, &mut self.generator, now);
         Turned::Redrawn
+    }
+}
+
+/// Returns true if what was due leaves the paths of a node, as a solicitation for a neighbour does.
+pub(crate) fn leaves_paths<A: Allocator>(turned: &Turned<A>) -> bool
+    ensures { result ≡ leaves_paths (what_of turned.now) }
+{
+    match turned {
+        Turned::Neighbour(due) => due.stays(),
+        Turned::EndedRouter(_)
+        | Turned::Address(_)
+        | Turned::SolicitedRouters
+        | Turned::RouterAdvertised
+        | Turned::Redrawn => false,
     }
 }
 

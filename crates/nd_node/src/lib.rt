@@ -91,6 +91,7 @@ pub use frame::Reception;
 pub use limits::{Limits, USUAL_NEIGHBOURS, USUAL_ROUTERS};
 pub use nd_steps::{OutgoingPacket, Turned};
 pub use node::Node;
-pub use path::Path;
+pub use path::{Path, TimedPath};
 pub use resolve::Resolution;
+pub use time::Turn;
 pub use version::{VERSION, VERSION_NUMBER};

@@ -35,6 +35,26 @@ pub struct Path {
     pub until: u64,
 }
 
+/// A path, and for how long its neighbour still is REACHABLE.
+#[derive(Clone, Copy, Debug, PartialEq, Eq)]
+pub struct TimedPath {
+    pub path: Path,
+    /// The time that is left of the state REACHABLE, in milliseconds, if the neighbour is REACHABLE. It may be longer than the lease.
+    pub reachable_left: Option<u64>,
+}
+
+impl TimedPath {
+    /// Returns a path whose neighbour isn't REACHABLE.
+    fn without_time(path: Path) -> TimedPath
+        ensures { result ≡ record { path = path; reachable_left = None } }
+    {
+        TimedPath {
+            path,
+            reachable_left: None,
+        }
+    }
+}
+
 /// Returns true if a neighbour in this state has a link-layer address, and its use changes nothing (RFC 4861, section 7.3.3).
 fn is_leased(state: Reachability) -> bool
     ensures { result ≡ is_leased state }
@@ -71,7 +91,7 @@ fn path_to_all(up: bool, now: u64, due: u64, destination: Addr) -> Path
 
 impl<R: Rng + Drop, A: Allocator + Clone> Node<R, A> {
     ghost use Rattle.nd_node.specs.NodeKept.{Stands, next_of};
-    ghost use Rattle.nd_node.specs.PathKept.{path_kept};
+    ghost use Rattle.nd_node.specs.PathKept.{left_kept, left_of, path_kept};
 
     /// Returns the end of the lease of a path to a neighbour that stays REACHABLE for the time `left`, if it is. Something is due at `due`.
     fn lease(&self, leased: bool, now: u64, due: u64, left: Option<u64>) -> u64
@@ -89,24 +109,28 @@ impl<R: Rng + Drop, A: Allocator + Clone> Node<R, A> {
     }
 
     /// Returns the path to a neighbour, which may have no entry. `up`: the link-local address is assigned. Something is due at `due`.
-    fn path_by(&self, up: bool, now: u64, due: u64, hop: Hop, to: Addr) -> Path
+    fn path_by(&self, up: bool, now: u64, due: u64, hop: Hop, to: Addr) -> TimedPath
         requires { now < due }
-        ensures { path_in result ≡ path_by up now due (first_end self.now.role (open_at now self.now.prefixes.entries)) (hop_of hop) (option_map (seen now) (entry_in (number_of to.0) self.now.neighbours.entries)) }
+        ensures left { result.reachable_left ≡ left_of (option_map (seen now) (entry_in (number_of to.0) self.now.neighbours.entries)) }
+        ensures path { path_in result.path ≡ path_by up now due (first_end self.now.role (open_at now self.now.prefixes.entries)) (hop_of hop) (option_map (seen now) (entry_in (number_of to.0) self.now.neighbours.entries)) }
     {
         let Some(neighbour) = self.neighbours.entry(now, to) else {
-            return Path {
+            return TimedPath::without_time(Path {
                 hop,
                 mac: None,
                 state: None,
                 until: now,
-            };
+            });
         };
         let leased = up && is_leased(neighbour.state);
-        Path {
-            hop,
-            mac: neighbour.mac,
-            state: Some(neighbour.state),
-            until: self.lease(leased, now, due, neighbour.reachable_left),
+        TimedPath {
+            path: Path {
+                hop,
+                mac: neighbour.mac,
+                state: Some(neighbour.state),
+                until: self.lease(leased, now, due, neighbour.reachable_left),
+            },
+            reachable_left: neighbour.reachable_left,
         }
     }
 
@@ -118,20 +142,29 @@ impl<R: Rng + Drop, A: Allocator + Clone> Node<R, A> {
         ensures value { path_in result ≡ path_kept self.now now destination }
         ensures lasts { (start : Start) (c : Chronicle) (moment : ℕ) → Stands R.stream start self.now c → last_moment start.at c ≤ now → now ≤ moment → moment < result.until → Lasts start c moment destination (path_in result) }
     {
+        self.timed_path(now, destination).path
+    }
+
+    /// Returns the path of a destination, as `path` does, and for how long its neighbour still is REACHABLE.
+    pub fn timed_path(&self, now: u64, destination: Addr) -> TimedPath
+        requires settled { now < next_of self.now }
+        ensures value { path_in result.path ≡ path_kept self.now now destination }
+        ensures left { result.reachable_left ≡ left_kept self.now now destination }
+    {
         let up = self.is_up();
         let due = self.next_due();
         let hop = self.next_hop_to(now, destination);
         match hop {
-            Hop::NoRoute => Path {
+            Hop::NoRoute => TimedPath::without_time(Path {
                 hop,
                 mac: None,
                 state: None,
                 until: now,
-            },
+            }),
             Hop::Via(router) => self.path_by(up, now, due, hop, router),
             Hop::Direct => {
                 if destination.is_multicast() {
-                    return path_to_all(up, now, due, destination);
+                    return TimedPath::without_time(path_to_all(up, now, due, destination));
                 }
                 self.path_by(up, now, due, hop, destination)
             }

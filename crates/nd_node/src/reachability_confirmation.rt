@@ -1,9 +1,10 @@
 //! Takes an upper layer's confirmation (RFC 4861, section 7.3.1). The definitions are in `specs/ReachabilityConfirmation.antt`.
 
-ghost use Rattle.std.specs.Prelude.{◌≡◌, ◌<◌, ◌≤◌, ℕ, List, Some, None, if◌then◌else◌};
+ghost use Rattle.std.specs.Prelude.{◌≡◌, ◌+◌, ◌<◌, ◌≤◌, ℕ, List, Some, None, if◌then◌else◌, true};
 ghost use Rattle.std.specs.Option.{option_map};
 ghost use Rattle.nd_addr.specs.Number.{number_of};
 ghost use Rattle.nd_table.specs.Moment.{IsMoment};
+ghost use Rattle.nd_neighbour.specs.LeaseKept.{outlasts};
 ghost use Rattle.nd_neighbour.specs.ShownKept.{seen};
 ghost use Rattle.nd_neighbour.specs.TableKept.{entry_in};
 ghost use Rattle.nd_nexthop.specs.NextHopKept.{hop_of};
@@ -51,19 +52,23 @@ fn neighbour_by(hop: Hop, destination: Addr) -> Option<Addr>
 
 impl<R: Rng + Drop, A: Allocator + Clone> Node<R, A> {
     ghost use Rattle.nd_node.specs.NodeKept.{Stands, next_of};
-    ghost use Rattle.nd_node.specs.PathKept.{path_kept, towards};
+    ghost use Rattle.nd_node.specs.PathKept.{LeavesPaths, left_kept, path_kept, towards};
 
     /// Takes an upper layer's confirmation at `now`, in milliseconds, up to which nothing is due, that a neighbour is reachable (RFC 4861, section 7.3.1): the
-    /// event `Confirms`. It takes no memory and reports nothing.
-    pub fn confirm(&mut self, now: u64, neighbour: Addr)
+    /// event `Confirms`. It takes no memory and reports nothing. Returns false if packets might have been sent to the neighbour without a question for longer:
+    /// the time for which it is REACHABLE has become shorter.
+    pub fn confirm(&mut self, now: u64, neighbour: Addr) -> bool
         requires moment { IsMoment now }
         requires settled { now < next_of self.old }
-        ensures { (outs : List (ℕ × told.Out A)) → AddsEvent R.stream self.old self.new outs outs now (events.Confirms neighbour) answers.Done }
+        ensures adds { (outs : List (ℕ × told.Out A)) → AddsEvent R.stream self.old self.new outs outs now (events.Confirms neighbour) answers.Done }
+        ensures value { result ≡ outlasts (now + self.old.params.reachable_time) (entry_in (number_of neighbour.0) self.old.neighbours.entries) }
+        ensures leaves { result ≡ true → LeavesPaths self.old self.new }
     {
         nd_neighbour::laws::none_overdue();
         let times = times_in_force(&self.params);
-        self.neighbours.confirmed(now, neighbour, times.reachable);
+        let leaves = self.neighbours.confirmed(now, neighbour, times.reachable);
         self.advance_to(now);
+        leaves
     }
 
     /// Returns true if a confirmation of a neighbour moves the end of its state REACHABLE by `least` milliseconds or more.
@@ -98,16 +103,29 @@ impl<R: Rng + Drop, A: Allocator + Clone> Node<R, A> {
         None
     }
 
-    /// Returns true if a sign that packets to `destination` arrive at `now`, in milliseconds, confirms the neighbour `to`, as `confirmed_by` says, where they
-    /// go to it within the lease of their path. It takes no memory.
-    pub fn is_confirmed_by(&self, now: u64, destination: Addr, to: Addr, least: u64) -> bool
+    /// Returns true if a sign that packets to `destination` arrive at `now`, in milliseconds, confirms the neighbour that they go to, as `confirmed_by` says,
+    /// within the lease of their path. `state` is the state of that neighbour, and `left` the time for which it still is REACHABLE, in milliseconds, as
+    /// `timed_path` says. It takes no memory.
+    pub fn is_confirmed_in(
+        &self,
+        now: u64,
+        destination: Addr,
+        state: Option<Reachability>,
+        left: Option<u64>,
+        least: u64,
+    ) -> bool
         requires in_lease { now < (path_kept self.now now destination).until }
-        requires to_is { towards (path_kept self.now now destination).next destination ≡ number_of to.0 }
-        ensures { (start : Start) (c : Chronicle) → Stands R.stream start self.now c → last_moment start.at c ≤ now → IsConfirmed start c now destination least (if result then Some (number_of to.0) else None) }
+        requires state_is { (path_kept self.now now destination).state ≡ state }
+        requires left_is { left_kept self.now now destination ≡ left }
+        ensures { (start : Start) (c : Chronicle) → Stands R.stream start self.now c → last_moment start.at c ≤ now
+            → IsConfirmed start c now destination least (if result then Some (towards (path_kept self.now now destination).next destination) else None) }
     {
         if destination.is_multicast() {
             return false;
         }
-        self.moves(now, to, least)
+        match state {
+            Some(state) => moves_by(self.params.reachable_time(), least, state, left),
+            None => false,
+        }
     }
 }

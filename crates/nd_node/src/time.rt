@@ -1,6 +1,6 @@
 //! Does what is due at a node as time passes.
 
-ghost use Rattle.std.specs.Prelude.{◌≡◌, ℕ, ◌+◌, ◌<◌, ◌≤◌, ◌⊎◌, None, Ok, Some, IfSome, IsOk, IsSome, IsSomeAnd, OnOk, OnErr, vec_len, vec_capacity};
+ghost use Rattle.std.specs.Prelude.{◌≡◌, ℕ, ◌+◌, ◌<◌, ◌≤◌, ◌⊎◌, None, Ok, Some, IfOk, IfSome, IsOk, IsSome, IsSomeAnd, OnOk, OnErr, vec_len, vec_capacity, true};
 ghost use Rattle.nd_advertiser.specs.Contents.{contents_length};
 ghost use Rattle.nd_compose.specs.Room.{HasRoomFor};
 ghost use Rattle.nd_packet.specs.Waiting.{max_waiting};
@@ -9,6 +9,7 @@ ghost use Rattle.nd_steps.specs.RouterTables.{next_advertisement};
 ghost use Rattle.nd_table.specs.Moment.{IsMoment};
 ghost use Rattle.nd_node.specs.Time.{Advances, Comes, IsInHand, Leads, Onward, Passes, longest_due};
 
+use crate::due::leaves_paths;
 use crate::node::Node;
 use nd_addr::Role;
 use nd_compose::{FrameRoom, LONGEST_MESSAGE};
@@ -17,8 +18,18 @@ use nd_steps::{MOST_TOLD, link_local, tell};
 use rand_core::Rng;
 use std::alloc::{AllocError, Allocator};
 
+/// What was left when the first thing that was due was done.
+#[derive(Drop)]
+pub struct Turn<A: Allocator> {
+    /// The room, unless a frame was written into it.
+    pub room: Option<FrameRoom<A>>,
+    /// False if a path may be another one, or may end earlier.
+    pub leaves_paths: bool,
+}
+
 impl<R: Rng + Drop, A: Allocator + Clone> Node<R, A> {
     ghost use Rattle.nd_node.specs.NodeKept.{next_of, turns_left};
+    ghost use Rattle.nd_node.specs.PathKept.{LeavesPaths};
 
     /// Returns how long a message that the node sends when something is due can be, in bytes: a router's advertisement with all that it has room to
     /// offer (RFC 4861, section 6.2.3), or one with a link-layer address.
@@ -45,44 +56,51 @@ impl<R: Rng + Drop, A: Allocator + Clone> Node<R, A> {
     }
 
     /// Does the first thing that is due at `now`, in milliseconds, as `turn` does, with room for the frame and for what is reported. It takes no
-    /// memory. Returns the room, unless a frame was written into it.
+    /// memory. Returns the room, unless a frame was written into it, and whether the paths are left.
     pub fn turn_in(
         &mut self,
         now: u64,
         room: FrameRoom<A>,
         outs: &mut Vec<(u64, Out<A>), A>,
-    ) -> Option<FrameRoom<A>>
+    ) -> Turn<A>
         requires moment { IsMoment now }
         requires due { now ≡ next_of self.old }
         requires long { next_advertisement self.old.role self.old.router ≡ Some now → HasRoomFor room (contents_length self.old.router.advertiser.limit) }
         requires places { vec_len outs.old + (max_waiting + 1) ≤ vec_capacity outs.old }
         ensures leads { Leads R.stream self.old self.new outs.old.items outs.new.items (Comes now) }
         ensures fewer { (end : ℕ) → now ≤ end → turns_left end self.new < turns_left end self.old }
-        ensures same { IfSome result (λ rest. rest ≡ room) }
-        ensures sends { result ≡ None → SendsFrame outs.old.items outs.new.items }
+        ensures leaves { result.leaves_paths ≡ true → LeavesPaths self.old self.new }
+        ensures same { IfSome result.room (λ rest. rest ≡ room) }
+        ensures sends { result.room ≡ None → SendsFrame outs.old.items outs.new.items }
         ensures grows { Grows outs.old.items outs.new.items }
         ensures capacity { vec_capacity outs.old ≤ vec_capacity outs.new }
         ensures longest { longest_due self.new ≡ longest_due self.old }
     {
         let own = link_local(&self.addresses);
         let turned = self.take_turn(now);
-        tell(outs, now, room, self.mac, own, &self.router, turned)
+        let leaves_paths = leaves_paths(&turned);
+        let left = tell(outs, now, room, self.mac, own, &self.router, turned);
+        Turn {
+            room: left,
+            leaves_paths,
+        }
     }
 
-    /// Does the first thing that is due at `now`, in milliseconds, as `turn_in` does, in the room in reserve if that is long enough. Returns an
-    /// error if out of memory; nothing has changed then.
+    /// Does the first thing that is due at `now`, in milliseconds, as `turn_in` does, in the room in reserve if that is long enough. Returns true if
+    /// the paths are left, or an error if out of memory; nothing has changed then.
     fn turn_with(
         &mut self,
         now: u64,
         room: &mut Option<FrameRoom<A>>,
         outs: &mut Vec<(u64, Out<A>), A>,
-    ) -> Result<(), AllocError>
+    ) -> Result<bool, AllocError>
         requires moment { IsMoment now }
         requires due { now ≡ next_of self.old }
         ensures leads { OnOk result (Leads R.stream self.old self.new outs.old.items outs.new.items (Comes now)) }
         ensures fewer { OnOk result ((end : ℕ) → now ≤ end → turns_left end self.new < turns_left end self.old) }
         ensures same { OnErr result (self.new ≡ self.old) }
         ensures told { OnErr result (outs.new.items ≡ outs.old.items) }
+        ensures leaves { IfOk result (λ leaves. leaves ≡ true → LeavesPaths self.old self.new) }
         ensures succeeds { IsInHand self.old room.old → vec_len outs.old + (max_waiting + 1) ≤ vec_capacity outs.old → IsOk result }
         ensures room { (room.new ≡ room.old) ⊎ SendsFrame outs.old.items outs.new.items }
         ensures grows { Grows outs.old.items outs.new.items }
@@ -93,13 +111,14 @@ impl<R: Rng + Drop, A: Allocator + Clone> Node<R, A> {
         let longest = self.longest_at(now);
         match taken_if_long(room, longest) {
             Some(in_hand) => {
-                *room = self.turn_in(now, in_hand, outs);
-                Ok(())
+                let turn = self.turn_in(now, in_hand, outs);
+                *room = turn.room;
+                Ok(turn.leaves_paths)
             }
             None => {
                 let made = FrameRoom::with_room(outs.allocator().clone()?, longest)?;
-                let _made = self.turn_in(now, made, outs);
-                Ok(())
+                let turn = self.turn_in(now, made, outs);
+                Ok(turn.leaves_paths)
             }
         }
     }
@@ -115,7 +134,8 @@ impl<R: Rng + Drop, A: Allocator + Clone> Node<R, A> {
         ensures same { OnErr result (self.new ≡ self.old) }
         ensures told { OnErr result (outs.new.items ≡ outs.old.items) }
     {
-        self.turn_with(now, &mut None, outs)
+        self.turn_with(now, &mut None, outs)?;
+        Ok(())
     }
 
     /// Does all that is due up to `now`, in milliseconds, and reports it. Returns an error if out of memory; the rest can be done later.
@@ -128,22 +148,25 @@ impl<R: Rng + Drop, A: Allocator + Clone> Node<R, A> {
         // If nothing is due up to `now` nothing happens, even if no memory is left.
         ensures idle { now < next_of self.old → (result ≡ Ok tt) × (self.new ≡ self.old) × (outs.new ≡ outs.old) }
     {
-        self.go_on(now, &mut None, outs)
+        self.go_on(now, &mut None, outs, true)?;
+        Ok(())
     }
 
     /// Does all that is due up to `now`, in milliseconds, as `settle` does. The first frame is written into the room in reserve, if that is long
-    /// enough for it; the room stays, unless a frame was written into it. Returns an error if out of memory; the rest can be done later.
+    /// enough for it; the room stays, unless a frame was written into it. Returns true if the paths are left, or an error if out of memory; the rest can
+    /// be done later.
     pub fn settle_in(
         &mut self,
         now: u64,
         room: &mut Option<FrameRoom<A>>,
         outs: &mut Vec<(u64, Out<A>), A>,
-    ) -> Result<(), AllocError>
+    ) -> Result<bool, AllocError>
         requires { IsMoment now }
         ensures onward { Leads R.stream self.old self.new outs.old.items outs.new.items (Onward now) }
         ensures passes { OnOk result (Leads R.stream self.old self.new outs.old.items outs.new.items (Passes now)) }
         ensures settled { OnOk result (now < next_of self.new) }
-        ensures idle { now < next_of self.old → (result ≡ Ok tt) × (self.new ≡ self.old) × (room.new ≡ room.old) × (outs.new ≡ outs.old) }
+        ensures idle { now < next_of self.old → (result ≡ Ok true) × (self.new ≡ self.old) × (room.new ≡ room.old) × (outs.new ≡ outs.old) }
+        ensures leaves { IfOk result (λ leaves. leaves ≡ true → LeavesPaths self.old self.new) }
 
         // With room for the longest frame and for what one thing that is due reports, the first one is done even if no memory is left.
         ensures advances { IsInHand self.old room.old → vec_len outs.old + (max_waiting + 1) ≤ vec_capacity outs.old → OnErr result (Leads R.stream self.old self.new outs.old.items outs.new.items (Advances now)) }
@@ -155,24 +178,26 @@ impl<R: Rng + Drop, A: Allocator + Clone> Node<R, A> {
         nd_chronicle::laws::idle_time_passes();
         let next = self.next_due();
         if next > now {
-            return Ok(());
+            return Ok(true);
         }
-        self.turn_with(next, room, outs)?;
-        self.go_on(now, room, outs)
+        let leaves = self.turn_with(next, room, outs)?;
+        self.go_on(now, room, outs, leaves)
     }
 
-    /// Does what is due up to `now`, in milliseconds, one thing after the other.
+    /// Does what is due up to `now`, in milliseconds, one thing after the other. Returns true if the paths are left, and were before: `leaves`.
     fn go_on(
         &mut self,
         now: u64,
         room: &mut Option<FrameRoom<A>>,
         outs: &mut Vec<(u64, Out<A>), A>,
-    ) -> Result<(), AllocError>
+        mut leaves: bool,
+    ) -> Result<bool, AllocError>
         requires { IsMoment now }
         ensures onward { Leads R.stream self.old self.new outs.old.items outs.new.items (Onward now) }
         ensures passes { OnOk result (Leads R.stream self.old self.new outs.old.items outs.new.items (Passes now)) }
         ensures settled { OnOk result (now < next_of self.new) }
-        ensures idle { now < next_of self.old → (result ≡ Ok tt) × (self.new ≡ self.old) × (outs.new ≡ outs.old) }
+        ensures idle { now < next_of self.old → (result ≡ Ok leaves) × (self.new ≡ self.old) × (outs.new ≡ outs.old) }
+        ensures leaves { IfOk result (λ all. all ≡ true → (leaves ≡ true) × LeavesPaths self.old self.new) }
         ensures room { (room.new ≡ room.old) ⊎ SendsFrame outs.old.items outs.new.items }
         ensures grows { Grows outs.old.items outs.new.items }
         ensures capacity { vec_capacity outs.old ≤ vec_capacity outs.new }
@@ -182,9 +207,10 @@ impl<R: Rng + Drop, A: Allocator + Clone> Node<R, A> {
         loop {
             let next = self.next_due();
             if next > now {
-                return Ok(());
+                return Ok(leaves);
             }
-            self.turn_with(next, room, outs)?;
+            let turn_leaves = self.turn_with(next, room, outs)?;
+            leaves &= turn_leaves;
         }
     }
 }

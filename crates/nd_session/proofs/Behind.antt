@@ -1,5 +1,5 @@
 -- What leads a node on and is reported behind some reports leads it on and is reported behind more.
-use Rattle.std.proofs.Common.{◌≡◌, ◌≤◌, ℕ, List, [], ◌∷◌, ◌++◌, append_assoc, false, sym, ◌∙◌, ap, subst, Ok, Err}
+use Rattle.std.proofs.Common.{◌≡◌, ◌≤◌, ℕ, List, [], ◌∷◌, ◌++◌, append_assoc, Bool, true, false, sym, ◌∙◌, ap, subst, Ok, Err}
 use Rattle.std.specs.Prelude.{Result, IfOk, OnOk, OnErr, MatchResult}
 use Rattle.std.specs.declared.alloc.AllocError.{AllocError}
 use Rattle.std.proofs.lemmas.Bool.{true≢false}
@@ -16,6 +16,7 @@ use Rattle.nd_node.specs.declared.resolve.Resolution.{Resolution}
 use Rattle.nd_node.specs.Resolve.{answer_by, answer_told, with_answer}
 use Rattle.nd_node.specs.declared.answer.Answer.{Answer}
 use Rattle.nd_node.specs.declared.frame.Reception.{Reception}
+use Rattle.nd_session.specs.Settling.{done, leaves_paths}
 use Rattle.nd_chronicle.specs.Answer as answers
 use Rattle.nd_chronicle.specs.Event as events
 use Rattle.nd_node.specs.Answer.{answer_of}
@@ -120,3 +121,18 @@ pub path_behind : {R A : Type 0} (stream : R → Stream) (old new : Node R A) (x
 path_behind {R} {A} stream old new xs ys before after now destination resolution adds =
     subst (λ (w : List (ℕ × Out A)). AddsEvent stream old new (xs ++ (ys ++ before)) w now (events.Resolves destination) (answer_by resolution)) (answer_behind xs ys after now destination resolution)
     (adds_behind stream old new xs ys before (with_answer after now destination resolution) now (events.Resolves destination) (answer_by resolution) adds)
+
+-- ---- what was due
+
+pub done_on_ok : (r : Result Bool AllocError) (s : Result (Unit {0}) AllocError) (P : Type 0) → s ≡ done r → OnOk r P → OnOk s P
+done_on_ok (Ok leaves) s P is p = subst (λ (q : Result (Unit {0}) AllocError). OnOk q P) (sym is) p
+done_on_ok (Err error) s P is p = subst (λ (q : Result (Unit {0}) AllocError). OnOk q P) (sym is) tt
+
+pub done_on_err : (r : Result Bool AllocError) (s : Result (Unit {0}) AllocError) (P : Type 0) → s ≡ done r → OnErr r P → OnErr s P
+done_on_err (Ok leaves) s P is p = subst (λ (q : Result (Unit {0}) AllocError). OnErr q P) (sym is) tt
+done_on_err (Err error) s P is p = subst (λ (q : Result (Unit {0}) AllocError). OnErr q P) (sym is) p
+
+-- it has left what it says
+pub left_by : (r : Result Bool AllocError) (P : Type 0) → leaves_paths r ≡ true → IfOk r (λ leaves. leaves ≡ true → P) → P
+left_by (Ok leaves) P is p = p is
+left_by (Err error) P is p = absurd (true≢false (sym is))

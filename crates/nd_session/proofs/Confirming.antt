@@ -1,6 +1,6 @@
 -- A sign that packets to a destination arrive.
-use Rattle.std.proofs.Common.{◌≡◌, ◌≤◌, ℕ, List, Ok, Option, arith, subst, sym}
-use Rattle.std.specs.Prelude.{Result}
+use Rattle.std.proofs.Common.{◌≡◌, ◌≤◌, Bool, ℕ, List, None, Ok, Option, Some, arith, subst, sym}
+use Rattle.std.specs.Prelude.{Result, if◌then◌else◌}
 use Rattle.std.specs.Option.{option_map}
 use Rattle.std.specs.Global.{Global}
 use Rattle.std.specs.declared.alloc.AllocError.{AllocError}
@@ -24,6 +24,12 @@ use Rattle.nd_session.specs.Event.{LedBy}
 use Rattle.nd_session.specs.Ready.{IsReady}
 use Rattle.nd_session.specs.declared.session.Session.{Session}
 use Rattle.nd_session.proofs.Keeping.{event_ready}
+
+-- by a neighbour of the same number
+pub confirmed_where : (start : Start) (c : Chronicle) (now : ℕ) (destination : Addr) (least key to : ℕ) (b r : Bool) → key ≡ to → b ≡ r
+    → IsConfirmed start c now destination least (if b then Some key else None) → IsConfirmed start c now destination least (if r then Some to else None)
+confirmed_where start c now destination least key to b r same is confirmed =
+    subst (λ (x : Bool). IsConfirmed start c now destination least (if x then Some to else None)) is (subst (λ (k : ℕ). IsConfirmed start c now destination least (if b then Some k else None)) same confirmed)
 
 module _ (old mid new : Session) (now : ℕ) (neighbour : Option Addr) (le : old.node.last ≤ now) (passes : Leads stream_of_source old.node mid.node old.queue mid.queue (Passes now))
     (adds : AddsEvent stream_of_source mid.node new.node mid.queue mid.queue now (event_of neighbour) answers.Done) (queue : new.queue ≡ mid.queue) where

@@ -1,5 +1,5 @@
 -- A lease holds as long as the version is the same.
-use Rattle.std.proofs.Common.{◌≡◌, ◌<◌, ◌≤◌, ◌-◌, ◌^◌, ℕ, Bool, true, false, refl, sym, ◌∙◌, ap, subst, arith, inl, inr}
+use Rattle.std.proofs.Common.{◌≡◌, ◌<◌, ◌≤◌, ◌-◌, ◌^◌, ℕ, Bool, true, false, refl, sym, ◌∙◌, subst, arith, inl, inr}
 use Rattle.std.proofs.lemmas.Bool.{cases_Bool}
 use Rattle.std.specs.Global.{Global}
 use Rattle.nd_addr.specs.declared.addr.Addr.{Addr}
@@ -7,45 +7,56 @@ use Rattle.nd_chronicle.specs.Happening.{Chronicle, last_moment}
 use Rattle.nd_chronicle.specs.Start.{Start}
 use Rattle.nd_node.specs.declared.node.Node.{Node}
 use Rattle.nd_node.specs.NodeKept.{Stands}
-use Rattle.nd_node.specs.Path.{Lasts, PathSeen}
-use Rattle.nd_node.specs.PathKept.{path_kept}
-use Rattle.nd_node.proofs.Lasting.{kept_goes_on}
-use Rattle.nd_node.proofs.Leases.{kept_is_path, lease_settled}
+use Rattle.nd_node.specs.Path.{Lasts}
+use Rattle.nd_node.specs.PathKept.{LeavesPaths, path_kept}
+use Rattle.nd_node.proofs.Leaving.{leave_both, leaves_lasts, passing_leaves}
 use Rattle.nd_random.specs.declared.source.Source.{Source}
 use Rattle.nd_random.specs.Source.{stream_of_source}
 use Rattle.nd_session.specs.declared.session.Session.{Session}
 use Rattle.nd_session.specs.Leases.{KeepsLeases}
-use Rattle.nd_session.proofs.Remembered.{path_later}
 
-pub holds : (old new : Session) (start : Start) (c : Chronicle) (now moment : ℕ) (destination : Addr) → KeepsLeases old new → new.paths.version ≡ old.paths.version → old.paths.version < 2 ^ 64 - 1
+pub holds : (old new : Session) (start : Start) (c : Chronicle) (now moment : ℕ) (destination : Addr) → KeepsLeases old new → new.paths.leases ≡ old.paths.leases → old.paths.leases < 2 ^ 64 - 1
     → Stands stream_of_source start new.node c → last_moment start.at c ≤ moment → now ≤ moment → moment < (path_kept old.node now destination).until → Lasts start c moment destination (path_kept old.node now destination)
 holds old new start c now moment destination keeps version lt s le from before =
-    let same : path_kept new.node now destination ≡ path_kept old.node now destination =
-    ap (λ (n : Node Source Global). path_kept n now destination) (keeps.keeps version lt) ∙ path_later old.node new.node.last now destination in
-    let until : moment < (path_kept new.node now destination).until = subst (λ (p : PathSeen). moment < p.until) (sym same) before in
-    let goes = kept_goes_on new.node now destination moment from until in record {
-      later = path_kept new.node moment destination;
-      is_path = kept_is_path stream_of_source start new.node c s moment destination le (lease_settled new.node now moment destination from until);
-      next = goes.0 ∙ ap (λ (p : PathSeen). p.next) same;
-      mac = goes.1 ∙ ap (λ (p : PathSeen). p.mac) same;
-      state = goes.2;
-    }
+    leaves_lasts old.node now moment destination from new.node (keeps.keeps version lt) before stream_of_source start c s le
 
 pub one_after_another : (old mid new : Session) → KeepsLeases old mid → KeepsLeases mid new → KeepsLeases old new
 one_after_another old mid new first second = record {
   grows = omega (arith, first.grows, second.grows);
   keeps = λ same lt.
-      let mid_is : mid.paths.version ≡ old.paths.version = omega (arith, first.grows, second.grows, same) in
-      second.keeps (same ∙ sym mid_is) (omega (arith, mid_is, lt)) ∙ ap (λ (n : Node Source Global). record n { last = new.node.last }) (first.keeps mid_is lt);
+      let mid_is : mid.paths.leases ≡ old.paths.leases = omega (arith, first.grows, second.grows, same) in
+      leave_both old.node mid.node new.node (first.keeps mid_is lt) (second.keeps (same ∙ sym mid_is) (omega (arith, mid_is, lt)));
 }
 
+-- time alone has passed
+pub alone_leaves : (node later : Node Source Global) (at : ℕ) → later ≡ record node { last = at } → LeavesPaths node later
+alone_leaves node later at is = subst (λ (n : Node Source Global). LeavesPaths node n) (sym is) (passing_leaves node at)
+
+pub keeps_alone : (old new : Session) (at : ℕ) → new.paths.leases ≡ old.paths.leases → new.node ≡ record old.node { last = at } → KeepsLeases old new
+keeps_alone old new at version is = record { grows = omega (arith, version); keeps = λ same lt. alone_leaves old.node new.node at is }
+
+-- the version grows where the paths may not be left
+pub keeps_unless : (holds : Bool) (old new : Session) → old.paths.leases ≤ new.paths.leases → (holds ≡ false → old.paths.leases < 2 ^ 64 - 1 → old.paths.leases < new.paths.leases) → (holds ≡ true → LeavesPaths old.node new.node)
+    → KeepsLeases old new
+keeps_unless holds old new least grows leaves = record {
+  grows = least;
+  keeps = λ version lt. elim (cases_Bool holds) [
+    | inl held ↦ leaves held
+    | inr ended ↦ absurd (omega (arith, grows ended lt, version))
+  ];
+}
+
+pub keeps_unless_at : (holds : Bool) (inside old new : Session) → inside ≡ old → inside.paths.leases ≤ new.paths.leases → (holds ≡ false → inside.paths.leases < 2 ^ 64 - 1 → inside.paths.leases < new.paths.leases)
+    → (holds ≡ true → LeavesPaths inside.node new.node) → KeepsLeases old new
+keeps_unless_at holds inside old new is least grows leaves = subst (λ (s : Session). KeepsLeases s new) is (keeps_unless holds inside new least grows leaves)
+
 -- where nothing has changed but the last moment, and the version grows where something has
-pub keeps_where : (changed : Bool) (old mid new : Session) (at : ℕ) → KeepsLeases old mid → mid.paths.version ≤ new.paths.version
-    → (changed ≡ true → mid.paths.version < 2 ^ 64 - 1 → mid.paths.version < new.paths.version) → (changed ≡ false → new.node ≡ record mid.node { last = at }) → KeepsLeases old new
+pub keeps_where : (changed : Bool) (old mid new : Session) (at : ℕ) → KeepsLeases old mid → mid.paths.leases ≤ new.paths.leases
+    → (changed ≡ true → mid.paths.leases < 2 ^ 64 - 1 → mid.paths.leases < new.paths.leases) → (changed ≡ false → new.node ≡ record mid.node { last = at }) → KeepsLeases old new
 keeps_where changed old mid new at first least grows same = one_after_another old mid new first (record {
   grows = least;
   keeps = λ version lt. elim (cases_Bool changed) [
     | inl changes ↦ absurd (omega (arith, grows changes lt, version))
-    | inr stays ↦ subst (λ (n : Node Source Global). n ≡ record mid.node { last = n.last }) (sym (same stays)) refl
+    | inr stays ↦ alone_leaves mid.node new.node at (same stays)
   ];
 })

@@ -1,7 +1,8 @@
 -- The paths that a session remembers.
-use Rattle.std.proofs.Common.{◌≡◌, Bool, true, false, ℕ, ◌<◌, ◌≤◌, ◌-◌, Contains, Option, Some, refl, sym, ◌∙◌, ap, subst, arith, inl, inr, ⊎_elim}
-use Rattle.std.specs.Prelude.{◌⊎◌}
-use Rattle.std.proofs.lemmas.Bool.{cases_Bool}
+use Rattle.std.proofs.Common.{◌≡◌, Bool, true, false, ℕ, ◌+◌, ◌<◌, ◌≤◌, ◌-◌, Contains, Option, Some, None, refl, sym, ◌∙◌, ap, subst, arith, inl, inr, ⊎_elim}
+use Rattle.std.specs.Prelude.{◌⊎◌, IfSome, nat_lt}
+use Rattle.std.proofs.lemmas.Bool.Decides.{nat_tests}
+use Rattle.std.proofs.lemmas.Bool.{cases_Bool, cond-false, cond-true}
 use Rattle.std.specs.Global.{Global}
 use Rattle.nd_addr.specs.declared.addr.Addr.{Addr}
 use Rattle.nd_addr.specs.declared.mac.Mac.{Mac}
@@ -13,16 +14,17 @@ use Rattle.nd_neighbour.specs.declared.shown.Reachability.{Reachability}
 use Rattle.nd_neighbour.specs.declared.shown.Reachability.TheVariants.{Delay}
 use Rattle.nd_nexthop.specs.NextHop.{NextHop}
 use Rattle.nd_node.specs.declared.node.Node.{Node}
-use Rattle.nd_node.specs.NodeKept.{next_of}
-use Rattle.nd_node.specs.Path.{PathSeen, first_end}
-use Rattle.nd_node.specs.PathKept.{InLease, hop_kept, path_by_hop, path_kept, towards, up_kept}
+use Rattle.nd_node.specs.NodeKept.{Stands, next_of}
+use Rattle.nd_node.specs.Path.{IsPath, PathSeen, first_end}
+use Rattle.nd_node.specs.PathKept.{InLease, hop_kept, left_by_hop, left_kept, path_by_hop, path_kept, towards, up_kept}
 use Rattle.nd_node.proofs.Lasting.{kept_lasts}
+use Rattle.nd_node.proofs.Leaving.{LeftGoesOn, left_lasts}
 use Rattle.nd_node.proofs.Leases.{kept_is_path, lease_settled}
 use Rattle.nd_random.specs.declared.source.Source.{Source}
 use Rattle.nd_random.specs.Source.{stream_of_source}
 use Rattle.nd_session.specs.declared.paths.LeasedPath.{LeasedPath}
 use Rattle.nd_session.specs.declared.session.Session.{Session}
-use Rattle.nd_session.specs.Paths.{AreRemembered, IsPathAt}
+use Rattle.nd_session.specs.Paths.{AreRemembered, IsPathAt, left_at}
 use Rattle.nd_session.specs.Resolve.{IsLeased}
 use Rattle.nd_session.specs.Slots.{AreForgotten, IsRecalled, Slots}
 
@@ -37,11 +39,21 @@ pub path_later : (node : Node Source Global) (at now : ℕ) (destination : Addr)
 path_later node at now destination =
     ap (λ (h : NextHop). path_by_hop (up_kept node) now (next_of node) (first_end node.role (open_at now node.prefixes.entries)) node.neighbours.entries destination h) (hop_later node.role node at now destination)
 
+left_later : (node : Node Source Global) (at now : ℕ) (destination : Addr) → left_kept (record node { last = at }) now destination ≡ left_kept node now destination
+left_later node at now destination = ap (λ (h : NextHop). left_by_hop now node.neighbours.entries destination h) (hop_later node.role node at now destination)
+
 -- what is remembered is so when time has passed
 pub remembers_later : (slots : Slots) (node later : Node Source Global) (at : ℕ) → later ≡ record node { last = at } → AreRemembered slots node → AreRemembered slots later
 remembers_later slots node later at is r path there version now from until =
-    subst (λ (q : PathSeen). (q.until ≡ path.until) × (towards q.next path.destination ≡ number_of path.to.0) × (q.mac ≡ Some (number_of path.mac.0)) × (q.state ≡ path.state))
-    (sym (ap (λ (n : Node Source Global). path_kept n now path.destination) is ∙ path_later node at now path.destination)) (r path there version now from until)
+    let was = r path there version now from until in
+    let same : path_kept later now path.destination ≡ path_kept node now path.destination = ap (λ (n : Node Source Global). path_kept n now path.destination) is ∙ path_later node at now path.destination in
+    let left : left_kept later now path.destination ≡ left_kept node now path.destination = ap (λ (n : Node Source Global). left_kept n now path.destination) is ∙ left_later node at now path.destination in (
+      ap (λ (q : PathSeen). q.until) same ∙ was.0,
+      ap (λ (q : PathSeen). towards q.next path.destination) same ∙ was.1,
+      ap (λ (q : PathSeen). q.mac) same ∙ was.2,
+      ap (λ (q : PathSeen). q.state) same ∙ was.3,
+      left ∙ was.4,
+    )
 
 -- nothing is, at any node
 pub remembers_nothing : (slots : Slots) (node : Node Source Global) → AreForgotten slots → AreRemembered slots node
@@ -55,11 +67,18 @@ remembers_where changed slots left node later at forgotten kept same r = elim (c
   | inr stays ↦ subst (λ (s : Slots). AreRemembered s later) (sym (kept stays)) (remembers_later slots node later at (same stays) r)
 ]
 
-module _ (node : Node Source Global) (now : ℕ) (destination to : Addr) (mac : Mac) (state : Option Reachability) (p : PathSeen)
+-- what is left by then of a state that goes on
+left_then : (now x : ℕ) (was later : Option ℕ) (end : ℕ) → (was ≡ None → end ≡ 0) → IfSome was (λ time. end ≡ now + time) → LeftGoesOn now x was later → later ≡ left_at end x
+left_then now x None later end none some goes = goes ∙ sym (cond-false (nat_lt x end) (Some (end - x)) None (grind (arith, nat_tests, none refl)))
+left_then now x (Some time) later end none some goes =
+    goes.1 ∙ (ap (λ (e : ℕ). Some (e - x)) (sym some) ∙ sym (cond-true (nat_lt x end) (Some (end - x)) None (let before = goes.0 in grind (arith, nat_tests, before, some))))
+
+module _ (node : Node Source Global) (now : ℕ) (destination to : Addr) (mac : Mac) (state : Option Reachability) (end : ℕ) (p : PathSeen)
+    (left : Option ℕ) (left_is : left ≡ left_kept node now destination) (none : left ≡ None → end ≡ 0) (some : IfSome left (λ time. end ≡ now + time))
     (is : p ≡ path_kept node now destination) (to_is : towards p.next destination ≡ number_of to.0) (mac_is : p.mac ≡ Some (number_of mac.0)) (state_is : p.state ≡ state)
     (steady : ((path_kept node (p.until - 1) destination).state ≡ p.state) ⊎ (p.state ≡ Some Delay → ⊥)) where
   -- a path in its lease
-  lasts_until : (version t : ℕ) → now ≤ t → t < p.until → IsPathAt node (record { destination = destination; to = to; mac = mac; state = state; from = now; until = p.until; version = version }) t
+  lasts_until : (version t : ℕ) → now ≤ t → t < p.until → IsPathAt node (record { destination = destination; to = to; mac = mac; state = state; reachable_until = end; from = now; until = p.until; version = version }) t
   lasts_until version t from until =
       let same = kept_lasts node now destination t from (subst (λ (q : PathSeen). t < q.until) is until)
       (⊎_elim (λ at_end. inl (ap (λ (q : PathSeen). (path_kept node (q.until - 1) destination).state) (sym is) ∙ (at_end ∙ ap (λ (q : PathSeen). q.state) is)))
@@ -69,15 +88,17 @@ module _ (node : Node Source Global) (now : ℕ) (destination to : Addr) (mac : 
         ap (λ (q : PathSeen). towards q.next destination) same ∙ to_is,
         ap (λ (q : PathSeen). q.mac) same ∙ mac_is,
         ap (λ (q : PathSeen). q.state) same ∙ state_is,
+        left_then now t left (left_kept node t destination) end none some
+            (subst (λ (o : Option ℕ). LeftGoesOn now t o (left_kept node t destination)) (sym left_is) (left_lasts node now t destination from (subst (λ (q : PathSeen). t < q.until) is until))),
       )
 
   -- it is remembered beside the others
   pub remembers_one : (old new : Slots) → new.version ≡ old.version
-      → ((q : LeasedPath) → Contains new.paths q → Contains old.paths q ⊎ (q ≡ record { destination = destination; to = to; mac = mac; state = state; from = now; until = p.until; version = old.version }))
+      → ((q : LeasedPath) → Contains new.paths q → Contains old.paths q ⊎ (q ≡ record { destination = destination; to = to; mac = mac; state = state; reachable_until = end; from = now; until = p.until; version = old.version }))
       → AreRemembered old node → AreRemembered new node
   remembers_one old new same more r path there version t from until = by (more path there)
     where
-      by : Contains old.paths path ⊎ (path ≡ record { destination = destination; to = to; mac = mac; state = state; from = now; until = p.until; version = old.version }) → IsPathAt node path t
+      by : Contains old.paths path ⊎ (path ≡ record { destination = destination; to = to; mac = mac; state = state; reachable_until = end; from = now; until = p.until; version = old.version }) → IsPathAt node path t
       by (inl was) = r path was (version ∙ same) t from until
       by (inr this) =
           subst (λ (q : LeasedPath). IsPathAt node q t) (sym this)
@@ -97,6 +118,13 @@ module _ (slots : Slots) (node : Node Source Global) (now : ℕ) (destination : 
     mac_is = subst (λ (d : Addr). (path_kept node now d).mac ≡ Some (number_of path.mac.0)) recalled.destination_is here.2;
   }
 
+  -- its neighbour is seen as it was
+  pub recalled_state : (path_kept node now destination).state ≡ path.state
+  recalled_state = subst (λ (d : Addr). (path_kept node now d).state ≡ path.state) recalled.destination_is here.3
+
+  pub recalled_left : left_kept node now destination ≡ left_at path.reachable_until now
+  recalled_left = subst (λ (d : Addr). left_kept node now d ≡ left_at path.reachable_until now) recalled.destination_is here.4
+
   pub recalled_settled : now < next_of node
   recalled_settled = lease_settled node now now destination (omega arith) recalled_in_lease.holds
 
@@ -113,3 +141,19 @@ module _ (slots : Slots) (node : Node Source Global) (now : ℕ) (destination : 
         );
         due = λ le. absurd (omega (arith, le, same_next, recalled_settled));
       }
+
+-- ---- what is answered
+
+-- the path by the tables is that of what happened
+pub kept_leased : (node : Node Source Global) (session : Session) (now : ℕ) (destination : Addr) (path : PathSeen) → path ≡ path_kept node now destination → now < next_of node → session.node ≡ node
+    → IsLeased now destination path.state path.until session
+kept_leased node session now destination path is settled same = record {
+  settled = λ lt start c s le. (
+    path,
+    subst (λ (q : PathSeen). IsPath start c now destination q) (sym is)
+        (kept_is_path stream_of_source start node c (subst (λ (n : Node Source Global). Stands stream_of_source start n c) same s) now destination le settled),
+    refl,
+    refl,
+  );
+  due = λ le. absurd (let next = ap (λ (n : Node Source Global). next_of n) same in omega (arith, le, settled, next));
+}

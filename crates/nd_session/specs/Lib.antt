@@ -4,6 +4,7 @@ pub mod Held
 pub mod Boxed
 pub mod Event
 pub mod Reception
+pub mod Settling
 pub mod Leases
 pub mod Resolve
 pub mod Confirmation

@@ -3,10 +3,11 @@ use Rattle.std.specs.Prelude.{◌≡◌, ℕ, ◌<◌, ◌≤◌, ◌^◌, ◌-�
 use Rattle.nd_addr.specs.declared.addr.Addr.{Addr}
 use Rattle.nd_session.specs.declared.paths.LeasedPath.{LeasedPath}
 
--- what is in the slots, and the version of what is remembered
+-- what is in the slots, the version of what is remembered, and that of all leases
 pub record Slots : Type 0 where
   pub paths : List LeasedPath
   pub version : ℕ
+  pub leases : ℕ
 
 -- none is of a later version, or of the last one
 abbrev pub AreOlder : ℕ → List LeasedPath → Type 0

@@ -14,6 +14,7 @@ ghost use Rattle.nd_node.specs.NodeKept.{Stands, next_of};
 ghost use Rattle.nd_random.specs.Source.{stream_of_source};
 ghost use Rattle.nd_session.specs.Confirmation.{Confirms};
 ghost use Rattle.nd_session.specs.Leases.{KeepsLeases};
+ghost use Rattle.nd_session.specs.Paths.{left_at};
 ghost use Rattle.nd_session.specs.Ready.{IsReady};
 
 use crate::session::Session;
@@ -31,9 +32,20 @@ pub enum Confirmation {
     Unneeded,
 }
 
+/// Returns what is left at `now` of a state that ends at `end`, if anything is; all are in milliseconds.
+fn left_at(end: u64, now: u64) -> Option<u64>
+    ensures { result ≡ left_at end now }
+{
+    if now < end {
+        return Some(end - now);
+    }
+    None
+}
+
 impl Session {
-    /// Takes the confirmation of a neighbour at `now`, in milliseconds, up to which nothing is due. It takes no memory.
-    fn confirm(&mut self, now: u64, neighbour: Addr) -> Confirmation
+    /// Takes the confirmation of a neighbour at `now`, in milliseconds, up to which nothing is due. It takes no memory. The ends of paths that are remembered
+    /// may be later then.
+    pub(crate) fn confirm(&mut self, now: u64, neighbour: Addr) -> Confirmation
         requires moment { IsMoment now }
         requires settled { now < next_of self.old.node }
         ensures taken { result ≡ Confirmation.Taken }
@@ -42,8 +54,8 @@ impl Session {
         ensures room { self.new.room ≡ self.old.room }
         ensures leases { KeepsLeases self.old self.new }
     {
-        self.paths.forget();
-        self.node.confirm(now, neighbour);
+        let holds = self.node.confirm(now, neighbour);
+        self.paths.forget_unless(holds);
         Confirmation::Taken
     }
 
@@ -80,7 +92,11 @@ impl Session {
             return Ok(Confirmation::Past(self.node.last_moment()));
         }
         if let Some(path) = self.paths.recall(now, destination) {
-            if self.node.is_confirmed_by(now, destination, path.to, least) {
+            let left = left_at(path.reachable_until, now);
+            if self
+                .node
+                .is_confirmed_in(now, destination, path.state, left, least)
+            {
                 return Ok(self.confirm(now, path.to));
             }
             return Ok(self.pass(now));

@@ -8,6 +8,9 @@ use nd_neighbour::Reachability;
 use std::alloc::{AllocError, Global};
 use std::marker::Model;
 
+/// The number of slots that a destination has.
+const WAYS: usize = 4;
+
 /// The last version, at which nothing is remembered.
 const LAST_VERSION: u64 = u64::MAX;
 
@@ -23,17 +26,22 @@ pub(crate) struct LeasedPath {
     pub(crate) mac: Mac,
     /// The state of the neighbour. A multicast destination has none.
     pub(crate) state: Option<Reachability>,
+    /// The end of the state REACHABLE, or 0.
+    pub(crate) reachable_until: u64,
     pub(crate) from: u64,
     pub(crate) until: u64,
     /// The version at which it was remembered.
     pub(crate) version: u64,
 }
 
-/// The paths of the destinations that were asked for, each in the slot of its destination or in the one next to that. Those of an earlier version are forgotten.
+/// The paths of the destinations that were asked for, each in one of the slots that its destination has. Those of an earlier version are forgotten.
 #[derive(Drop)]
 pub struct Paths {
     slots: Vec<LeasedPath, Global>,
+    /// The version of the slots.
     version: u64,
+    /// The version of all leases. It is another one, since what leaves each lease may move the end of a path that is remembered.
+    leases: u64,
 }
 
 impl Model for Paths {
@@ -41,7 +49,7 @@ impl Model for Paths {
 
     ghost Value = { Slots };
 
-    ghost view = { λ p. record { paths = p.slots.items; version = p.version } };
+    ghost view = { λ p. record { paths = p.slots.items; version = p.version; leases = p.leases } };
 
     ghost invariant = { λ p. AreOlder p.version p.slots.items };
 }
@@ -58,40 +66,78 @@ impl Paths {
             to: Addr::UNSPECIFIED,
             mac: Mac([0; 6]),
             state: None,
+            reachable_until: 0,
             from: 0,
             until: 0,
             version: 0,
         };
         let slots = vec![in alloc; none; slots_for(destinations)]?;
-        Ok(Paths { slots, version: 1 })
+        Ok(Paths {
+            slots,
+            version: 1,
+            leases: 1,
+        })
     }
 
-    /// Returns the version of what is remembered.
-    pub(crate) fn version(&self) -> u64
-        ensures { result ≡ self.now.version }
+    /// Returns the version of all leases.
+    pub(crate) fn leases(&self) -> u64
+        ensures { result ≡ self.now.leases }
     {
-        self.version
+        self.leases
     }
 
-    /// Forgets what is remembered. The version grows, unless it is the last one.
-    pub(crate) fn forget(&mut self)
+    /// Forgets what is remembered; each lease holds.
+    fn forget_slots(&mut self)
         ensures forgotten { AreForgotten self.new }
-        ensures least { self.old.version ≤ self.new.version }
-        ensures grows { self.old.version < 2 ^ 64 - 1 → self.old.version < self.new.version }
+        ensures leases { self.new.leases ≡ self.old.leases }
     {
         if self.version < LAST_VERSION {
             self.version += 1;
         }
     }
 
+    /// The version of all leases grows, unless it is the last one.
+    fn grow(&mut self)
+        ensures least { self.old.leases ≤ self.new.leases }
+        ensures grows { self.old.leases < 2 ^ 64 - 1 → self.old.leases < self.new.leases }
+    {
+        if self.leases < LAST_VERSION {
+            self.leases += 1;
+        }
+    }
+
+    /// Forgets what is remembered. The version of all leases grows, unless it is the last one.
+    pub(crate) fn forget(&mut self)
+        ensures forgotten { AreForgotten self.new }
+        ensures least { self.old.leases ≤ self.new.leases }
+        ensures grows { self.old.leases < 2 ^ 64 - 1 → self.old.leases < self.new.leases }
+    {
+        self.grow();
+        self.forget_slots();
+    }
+
     /// Forgets what is remembered where something has changed.
     pub(crate) fn forget_where(&mut self, changed: bool)
         ensures forgotten { changed ≡ true → AreForgotten self.new }
         ensures kept { changed ≡ false → self.new ≡ self.old }
-        ensures least { self.old.version ≤ self.new.version }
-        ensures grows { changed ≡ true → self.old.version < 2 ^ 64 - 1 → self.old.version < self.new.version }
+        ensures least { self.old.leases ≤ self.new.leases }
+        ensures grows { changed ≡ true → self.old.leases < 2 ^ 64 - 1 → self.old.leases < self.new.leases }
     {
         if changed {
+            self.forget();
+        }
+    }
+
+    /// Forgets what is remembered. The version of all leases grows unless each of them holds, or it is the last one.
+    pub(crate) fn forget_unless(&mut self, holds: bool)
+        ensures forgotten { AreForgotten self.new }
+        ensures least { self.old.leases ≤ self.new.leases }
+        ensures kept { holds ≡ true → self.new.leases ≡ self.old.leases }
+        ensures grows { holds ≡ false → self.old.leases < 2 ^ 64 - 1 → self.old.leases < self.new.leases }
+    {
+        if holds {
+            self.forget_slots();
+        } else {
             self.forget();
         }
     }
@@ -101,11 +147,13 @@ impl Paths {
     pub(crate) fn recall(&self, now: u64, destination: Addr) -> Option<LeasedPath>
         ensures { IfSome result (λ path. IsRecalled self.now now destination path) }
     {
-        let slot = self.slot_of(destination.to_bits());
-        match self.recall_at(slot, now, destination) {
-            Some(path) => Some(path),
-            None => self.recall_at(slot ^ 1, now, destination),
+        let first = self.slot_of(destination.to_bits());
+        for way in 0..WAYS {
+            if let Some(path) = self.recall_at(first ^ way, now, destination) {
+                return Some(path);
+            }
         }
+        None
     }
 
     /// Returns what a slot has of a destination, if `now`, in milliseconds, is within its lease.
@@ -127,9 +175,10 @@ impl Paths {
         None
     }
 
-    /// Remembers a path in the slot of its destination, or in the one next to that if it has the path of another destination.
+    /// Remembers a path in a slot of its destination.
     pub(crate) fn remember(&mut self, mut path: LeasedPath)
         ensures version { self.new.version ≡ self.old.version }
+        ensures leases { self.new.leases ≡ self.old.leases }
         ensures paths { (p : _) → Contains self.new.paths p → Contains self.old.paths p ⊎ (p ≡ record path { version = self.old.version }) }
     {
         path.version = self.version;
@@ -139,15 +188,15 @@ impl Paths {
         }
     }
 
-    /// Returns the slot of a destination, or the one next to it if that alone has no path of another destination at `now`, in milliseconds.
+    /// Returns the first slot of a destination that has no path of another one at `now`, in milliseconds, or else its first slot.
     fn free_slot(&self, now: u64, destination: Addr) -> usize {
-        let slot = self.slot_of(destination.to_bits());
-        if self.has_another(slot, now, destination)
-            && !self.has_another(slot ^ 1, now, destination)
-        {
-            return slot ^ 1;
+        let first = self.slot_of(destination.to_bits());
+        for way in 0..WAYS {
+            if !self.has_another(first ^ way, now, destination) {
+                return first ^ way;
+            }
         }
-        slot
+        first
     }
 
     /// Returns true if there is no such slot, or if `now`, in milliseconds, is within the lease of another destination that it has.
@@ -162,7 +211,7 @@ impl Paths {
         }
     }
 
-    /// Returns the slot of a destination, by its number. The upper bits of the product depend on all bits of the address, so that near ones, and those with one
+    /// Returns the first slot of a destination, by its number. The upper bits of the product depend on all bits of the address, so that near ones, and those with one
     /// identifier behind several prefixes, have different slots.
     fn slot_of(&self, destination: u128) -> usize {
         let product = destination.wrapping_mul(GOLDEN);

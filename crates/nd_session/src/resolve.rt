@@ -1,6 +1,6 @@
 //! Where packets go of a caller that keeps them (RFC 4861, sections 5.2, 7.2.2 and 7.3.3). The definitions are in `specs/Resolve.antt`.
 
-ghost use Rattle.std.specs.Prelude.{◌≡◌, ◌<◌, ◌≤◌, ◌-◌, ◌⊎◌, true, IfSome, MatchBool, MatchResult, Some};
+ghost use Rattle.std.specs.Prelude.{◌≡◌, ◌+◌, ◌<◌, ◌≤◌, ◌-◌, ◌⊎◌, true, IfSome, MatchBool, MatchResult, None, Some};
 ghost use Rattle.nd_addr.specs.Number.{number_of};
 ghost use Rattle.nd_table.specs.Moment.{IsMoment};
 ghost use Rattle.nd_neighbour.specs.declared.shown.Reachability.TheVariants.{Delay};
@@ -9,7 +9,7 @@ ghost use Rattle.nd_chronicle.specs.Start.{Start};
 ghost use Rattle.nd_node.specs.Node.{last_of};
 ghost use Rattle.nd_node.specs.NodeKept.{Stands, next_of};
 ghost use Rattle.nd_node.specs.Path.{path_in};
-ghost use Rattle.nd_node.specs.PathKept.{path_kept, towards};
+ghost use Rattle.nd_node.specs.PathKept.{left_kept, path_kept, towards};
 ghost use Rattle.nd_node.specs.Time.{Onward};
 ghost use Rattle.nd_random.specs.Source.{stream_of_source};
 ghost use Rattle.nd_session.specs.Event.{LedBy};
@@ -23,7 +23,7 @@ use crate::session::Session;
 use nd_addr::{Addr, Mac};
 use nd_neighbour::Reachability;
 use nd_nexthop::Hop;
-use nd_node::{Path, Resolution};
+use nd_node::{Path, Resolution, TimedPath};
 use nd_out::{Refusal, Way};
 use std::alloc::AllocError;
 
@@ -77,6 +77,17 @@ fn is_delayed(state: Option<Reachability>) -> bool
     }
 }
 
+/// Returns the moment at which a time is over of which this is left at `now`, all in milliseconds: 0 if none is. Returns `None` if no number says it.
+fn end_of(now: u64, left: Option<u64>) -> Option<u64>
+    ensures none { left ≡ None → result ≡ Some 0 }
+    ensures some { IfSome left (λ time. IfSome result (λ end. end ≡ now + time)) }
+{
+    match left {
+        Some(left) => now.checked_add(left),
+        None => Some(0),
+    }
+}
+
 impl Session {
     /// Returns true if the neighbour `to`, to which packets to a destination go at `now`, in milliseconds, is in the same state up to the end of the lease of
     /// the path. DELAY ends by itself.
@@ -96,15 +107,20 @@ impl Session {
     }
 
     /// Remembers the path of a destination at `now`, in milliseconds, up to which nothing is due, if it has a lease.
-    fn remember(&mut self, now: u64, destination: Addr, path: Path)
+    fn remember(&mut self, now: u64, destination: Addr, timed: TimedPath)
         requires settled { now < next_of self.old.node }
-        requires path { path_in path ≡ path_kept self.old.node now destination }
+        requires path { path_in timed.path ≡ path_kept self.old.node now destination }
+        requires left { timed.reachable_left ≡ left_kept self.old.node now destination }
         ensures node { self.new.node ≡ self.old.node }
         ensures queue { self.new.queue ≡ self.old.queue }
         ensures room { self.new.room ≡ self.old.room }
-        ensures version { self.new.paths.version ≡ self.old.paths.version }
+        ensures version { self.new.paths.leases ≡ self.old.paths.leases }
     {
+        let path = timed.path;
         let Some((to, mac)) = leased_to(now, destination, path) else {
+            return;
+        };
+        let Some(reachable_until) = end_of(now, timed.reachable_left) else {
             return;
         };
         if self.is_steady(now, destination, to, path) {
@@ -113,6 +129,7 @@ impl Session {
                 to,
                 mac,
                 state: path.state,
+                reachable_until,
                 from: now,
                 until: path.until,
                 version: 0,
@@ -128,7 +145,7 @@ impl Session {
         ensures node { self.new.node ≡ self.old.node }
         ensures queue { self.new.queue ≡ self.old.queue }
         ensures room { self.new.room ≡ self.old.room }
-        ensures version { self.new.paths.version ≡ self.old.paths.version }
+        ensures version { self.new.paths.leases ≡ self.old.paths.leases }
     {
         match resolution {
             Resolution::Refused(refusal) => PathAnswer::Refused(refusal),
@@ -140,12 +157,12 @@ impl Session {
                         until: now,
                     };
                 }
-                let path = self.node.path(now, destination);
-                self.remember(now, destination, path);
+                let timed = self.node.timed_path(now, destination);
+                self.remember(now, destination, timed);
                 PathAnswer::Path {
                     way,
-                    state: path.state,
-                    until: path.until,
+                    state: timed.path.state,
+                    until: timed.path.until,
                 }
             }
         }
@@ -158,7 +175,7 @@ impl Session {
         ensures answered { AnsweredAtOnce now destination result self.old self.new }
         ensures clock { self.new.node ≡ record self.old.node { last = now } }
         ensures room { self.new.room ≡ self.old.room }
-        ensures version { self.new.paths.version ≡ self.old.paths.version }
+        ensures version { self.new.paths.leases ≡ self.old.paths.leases }
     {
         match self.node.answer_leased(now, destination, path.to, path.mac) {
             Resolution::Refused(refusal) => PathAnswer::Refused(refusal),
@@ -180,8 +197,8 @@ impl Session {
         ensures leases { KeepsLeases self.old self.new }
     {
         self.settle(now)?;
-        let path = self.node.path(now, destination);
-        self.remember(now, destination, path);
+        let timed = self.node.timed_path(now, destination);
+        self.remember(now, destination, timed);
         if let Some(path) = self.paths.recall(now, destination) {
             return Ok(self.answer_within(now, destination, path));
         }

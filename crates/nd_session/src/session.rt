@@ -18,6 +18,7 @@ ghost use Rattle.nd_steps.specs.Outputs.{frame_sent};
 ghost use Rattle.nd_random.specs.Source.{stream_of_source};
 ghost use Rattle.nd_session.specs.Paths.{AreRemembered};
 ghost use Rattle.nd_session.specs.Reception.{answer_in, changes_tables};
+ghost use Rattle.nd_session.specs.Settling.{done, leaves_paths};
 ghost use Rattle.std.proofs.Props.{props};
 
 use crate::paths::Paths;
@@ -89,11 +90,12 @@ impl Session {
     }
 
     /// Returns the version of all leases: each lease that was given at this version, and at this version alone, holds up to its end. It grows with each call
-    /// that may change more of the node than the moment up to which time has passed. At 2^64 - 1 it stays, and no lease holds.
+    /// after which one may not, and leaves it as it is where time alone has passed, and where a confirmation makes no lease shorter. At 2^64 - 1 it stays, and
+    /// no lease holds.
     pub fn version(&self) -> u64
-        ensures { result ≡ self.now.paths.version }
+        ensures { result ≡ self.now.paths.leases }
     {
-        self.paths.version()
+        self.paths.leases()
     }
 
     /// Returns the answer to an event at `now`, in milliseconds, if that is earlier than the moment up to which time has passed.
@@ -122,9 +124,16 @@ impl Session {
             return Ok(past);
         }
         self.settle(now)?;
-        if let Event::Passes = event {
-            self.node.pass(now);
-            return Ok(Answer::Done);
+        match event {
+            Event::Passes => {
+                self.node.pass(now);
+                return Ok(Answer::Done);
+            }
+            Event::Confirms(neighbour) => {
+                self.confirm(now, *neighbour);
+                return Ok(Answer::Done);
+            }
+            _ => {}
         }
         self.paths.forget();
         self.node.add(now, event, &mut self.queue.back)
@@ -161,16 +170,18 @@ impl Session {
         ensures ready { IsReady self.old → IsReady self.new }
         ensures leases { KeepsLeases self.old self.new }
     {
-        self.paths.forget();
         if !self.queue.is_empty() {
             let outs = &mut self.queue.back;
-            return self.node.settle_in(now, &mut self.room, outs);
+            let settled_behind = self.node.settle_in(now, &mut self.room, outs);
+            self.paths.forget_unless(leaves_paths(&settled_behind));
+            return done(settled_behind);
         }
         self.queue.due.clear();
         let outs = &mut self.queue.due;
         let settled = self.node.settle_in(now, &mut self.room, outs);
         self.queue.due.reverse();
-        settled
+        self.paths.forget_unless(leaves_paths(&settled));
+        done(settled)
     }
 
     /// Receives a frame, from its Ethernet destination on (RFC 2464, section 3), at `now`, in milliseconds. The caller keeps the frame, which is
@@ -307,6 +318,26 @@ impl Session {
         };
         self.room = Some(room);
         true
+    }
+}
+
+/// Returns true if what was due has been done, and has left the paths.
+fn leaves_paths(settled: &Result<bool, AllocError>) -> bool
+    ensures { result ≡ leaves_paths settled.now }
+{
+    match settled {
+        Ok(leaves) => *leaves,
+        Err(_) => false,
+    }
+}
+
+/// Returns whether what was due has been done.
+fn done(settled: Result<bool, AllocError>) -> Result<(), AllocError>
+    ensures { result ≡ done settled }
+{
+    match settled {
+        Ok(_) => Ok(()),
+        Err(error) => Err(error),
     }
 }
 

@@ -149,7 +149,7 @@ lesser_before m None b h k = k
 lesser_before m (Some x) None h k = h
 lesser_before m (Some x) (Some y) h k = grind (arith, nat_tests, h, k)
 
-open_before : (now : ℕ) (prefixes : List (Lasting PrefixValue)) → is_before now (least_end (open_at now prefixes)) ≡ true
+pub open_before : (now : ℕ) (prefixes : List (Lasting PrefixValue)) → is_before now (least_end (open_at now prefixes)) ≡ true
 open_before now [] = refl
 open_before now (e ∷ es) = by (open_before now es) (is_before now e.end) refl
   where

@@ -14,6 +14,7 @@ ghost use Rattle.nd_addr.specs.declared.addr.Addr.{Addr};
 ghost use Rattle.nd_table.specs.Moment.{IsMoment};
 ghost use Rattle.nd_steps.specs.Outputs.{at_moment, happenings};
 ghost use Rattle.nd_nexthop.specs.Memo.{forgotten};
+ghost use Rattle.nd_neighbour.specs.DueKept.{stays};
 ghost use Rattle.nd_neighbour.specs.View.{falls_of};
 ghost use Rattle.nd_chronicle.specs.Happening.{LeftRouter};
 ghost use Rattle.nd_routers.specs.RoutersKept as list;
@@ -140,6 +141,9 @@ pub fn note_failure<A: Allocator + Clone>(
     ensures entries { routers.new.entries ≡ routers.old.entries }
     ensures limit { routers.new.limit ≡ routers.old.limit }
     ensures limits { KeepsRoom choice.old choice.new }
+
+    // A solicitation changes nothing.
+    ensures same { stays (falls_of due.now) ≡ true → (routers.new ≡ routers.old) × (choice.new ≡ choice.old) }
 {
     match due {
         Due::Failed(addr, _) => {

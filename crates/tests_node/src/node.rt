@@ -1,4 +1,5 @@
 ghost use Rattle.std.specs.Prelude.{◌<◌, ◌^◌};
+ghost use Rattle.nd_table.specs.Moment.{IsMoment};
 ghost use Rattle.nd_node.specs.Event.{AreEarly};
 
 use nd_addr::{Addr, Mac, Role};
@@ -87,6 +88,21 @@ const ADVERTISEMENT: [u8; 110] = [
     0x0d, 0xb8, 0x00, 0x01, 0x00, 0x00, 0x00, 0x00, 0x00, 0x00, 0x00, 0x00, 0x00, 0x00,
 ];
 
+/// A host on that prefix, and its solicitation for this one, with its link-layer address 02:00:00:00:00:06.
+const NEAR: Addr = Addr([0x20, 1, 0x0d, 0xb8, 0, 1, 0, 0, 0, 0, 0, 0, 0, 0, 0, 6]);
+
+const SOLICITATION: [u8; 86] = [
+    0x34, 0x56, 0x78, 0x9a, 0xbc, 0xde, 0x02, 0x00, 0x00, 0x00, 0x00, 0x06, 0x86, 0xdd, 0x60, 0x00,
+    0x00, 0x00, 0x00, 0x20, 0x3a, 0xff, 0x20, 0x01, 0x0d, 0xb8, 0x00, 0x01, 0x00, 0x00, 0x00, 0x00,
+    0x00, 0x00, 0x00, 0x00, 0x00, 0x06, 0xfe, 0x80, 0x00, 0x00, 0x00, 0x00, 0x00, 0x00, 0x36, 0x56,
+    0x78, 0xff, 0xfe, 0x9a, 0xbc, 0xde, 0x87, 0x00, 0x75, 0x3d, 0x00, 0x00, 0x00, 0x00, 0xfe, 0x80,
+    0x00, 0x00, 0x00, 0x00, 0x00, 0x00, 0x36, 0x56, 0x78, 0xff, 0xfe, 0x9a, 0xbc, 0xde, 0x01, 0x01,
+    0x02, 0x00, 0x00, 0x00, 0x00, 0x06,
+];
+
+/// An address that no prefix has.
+const FAR: Addr = Addr([0x20, 1, 0x0d, 0xb8, 0, 2, 0, 0, 0, 0, 0, 0, 0, 0, 0, 1]);
+
 /// The path at a moment up to which nothing is due.
 fn path(rt: &impl Abort, node: &Node<Pcg32, Global>, now: u64, destination: Addr) -> Path {
     if !node.settled(now) {
@@ -145,4 +161,67 @@ fn a_lease_ends_with_the_first_of_its_ends(rt: HostRuntime) {
         until: 4600,
     };
     assert!(rt; path(&rt, &node, 3700, Addr::ALL_NODES) == to_all);
+}
+
+/// Takes an event that is answered with `Done`; all that is due up to it is done first.
+fn takes(
+    rt: &(impl Abort + AllocGlobal),
+    node: &mut Node<Pcg32, Global>,
+    now: u64,
+    event: &Event<Global>,
+)
+    requires { IsMoment now }
+{
+    let mut outs = Vec::new(rt.alloc());
+    let answer = node.event(now, event, &mut outs).expect(rt, "memory");
+    assert!(rt; answer == Answer::Done);
+}
+
+/// A host that has heard the router at 2,000.
+fn informed(rt: &(impl Abort + AllocGlobal)) -> Node<Pcg32, Global> {
+    let mut node = host(rt);
+    takes(rt, &mut node, 2000, &received(rt, &ADVERTISEMENT));
+    node
+}
+
+/// At the end of a prefix its destinations go to the router (RFC 4861, sections 5.2 and 6.3.4).
+#[test]
+fn the_next_hop_is_another_one_where_a_prefix_ends(rt: HostRuntime) {
+    let mut node = informed(&rt);
+    takes(&rt, &mut node, 2100, &received(&rt, &SOLICITATION));
+    let lease = path(&rt, &node, 2200, NEAR);
+    assert!(rt; lease.mac == Some(Mac([2, 0, 0, 0, 0, 6])));
+    assert!(rt; lease.until == 3000);
+    assert!(rt; path(&rt, &node, 2999, NEAR) == lease);
+    assert!(rt; path(&rt, &node, 3000, NEAR).hop == Hop::Via(ROUTER));
+}
+
+/// At the end of REACHABLE a packet is the first use of a STALE neighbour (section 7.3.3).
+#[test]
+fn the_neighbour_is_stale_where_reachable_ends(rt: HostRuntime) {
+    let mut node = informed(&rt);
+    takes(&rt, &mut node, 2200, &Event::Confirms(ROUTER));
+    let lease = path(&rt, &node, 3000, FAR);
+    assert!(rt; lease.state == Some(Reachability::Reachable));
+    assert!(rt; lease.until == 2200 + node.parameters().reachable_time());
+    assert!(rt; path(&rt, &node, lease.until - 1, FAR) == lease);
+    let stale = Path {
+        state: Some(Reachability::Stale),
+        ..lease
+    };
+    assert!(rt; path(&rt, &node, lease.until, FAR) == stale);
+}
+
+/// At the next due date a neighbour that doesn't answer is gone (section 7.3.3): the first probe is sent 5 s after the use, and two more a RetransTimer apart.
+#[test]
+fn the_neighbour_is_gone_where_something_is_due(rt: HostRuntime) {
+    let mut node = informed(&rt);
+    takes(&rt, &mut node, 3000, &Event::Resolves(ROUTER));
+    takes(&rt, &mut node, 10_500, &Event::Passes);
+    let lease = path(&rt, &node, 10_500, FAR);
+    assert!(rt; lease.state == Some(Reachability::Probe));
+    assert!(rt; lease.until == 11_000);
+    assert!(rt; path(&rt, &node, 10_999, FAR) == lease);
+    takes(&rt, &mut node, 11_000, &Event::Passes);
+    assert!(rt; path(&rt, &node, 11_000, FAR).mac == None);
 }

@@ -13,6 +13,7 @@ use Rattle.nd_chronicle.specs.Histories.{router_history, address_history, neighb
 use Rattle.nd_steps.specs.RouterTables.{NotesAddress}
 use Rattle.nd_steps.specs.SolicitRouters.{after_address}
 use Rattle.nd_steps.proofs.RouterSide.{advertisement_date}
+use Rattle.nd_node.proofs.Leaving.{neighbours_leave}
 use Rattle.nd_node.proofs.Recalling.{forgot_redirects, room_kept}
 use Rattle.nd_node.proofs.Turns.{address_fell, neighbour_fell, redraw_is_due, redrawn, router_advertised, router_ended, routers_solicited, solicitation_date}
 use Rattle.nd_node.proofs.node.Node.do_first_due.Goals as goal
@@ -78,3 +79,8 @@ returns-clause-stands g c = λ start c' s.
     c.in_default.ensures.same refl c.in_default-turn.ensures.same c.in_default-turn-2.ensures.same (c.if-turn.ensures.same refl) (c.if-turn-2.ensures.same refl)
     (subst (λ (words : Stream). parameters.GainsRows c.args.self.now.params c.redraw_reachable_time.new.params (λ history. Drew c.args.now (reachable_drawn c.args.self.now.params.base_reachable_time words) ∷ history)) left c.redraw_reachable_time.ensures.stands)
     c.redraw_reachable_time.ensures.drawn_at (c.redraw_reachable_time.ensures.left ∙ ap (λ (words : Stream). (next_u32 words).1) left)
+
+pub returns-in-Some-turn-2-clause-leaves : goal.returns-in-Some-turn-2-clause-leaves
+returns-in-Some-turn-2-clause-leaves g c = λ stays.
+    let same = c.note_failure.ensures.same stays in
+    rw (same.0, same.1, c.in_default.ensures.same, c.in_default-turn.ensures.same) (neighbours_leave c.args.self.now _ c.args.self.now.last (c.in-Some-turn-2.ensures.leaves stays))

@@ -1,10 +1,7 @@
-use Rattle.std.proofs.Common.{Bool, None, Some, arith, subst}
-use Rattle.std.specs.Prelude.{if◌then◌else◌}
-use Rattle.nd_addr.specs.Number.{number_of}
-use Rattle.nd_node.specs.ReachabilityConfirmation.{IsConfirmed}
-use Rattle.nd_session.proofs.Confirming.{confirms_then, ready_then}
+use Rattle.std.proofs.Common.{◌∙◌, None, Some, arith, sym}
+use Rattle.nd_session.proofs.Confirming.{confirmed_where, confirms_then, ready_then}
 use Rattle.nd_session.proofs.Idling.{passing_adds, time_passes}
-use Rattle.nd_session.proofs.Remembered.{recalled_settled}
+use Rattle.nd_session.proofs.Remembered.{recalled_in_lease, recalled_left, recalled_settled, recalled_state}
 use Rattle.nd_session.proofs.session.Session.confirm_to.Goals as goal
 
 -- ---- in a lease
@@ -18,8 +15,16 @@ pass-requires c = record {
   settled = recalled_settled c.args.self.now.paths c.args.self.now.node c.args.now c.args.destination c.in-Some.path c.args.self.now.remembered c.in-Some.ensures;
 }
 
-pub returns-then-is_confirmed_by-clause-confirms : goal.returns-then-is_confirmed_by-clause-confirms
-returns-then-is_confirmed_by-clause-confirms c =
+pub is_confirmed_in-requires : goal.is_confirmed_in-requires
+is_confirmed_in-requires c =
+    let lease = recalled_in_lease c.args.self.now.paths c.args.self.now.node c.args.now c.args.destination c.in-Some.path c.args.self.now.remembered c.in-Some.ensures in record {
+      in_lease = lease.holds;
+      state_is = recalled_state c.args.self.now.paths c.args.self.now.node c.args.now c.args.destination c.in-Some.path c.args.self.now.remembered c.in-Some.ensures;
+      left_is = recalled_left c.args.self.now.paths c.args.self.now.node c.args.now c.args.destination c.in-Some.path c.args.self.now.remembered c.in-Some.ensures ∙ sym c.left_at-left.ensures;
+    }
+
+pub returns-then-is_confirmed_in-clause-confirms : goal.returns-then-is_confirmed_in-clause-confirms
+returns-then-is_confirmed_in-clause-confirms c =
     let settled = recalled_settled c.args.self.now.paths c.args.self.now.node c.args.now c.args.destination c.in-Some.path c.args.self.now.remembered c.in-Some.ensures in
     rw c.confirm.ensures.taken (record {
       past = λ lt. absurd (omega (arith, lt, c.if-is_past.ensures));
@@ -27,13 +32,12 @@ returns-then-is_confirmed_by-clause-confirms c =
         c.in-Some.path.to,
         confirms_then c.args.self.now c.args.self.now c.confirm.new.self c.args.now (Some c.in-Some.path.to) le (time_passes c.args.self.now.node c.args.self.now.queue c.args.now settled)
             (c.confirm.ensures.adds c.args.self.now.queue) c.confirm.ensures.queue c.args.destination c.args.least
-            (λ start c' s last. subst (λ (b : Bool). IsConfirmed start c' c.args.now c.args.destination c.args.least (if b then Some (number_of c.in-Some.path.to.0) else None)) c.if-is_confirmed_by.true
-            (c.is_confirmed_by.ensures start c' s last)),
+            (λ start c' s last. confirmed_where start c' c.args.now c.args.destination c.args.least _ _ _ _ (recalled_in_lease c.args.self.now.paths c.args.self.now.node c.args.now c.args.destination c.in-Some.path c.args.self.now.remembered c.in-Some.ensures).to_is c.if-is_confirmed_in.true (c.is_confirmed_in.ensures start c' s last)),
       );
     })
 
-pub returns-then-is_confirmed_by-clause-ready : goal.returns-then-is_confirmed_by-clause-ready
-returns-then-is_confirmed_by-clause-ready c = λ start c' s ready.
+pub returns-then-is_confirmed_in-clause-ready : goal.returns-then-is_confirmed_in-clause-ready
+returns-then-is_confirmed_in-clause-ready c = λ start c' s ready.
     let settled = recalled_settled c.args.self.now.paths c.args.self.now.node c.args.now c.args.destination c.in-Some.path c.args.self.now.remembered c.in-Some.ensures in
     ready_then c.args.self.now c.args.self.now c.confirm.new.self c.args.now (Some c.in-Some.path.to) c.if-is_past.ensures (time_passes c.args.self.now.node c.args.self.now.queue c.args.now settled)
     (c.confirm.ensures.adds c.args.self.now.queue) c.confirm.ensures.queue c.confirm.ensures.room start c' s ready
@@ -46,9 +50,14 @@ returns-in-Some-clause-confirms c =
       taken = λ le.
           confirms_then c.args.self.now c.args.self.now c.pass.new.self c.args.now None le (time_passes c.args.self.now.node c.args.self.now.queue c.args.now settled)
           (passing_adds c.args.self.now.node c.pass.new.self.node c.args.self.now.queue c.args.now c.pass.ensures.passes) c.pass.ensures.queue c.args.destination c.args.least
-          (λ start c' s last. subst (λ (b : Bool). IsConfirmed start c' c.args.now c.args.destination c.args.least (if b then Some (number_of c.in-Some.path.to.0) else None)) c.if-is_confirmed_by.false
-          (c.is_confirmed_by.ensures start c' s last));
+          (λ start c' s last. confirmed_where start c' c.args.now c.args.destination c.args.least _ _ _ _ (recalled_in_lease c.args.self.now.paths c.args.self.now.node c.args.now c.args.destination c.in-Some.path c.args.self.now.remembered c.in-Some.ensures).to_is c.if-is_confirmed_in.false (c.is_confirmed_in.ensures start c' s last));
     })
+
+pub returns-in-Some-clause-ready : goal.returns-in-Some-clause-ready
+returns-in-Some-clause-ready c = λ start c' s ready.
+    let settled = recalled_settled c.args.self.now.paths c.args.self.now.node c.args.now c.args.destination c.in-Some.path c.args.self.now.remembered c.in-Some.ensures in
+    ready_then c.args.self.now c.args.self.now c.pass.new.self c.args.now None c.if-is_past.ensures (time_passes c.args.self.now.node c.args.self.now.queue c.args.now settled)
+    (passing_adds c.args.self.now.node c.pass.new.self.node c.args.self.now.queue c.args.now c.pass.ensures.passes) c.pass.ensures.queue c.pass.ensures.room start c' s ready
 
 -- ---- else
 

@@ -1,10 +1,13 @@
-use Rattle.std.proofs.Common.{◌≤◌, ◌++◌, sym, ap, subst, ⊎_elim}
+use Rattle.std.proofs.Common.{◌≤◌, ℕ, List, ◌++◌, Some, refl, sym, ap, subst, ⊎_elim}
+use Rattle.std.specs.Global.{Global}
 use Rattle.std.specs.Prelude.{reverse}
 use Rattle.std.proofs.lemmas.Bool.{cases_lt}
 use Rattle.std.proofs.lemmas.Result.{IfOk-weaker}
+use Rattle.nd_chronicle.specs.Answer as answers
 use Rattle.nd_chronicle.specs.Event as events
+use Rattle.nd_out.specs.declared.out.Out.{Out}
 use Rattle.nd_node.specs.Answer.{answer_of}
-use Rattle.nd_node.specs.Event.{event_of}
+use Rattle.nd_node.specs.Event.{FollowsBy, event_of}
 use Rattle.nd_node.specs.Node.{last_of}
 use Rattle.nd_node.specs.Time.{Leads, Onward, Passes}
 use Rattle.nd_node.proofs.Steps.{follows}
@@ -12,8 +15,10 @@ use Rattle.nd_random.specs.Source.{stream_of_source}
 use Rattle.nd_session.specs.Ready.{IsReady}
 use Rattle.nd_session.specs.declared.session.Session.{Session}
 use Rattle.nd_session.proofs.Behind.{adds_behind, event_taken, on_err}
+use Rattle.nd_session.proofs.Confirming.{ready_then}
 use Rattle.nd_session.proofs.Idling.{passing_adds, time_alone}
 use Rattle.nd_session.proofs.Keeping.{event_ready}
+use Rattle.nd_session.proofs.Lasting.{keeps_alone, one_after_another}
 use Rattle.nd_session.proofs.Remembered.{remembers_later, remembers_nothing}
 use Rattle.nd_session.proofs.session.Session.event.Goals as goal
 
@@ -66,3 +71,29 @@ returns-in-Passes-clause-takes c = rw c.in-Passes.is (record {
 pub returns-in-Passes-clause-ready : goal.returns-in-Passes-clause-ready
 returns-in-Passes-clause-ready c = λ start history s ready.
     rw (time_alone c.settle.new.self.node c.pass.new.self c.args.now c.pass.ensures.moves c.pass.ensures.past) (c.in_ok-settle.ensures.ready ready)
+
+pub returns-in-Passes-clause-leases : goal.returns-in-Passes-clause-leases
+returns-in-Passes-clause-leases c =
+    one_after_another c.args.self.now c.settle.new.self _ c.in_ok-settle.ensures.leases
+    (keeps_alone c.settle.new.self _ c.pass.new.self.last refl (time_alone c.settle.new.self.node c.pass.new.self c.args.now c.pass.ensures.moves c.pass.ensures.past))
+
+-- ---- a neighbour is confirmed
+
+pub returns-in-Confirms-clause-takes : goal.returns-in-Confirms-clause-takes
+returns-in-Confirms-clause-takes c = rw c.in-Confirms.is (record {
+  past = λ lt. absurd (let is = c.past.ensures.past lt in let none = c.in_default.is in let no : ⊥ = cc in no);
+  taken = λ le.
+      subst (λ (q : List (ℕ × Out Global)). Leads stream_of_source c.args.self.now.node c.confirm.new.self.node c.args.self.now.queue q (FollowsBy c.args.now (events.Confirms c.in-Confirms.neighbour) answers.Done)) (sym c.confirm.ensures.queue)
+      (follows stream_of_source c.args.self.now.node c.settle.new.self.node c.confirm.new.self.node c.args.self.now.queue c.settle.new.self.queue c.settle.new.self.queue c.args.now (events.Confirms c.in-Confirms.neighbour) le
+      c.in_ok-settle.ensures.passes (c.confirm.ensures.adds c.settle.new.self.queue));
+})
+
+pub returns-in-Confirms-clause-ready : goal.returns-in-Confirms-clause-ready
+returns-in-Confirms-clause-ready c = λ start history s ready.
+    let le : last_of c.args.self.now.node ≤ c.args.now =
+    ⊎_elim (λ lt. absurd (let is = c.past.ensures.past lt in let none = c.in_default.is in let no : ⊥ = cc in no)) (λ le. le) (cases_lt c.args.now (last_of c.args.self.now.node)) in
+    ready_then c.args.self.now c.settle.new.self c.confirm.new.self c.args.now (Some c.in-Confirms.neighbour) le c.in_ok-settle.ensures.passes (c.confirm.ensures.adds c.settle.new.self.queue) c.confirm.ensures.queue
+    c.confirm.ensures.room start history s (c.in_ok-settle.ensures.ready ready)
+
+pub returns-in-Confirms-clause-leases : goal.returns-in-Confirms-clause-leases
+returns-in-Confirms-clause-leases c = one_after_another c.args.self.now c.settle.new.self c.confirm.new.self c.in_ok-settle.ensures.leases c.confirm.ensures.leases

@@ -1,6 +1,6 @@
 use Rattle.std.proofs.Common.{◌≡◌, Contains, ap, arith, subst, sym}
 use Rattle.nd_session.specs.Slots.{Slots}
-use Rattle.nd_session.proofs.paths.Paths.forget.Goals as goal
+use Rattle.nd_session.proofs.paths.Paths.forget_slots.Goals as goal
 
 pub returns-else-self-lt-LAST_VERSION-clause-forgotten : goal.returns-else-self-lt-LAST_VERSION-clause-forgotten
 returns-else-self-lt-LAST_VERSION-clause-forgotten c = λ path there is.
