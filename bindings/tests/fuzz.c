@@ -3,7 +3,7 @@
  *   Required: a status is one that nd.h allows for the call; an error changes nothing, nor does ND_REFUSED or ND_NO_MEMORY where nothing was due before;
  * ND_NO_MEMORY is returned only where a request was refused; no table passes its limit; rows are in order, none is there twice, and indices end; records are in the order of their moments,
  * none after nd_last_moment; frames that are sent are read by nd_hear; nd_next_due is not before nd_last_moment; and the version of leases grows with
- * each event, and with what is due. */
+ * each event but a confirmation, and never falls. */
 #include <time.h>
 #include "heap.h"
 #include "fuzz.h"
@@ -220,13 +220,15 @@ static void call_wrongly(enum call call, uint64_t at, int32_t error)
 static int32_t call_well(enum call call, uint64_t at)
 {
     uint64_t before = nd_lease_version(&node);
-    bool is_due = nd_next_due(&node) <= at, is_event = call != TURN && call != NEXT_HOP && call != RESOLVE && call != OPEN;
+    bool is_due = nd_next_due(&node) <= at, is_sign = call == CONFIRM || call == CONFIRM_TO;
+    bool is_event = call != TURN && call != NEXT_HOP && call != RESOLVE && call != OPEN && !is_sign;
+    uint64_t shown = call == CONFIRM_TO && !is_due ? rows_at(&node, at) : 0;
     int32_t status = call_twice(call, at, 0);
     bool grows = nd_lease_version(&node) > before;
     require(nd_lease_version(&node) >= before, "the version of leases never falls");
     require(grows || status != ND_DONE || !is_event || call == RECEIVE, "an event raises the version of leases");
-    require(call != CONFIRM_TO || status != ND_NOTHING || grows == is_due, "a sign without effect keeps it");
-    require((call != TURN && call != NEXT_HOP) || grows == is_due, "nd_turn and nd_next_hop raise it where something is due, and else keep it");
+    require(call != CONFIRM_TO || status != ND_NOTHING || is_due || (!grows && rows_at(&node, at) == shown), "a sign without effect keeps it, and changes no table");
+    require((call != TURN && call != NEXT_HOP) || !grows || is_due, "nd_turn and nd_next_hop keep it where nothing is due");
     return status;
 }
 

@@ -3,11 +3,11 @@
  *   Two nodes get the same frames, calls and moments. In a run of questions both are asked where packets go, and the second one is made to forget its
  * answers before each, by nd_confirm of an address that no neighbour has. In a run of packets the first one is asked for each, the second one only if
  * no lease of its own holds: else its time passes, or it gets no call. After each step both have returned and reported the same, and show the same;
- * and so they do later. A path that is asked for in its lease is as it was. A tenth of the steps, or more, is in a lease. In every second run memory
- * is refused to the first node now and then, and its call is made again; a question in a lease needs none.
- *   The version of leases grows with each event, and with nd_turn and nd_next_hop where something is due. It stays with all else that changes no more
- * than the moment, and never falls. nd_confirm_to does what nd_next_hop, nd_neighbour_of, nd_parameters_of and nd_confirm do. The lines are the counts of
- * each run. */
+ * and so they do later. A path that is asked for in its lease goes the same way, and ends no earlier. A tenth of the steps, or more, is in a lease. In
+ * every second run memory is refused to the first node now and then, and its call is made again; a question in a lease needs none.
+ *   The version of leases grows with each event but a confirmation. Where nothing is due it stays with nd_turn and nd_next_hop, with all else that changes
+ * no more than the moment, and with a confirmation, unless that makes a lease shorter; some calls that do what is due leave it too. It never falls.
+ * nd_confirm_to does what nd_next_hop, nd_neighbour_of, nd_parameters_of and nd_confirm do. The lines are the counts of each run. */
 #include "heap.h"
 #include "busy.h"
 #include "words.h"
@@ -43,8 +43,9 @@ static size_t again;
 /* Of the questions or packets of a run: the statuses, and how many were in a lease, and how many of those after one for another destination. */
 static size_t statuses[STATUSES], in_lease, in_others;
 
-/* Of the signs that packets arrive: how many had no effect, and how many confirmed a neighbour. */
-static size_t signs, confirmations;
+/* Of the signs that packets arrive: how many had no effect, and how many confirmed a neighbour. Of all confirmations: how many kept the version. How
+ * many other calls, of all runs, kept it that did what was due. */
+static size_t signs, confirmations, kept, kept_when_due;
 
 /* ---- destinations ---------------------------------------------------------------------------- */
 
@@ -180,18 +181,34 @@ static bool is_message(const struct frame *frame)
     return heard.hearing == ND_HEARING_VALID || (heard.hearing == ND_HEARING_OTHER && role == ND_ROLE_ROUTER);
 }
 
+/* Returns true if a confirmation of a neighbour makes no lease shorter. One in DELAY or PROBE has a lease of at most DELAY_FIRST_PROBE_TIME. */
+static bool leaves_leases(nd_node *node, const nd_addr *address)
+{
+    nd_neighbour_row row;
+    nd_parameters_row parameters;
+    if (nd_neighbour_of(node, now, address, &row) != ND_DONE || row.has_mac == 0 || row.state == ND_REACHABILITY_STALE)
+        return true;
+    require(nd_parameters_of(node, now, &parameters) == ND_DONE, "nd_parameters_of");
+    return parameters.reachable_time >= (row.state == ND_REACHABILITY_REACHABLE ? row.reachable_left : 5000);
+}
+
 /* Makes a call, and requires that the version is what nd.h says of it. Returns the status. */
 static int32_t with_version(nd_node *node, const struct act *act)
 {
     uint64_t before = nd_lease_version(node), due = nd_next_due(node), after;
     size_t made = again;
+    bool leaves = act->call != CONFIRM || due <= now || leaves_leases(node, &act->address);
     int32_t status;
     RETRIED(status, node, done(node, act));
     bool is_refused = again > made;
     after = nd_lease_version(node);
     require(after >= before, "the version never falls");
     if (act->call == TURN || act->call == NEXT_HOP || (act->call == CONFIRM_TO && status == ND_NOTHING))
-        require((after > before) == (due <= now), "nd_turn, nd_next_hop and a sign without effect raise the version where something is due, and else keep it");
+        require(after == before || due <= now, "nd_turn, nd_next_hop and a sign without effect keep the version where nothing is due"),
+            kept_when_due += due <= now && after == before;
+    else if (act->call == CONFIRM || act->call == CONFIRM_TO)
+        require(after == before || due <= now || !leaves || is_refused, "a confirmation keeps the version where nothing is due and no lease is shorter"),
+            kept += after == before;
     else if (act->call == RECEIVE && !is_message(act->frame))
         require(due <= now || after == before || is_refused, "a frame that is dropped, and a packet for the node, keep the version");
     else
@@ -235,6 +252,13 @@ static bool are_same(nd_path path, nd_path another)
     return memcmp(&path, &another, sizeof path) == 0;
 }
 
+/* Returns true if packets go by the path as they do in the lease, to a neighbour that isn't STALE, and for as long. */
+static bool is_kept(const nd_path *lease, const nd_path *path)
+{
+    return path->hop == lease->hop && memcmp(&path->next_hop, &lease->next_hop, sizeof lease->next_hop) == 0 &&
+           memcmp(&path->mac, &lease->mac, sizeof lease->mac) == 0 && path->state != ND_REACHABILITY_STALE && path->until >= lease->until;
+}
+
 static bool holds(const nd_path *lease, nd_node *node)
 {
     return now < lease->until && lease->version == nd_lease_version(node);
@@ -269,7 +293,7 @@ static void ask_both(size_t to)
     heap_is_spent = is_in_lease;
     status = path_of(&one, to, &answers[to]);
     heap_is_spent = false;
-    require(!is_in_lease || (status == ND_DONE && memcmp(&answers[to], &before, sizeof before) == 0), "a path in its lease is as it was");
+    require(!is_in_lease || (status == ND_DONE && is_kept(&before, &answers[to])), "a path in its lease goes as it did");
     require(!is_in_lease || to != last_question || heap_requests == requests, "a question that is asked again in its lease requests no memory");
     require(nd_confirm(&other, now, &NO_NEIGHBOUR) == ND_DONE, "no neighbour is confirmed");
     require(path_of(&other, to, &path) == status && are_same(path, answers[to]), "a path is that of a node that remembers none");
@@ -284,7 +308,7 @@ static void send_both(size_t to)
     int32_t status = path_of(&one, to, &path);
     if (is_in_lease) {
         require(nd_next_due(&other) > now && (once_in(2) || nd_turn(&other, now) == ND_DONE), "nothing is due in a lease");
-        require(status == ND_DONE && are_same(path, answers[to]), "a lease has the path of a question");
+        require(status == ND_DONE && is_kept(&answers[to], &path), "packets go in a lease as by a question");
     } else
         require(path_of(&other, to, &answers[to]) == status && are_same(path, answers[to]), "both nodes answer the same");
     count(status, is_in_lease, to);
@@ -326,7 +350,7 @@ static void run(const char *what, const struct setting *setting, size_t steps, v
     open_node(&other, setting);
     now = OPENED_AT;
     asked = setting->asked;
-    in_lease = in_others = signs = confirmations = again = last_destination = 0;
+    in_lease = in_others = signs = confirmations = kept = again = last_destination = 0;
     last_question = SIZE_MAX;
     memset(answers, 0, sizeof answers);
     memset(statuses, 0, sizeof statuses);
@@ -343,10 +367,10 @@ static void run(const char *what, const struct setting *setting, size_t steps, v
     nd_close(&one);
     nd_close(&other);
     printf("  %s, %u of %zu destinations remembered: in a lease %zu, %zu of them after another destination; done %zu, waiting %zu, nothing %zu, "
-           "refused %zu; confirmed %zu, not %zu; made again %zu\n", what, setting->destinations, asked, in_lease, in_others, statuses[ND_DONE], statuses[ND_WAITING],
-           statuses[ND_NOTHING], statuses[ND_REFUSED], confirmations, signs, again);
+           "refused %zu; confirmed %zu, not %zu, leases kept %zu; made again %zu\n", what, setting->destinations, asked, in_lease, in_others, statuses[ND_DONE], statuses[ND_WAITING],
+           statuses[ND_NOTHING], statuses[ND_REFUSED], confirmations, signs, kept, again);
     require(in_lease >= steps / 10 && in_others >= steps / 100, "many questions or packets are in a lease, many of them after another destination");
-    require(signs > 0 && confirmations > 0, "some signs confirm a neighbour, some don't");
+    require(signs > 0 && confirmations > 0 && kept > 0, "some signs confirm a neighbour, some don't, and some confirmations keep leases");
     require(!is_scarce || again > 0, "memory is refused");
 }
 
@@ -419,6 +443,9 @@ static void keep_version(const nd_path *lease)
     KEEPS(nd_next_hop(&one, last + 2, &destinations[0], &hop), ND_DONE);
     KEEPS(nd_confirm_to(&one, last + 2, &destinations[0], 3), ND_NOTHING);
     KEEPS(nd_confirm_to(&one, last + 2, &NO_NEIGHBOUR, 0), ND_NOTHING);
+    KEEPS(nd_confirm(&one, last + 2, &NO_NEIGHBOUR), ND_DONE);
+    KEEPS(nd_confirm_to(&one, last + 2, &destinations[0], 1), ND_DONE);
+    KEEPS(nd_confirm(&one, last + 2, &destinations[0]), ND_DONE);
     KEEPS(nd_receive(&one, last + 2, (const uint8_t[]){0}, 1), ND_DONE);
     KEEPS(nd_receive(&one, last + 2, packet, length), ND_DONE);
     KEEPS(nd_poll(&one, &out, buffer, sizeof buffer) == ND_DONE && out.kind == ND_OUT_DROPPED, true);
@@ -431,7 +458,7 @@ static void keep_version(const nd_path *lease)
     KEEPS(nd_advertise(&one, later, &(nd_advertising){0}), ND_INVALID);
     KEEPS(nd_offer(&one, later, &(nd_offer_row){.bits = 129}), ND_INVALID);
     KEEPS(nd_route(&one, later, &(nd_route_row){.bits = 129}), ND_INVALID);
-    KEEPS(nd_resolve(&one, later, &destinations[0], &path) == ND_DONE && memcmp(&path, lease, sizeof path) == 0, true);
+    KEEPS(nd_resolve(&one, later, &destinations[0], &path) == ND_DONE && is_kept(lease, &path), true);
 }
 
 /* Requires what nd.h says of the version, call by call, at a node to which the first frame makes the first destination known. */
@@ -444,15 +471,14 @@ static void try_versions(void)
     open_node(&one, &SETTINGS[0]);
     now = OPENED_AT;
     RAISES(nd_receive(&one, now, frame->bytes, frame->length), ND_DONE);
-    RAISES(nd_confirm(&one, now, &destinations[0]), ND_DONE);
+    KEEPS(nd_confirm(&one, now, &destinations[0]), ND_DONE);
     require(path_of(&one, 0, &path) == ND_DONE && path.until > now + 4, "a neighbour that is confirmed has a lease");
     keep_version(&path);
     version = path.version;
     now = nd_next_due(&one);
     RAISES(nd_turn(&one, now), ND_DONE);
     RAISES(nd_send(&one, now, &LINK_LOCAL, &destinations[0], 17, PAYLOAD, sizeof PAYLOAD), ND_DONE);
-    RAISES(nd_confirm(&one, now, &NO_NEIGHBOUR), ND_DONE);
-    RAISES(nd_confirm_to(&one, now, &destinations[0], 1), ND_DONE);
+    KEEPS(nd_confirm_to(&one, now, &destinations[0], 1), ND_DONE);
     RAISES(nd_forget(&one, now, &destinations[0]), ND_DONE);
     RAISES(nd_resolve(&one, now, &destinations[0], &path), ND_WAITING);
     nd_close(&one);
@@ -479,6 +505,7 @@ int main(int argc, char **argv)
             run("packets", &SETTINGS[i], steps, send_both);
         }
     }
+    require(kept_when_due > 0, "some calls that do what is due keep the version");
     require(heap_blocks == 0 && heap_now == 0, "all memory is given back");
     free_frames(frames, frame_count);
     return 0;

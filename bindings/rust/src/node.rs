@@ -70,9 +70,9 @@ impl Node {
         unsafe { raw::nd_next_due(self.slot.get()) }
     }
 
-    /// Returns the version of all leases: a lease holds while this is the version of its path. It grows with each call that may change more than the
-    /// moment: not with `poll`, a question, `resolve` in a lease, `confirm_to` that confirms nothing, or `receive` of a frame that is dropped or whose packet is
-    /// for the node.
+    /// Returns the version of all leases: a lease holds while this is the version of its path. It grows with each call after which a lease may hold no
+    /// longer: not with `poll`, a question, `resolve` in a lease, `confirm` and `confirm_to`, unless they make one shorter, or `receive` of a frame that is
+    /// dropped or whose packet is for the node.
     pub fn lease_version(&self) -> u64 {
         unsafe { raw::nd_lease_version(self.slot.get()) }
     }

@@ -256,9 +256,11 @@ fn a_lease_has_a_version_that_an_event_ends() {
     assert_eq!(node.receive(2301, &[]), Ok(Outcome::Done));
     assert_eq!(node.lease_version(), lease.version);
     assert_eq!(node.confirm_to(2301, router, 1), Ok(true));
-    assert!(node.lease_version() > lease.version);
+    assert_eq!(node.lease_version(), lease.version);
     let Ok(Resolution::Path(next)) = node.resolve(2301, router) else { panic!("it is known") };
-    assert_eq!(next, Path { version: node.lease_version(), until: lease.until + 1, ..lease });
+    assert_eq!(next, Path { until: lease.until + 1, ..lease });
+    assert_eq!(node.forget(2301, router), Ok(Outcome::Done));
+    assert!(node.lease_version() > lease.version);
 }
 
 #[test]
