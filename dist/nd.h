@@ -458,12 +458,13 @@ typedef struct nd_path { /* a field is 0 where the status does not have it */
  * keeps such answers, one for each of limits.destinations, rounded down to a power of two. */
 int32_t nd_resolve(nd_node *node, uint64_t now, const nd_addr *destination, nd_path *path);
 
-/* Returns the version of all leases. It never falls, and it grows with each call that may change
- * more than the moment: not with nd_poll, a question, nd_resolve in a lease, a call that returns
- * ND_PAST, ND_INVALID or ND_CLOSED; nor, where nothing is due, with nd_turn, nd_next_hop,
- * nd_confirm_to that returns ND_NOTHING, and nd_receive of a frame that is dropped or whose packet
- * is for the node: what it reports is ND_OUT_DROPPED or ND_OUT_UP. 0 if the node is closed. It
- * changes nothing. */
+/* Returns the version of all leases. It never falls, and it grows with each call after which a
+ * lease may hold no longer: not with nd_poll, a question, nd_resolve in a lease, a call that returns
+ * ND_PAST, ND_INVALID or ND_CLOSED; nor, where nothing is due but solicitations for neighbours, with
+ * nd_turn, nd_next_hop, nd_receive of a frame that is dropped or whose packet is for the node (what
+ * it reports is ND_OUT_DROPPED or ND_OUT_UP), and nd_confirm and nd_confirm_to, unless ReachableTime
+ * has become so short that the neighbour is REACHABLE for a shorter time. 0 if the node is closed.
+ * It changes nothing. */
 uint64_t nd_lease_version(nd_node *node);
 
 /* ---- events at a router ---------------------------------------------------------------------- */
