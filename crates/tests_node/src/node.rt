@@ -1,5 +1,4 @@
 ghost use Rattle.std.specs.Prelude.{◌<◌, ◌^◌};
-ghost use Rattle.nd_table.specs.Moment.{IsMoment};
 ghost use Rattle.nd_node.specs.Event.{AreEarly};
 
 use nd_addr::{Addr, Mac, Role};
@@ -170,7 +169,7 @@ fn takes(
     now: u64,
     event: &Event<Global>,
 )
-    requires { IsMoment now }
+    requires { now < 2 ^ 62 }
 {
     let mut outs = Vec::new(rt.alloc());
     let answer = node.event(now, event, &mut outs).expect(rt, "memory");
