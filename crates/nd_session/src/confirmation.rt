@@ -1,7 +1,10 @@
 //! A sign that packets to a destination arrive, which confirms the neighbour that they go to (RFC 4861, section 7.3.1). The definitions are in
 //! `specs/Confirmation.antt`.
 
-ghost use Rattle.std.specs.Prelude.{◌≡◌, ◌<◌, ◌≤◌, ◌∷◌, ℕ, List, IfOk};
+ghost use Rattle.std.specs.Prelude.{◌≡◌, ◌+◌, ◌<◌, ◌≤◌, ◌∷◌, ℕ, List, IfOk, Ok, true};
+ghost use Rattle.nd_addr.specs.Number.{number_of};
+ghost use Rattle.nd_neighbour.specs.LeaseKept.{outlasts};
+ghost use Rattle.nd_neighbour.specs.TableKept.{entry_in};
 ghost use Rattle.std.specs.Global.{Global};
 ghost use Rattle.nd_table.specs.Moment.{IsMoment};
 ghost use Rattle.nd_chronicle.specs.Answer as answers;
@@ -53,6 +56,7 @@ impl Session {
         ensures queue { self.new.queue ≡ self.old.queue }
         ensures room { self.new.room ≡ self.old.room }
         ensures leases { KeepsLeases self.old self.new }
+        ensures stays { outlasts (now + self.old.node.params.reachable_time) (entry_in (number_of neighbour.0) self.old.node.neighbours.entries) ≡ true → self.new.paths.leases ≡ self.old.paths.leases }
     {
         let holds = self.node.confirm(now, neighbour);
         self.paths.forget_unless(holds);
@@ -67,6 +71,7 @@ impl Session {
         ensures queue { self.new.queue ≡ self.old.queue }
         ensures room { self.new.room ≡ self.old.room }
         ensures leases { KeepsLeases self.old self.new }
+        ensures paths { self.new.paths ≡ self.old.paths }
     {
         self.node.pass(now);
         Confirmation::Unneeded
@@ -87,6 +92,9 @@ impl Session {
         ensures confirms { Confirms now destination least result self.old self.new }
         ensures ready { (start : Start) (c : Chronicle) → Stands stream_of_source start self.old.node c → IsReady self.old → IsReady self.new }
         ensures leases { KeepsLeases self.old self.new }
+
+        // Where nothing is due and nothing is confirmed, what is remembered stays, and so does each lease.
+        ensures stays { now < next_of self.old.node → result ≡ Ok Confirmation.Unneeded → self.new.paths ≡ self.old.paths }
     {
         if self.node.is_past(now) {
             return Ok(Confirmation::Past(self.node.last_moment()));

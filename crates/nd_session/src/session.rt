@@ -151,6 +151,7 @@ impl Session {
         ensures advances { IsReady self.old → self.old.queue ≡ [] → OnErr result (LedBy self.old self.new (Advances now)) }
         ensures ready { IsReady self.old → IsReady self.new }
         ensures leases { KeepsLeases self.old self.new }
+        ensures idle { now < next_of self.old.node → self.new ≡ self.old }
     {
         nd_chronicle::laws::idle_time_passes();
         let next = self.node.next_due();

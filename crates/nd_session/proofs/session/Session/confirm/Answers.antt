@@ -1,3 +1,4 @@
+use Rattle.std.proofs.Common.{◌∙◌}
 use Rattle.nd_session.proofs.Lasting.{keeps_unless}
 use Rattle.nd_session.proofs.Remembered.{remembers_nothing}
 use Rattle.nd_session.proofs.session.Session.confirm.Goals as goal
@@ -7,3 +8,6 @@ invariant_of-self c = record { remembered = remembers_nothing c.forget_unless.ne
 
 pub returns-clause-leases : goal.returns-clause-leases
 returns-clause-leases c = keeps_unless c.confirm-holds.result c.args.self.now _ c.forget_unless.ensures.least c.forget_unless.ensures.grows c.confirm-holds.ensures.leaves
+
+pub returns-clause-stays : goal.returns-clause-stays
+returns-clause-stays c = λ outlasted. c.forget_unless.ensures.kept (c.confirm-holds.ensures.value ∙ outlasted)
