@@ -1,6 +1,6 @@
 //! The neighbour cache (RFC 4861, section 5.1): its memory, its limit and look-ups.
 
-ghost use Rattle.std.specs.Prelude.{IfOk, [], List, ◌≡◌, ◌≤◌, ◌+◌, is_some, length};
+ghost use Rattle.std.specs.Prelude.{IfOk, [], List, ◌≡◌, ◌≤◌, ◌+◌, is_some, length, option_copied};
 ghost use Rattle.nd_addr.specs.Number.{number_of};
 ghost use Rattle.nd_packet.specs.Waiting.{max_waiting};
 ghost use Rattle.nd_table.specs.KeyedKept.{binary_digits};
@@ -8,7 +8,7 @@ ghost use Rattle.nd_table.specs.KeyedKept.{binary_digits};
 use crate::entry::Entry;
 use crate::rings::Rings;
 use nd_addr::Addr;
-use nd_table::{Probes, Schedule, find, search};
+use nd_table::{Probes, Schedule, locate_near, search};
 use std::alloc::{AllocError, Allocator};
 use std::marker::Model;
 
@@ -84,17 +84,28 @@ impl<A: Allocator> Cache<A> {
         search(&self.entries, &number, probes).is_ok()
     }
 
-    /// Returns true if a neighbour is present, as `find` does, and keeps its place: if the next call is `used` for it, it needs no search.
+    /// Returns true if a neighbour is present, as `find` does, and keeps its place: if the next call is `get`, `used` or `want` for it, it needs no
+    /// search.
     pub fn seek(&mut self, addr: Addr) -> bool
         ensures value { result ≡ is_some (entry_in (number_of addr.0) self.old.entries) }
         ensures same { self.new ≡ self.old }
     {
-        match find(&self.entries, addr) {
-            Some(i) => {
+        match locate_near(&self.entries, addr, self.near) {
+            Ok(i) => {
                 self.near = i;
                 true
             }
-            None => false,
+            Err(_) => false,
+        }
+    }
+
+    /// Returns the entry of a neighbour, if there is one. It is not copied, so that the caller pays for what it asks alone.
+    pub fn get(&self, addr: Addr) -> Option<&Entry<A>>
+        ensures { option_copied result ≡ entry_in (number_of addr.0) self.now.entries }
+    {
+        match locate_near(&self.entries, addr, self.near) {
+            Ok(i) => Some(&self.entries[i]),
+            Err(_) => None,
         }
     }
 

@@ -17,7 +17,7 @@ pub(crate) const STALE_LIFETIME: u64 = 86_400_000;
 
 /// An entry of the neighbour cache (RFC 4861, section 5.1).
 #[derive(Drop)]
-pub(crate) struct Entry<A: Allocator> {
+pub struct Entry<A: Allocator> {
     pub(crate) addr: Addr,
     pub(crate) router: bool,
     /// The moment at which something is due, in milliseconds.
@@ -85,7 +85,7 @@ impl<A: Allocator> Entry<A> {
     ghost use Rattle.nd_neighbour.specs.UnreachabilityDetection.{stale_lifetime};
 
     /// Returns the link-layer address, if it is known.
-    pub(crate) fn mac(&self) -> Option<Mac>
+    pub fn mac(&self) -> Option<Mac>
         ensures { option_map (λ mac. number_of mac.0) result ≡ known_mac self.now.stage }
     {
         match &self.stage {
@@ -95,7 +95,7 @@ impl<A: Allocator> Entry<A> {
     }
 
     /// Returns true if the link-layer address is known.
-    pub(crate) fn is_known(&self) -> bool
+    pub fn is_known(&self) -> bool
         ensures { result ≡ is_some (known_mac self.now.stage) }
     {
         match &self.stage {

@@ -27,6 +27,7 @@ mod wanting;
 
 pub use cache::{Cache, MAX_NEIGHBOURS};
 pub use due::Due;
+pub use entry::Entry;
 pub use nd_packet::{Packet, Packets};
 pub use nd_table::Probes;
 pub use news::{Flags, News, Times, Touched};

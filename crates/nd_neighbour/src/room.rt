@@ -1,11 +1,11 @@
 //! Room for one neighbour, and for a second one after it. The definitions are in `specs/Room.antt`.
 
-ghost use Rattle.std.specs.Prelude.{List, Some, length, not, slice_get, true, ◌<◌, ◌==◌, ◌↔◌, ◌≡◌};
+ghost use Rattle.std.specs.Prelude.{List, Some, is_some, length, not, slice_get, true, ◌<◌, ◌==◌, ◌↔◌, ◌≡◌};
 ghost use Rattle.std.specs.List.{list_any};
 ghost use Rattle.std.specs.Option.{option_map};
 ghost use Rattle.nd_addr.specs.Number.{number_of};
 ghost use Rattle.nd_neighbour.specs.EntryKept.{NeighbourEntry};
-ghost use Rattle.nd_neighbour.specs.TableKept.{Rises};
+ghost use Rattle.nd_neighbour.specs.TableKept.{Rises, entry_in};
 ghost use Rattle.nd_neighbour.specs.PlaceKept.{stalest};
 ghost use Rattle.nd_neighbour.specs.RoomKept.{has_room, place_behind, place_beside, place_without, stale_beside, stays_stale};
 
@@ -13,7 +13,7 @@ use crate::cache::Cache;
 use crate::entry::Entry;
 use crate::place::{has_place, stalest};
 use nd_addr::Addr;
-use nd_table::{Addressed, compare, holds};
+use nd_table::{Addressed, compare, holds, locate_near};
 use std::alloc::Allocator;
 
 impl<A: Allocator> Cache<A> {
@@ -27,25 +27,43 @@ impl<A: Allocator> Cache<A> {
         ensures value { result ≡ has_room self.now.limit now (number_of addr.0) (option_map (λ next. number_of next.0) then) self.now.entries }
         ensures history { (history : List Row) → Stands self.now.entries history → result ≡ true ↔ HasRoom self.now.limit now (number_of addr.0) (option_map (λ next. number_of next.0) then) history }
     {
-        has_room(&self.entries, self.limit, now, addr, then)
+        has_room(&self.entries, self.limit, now, addr, then, self.near)
     }
 }
 
-/// Returns true if there is room for a neighbour, and after a use of it for a second one.
+/// Returns true if there is an entry of an address. It is looked for at place `near` first.
+fn holds_near<A: Allocator>(entries: &[Entry<A>], addr: Addr, near: usize) -> bool
+    requires { Rises entries.now }
+    ensures { result ≡ is_some (entry_in (number_of addr.0) entries.now) }
+{
+    match locate_near(entries, addr, near) {
+        Ok(_) => true,
+        Err(_) => false,
+    }
+}
+
+/// Returns true if there is room for a neighbour, and after a use of it for a second one. The neighbour is looked for at place `near` first.
 fn has_room<A: Allocator>(
     entries: &[Entry<A>],
     limit: usize,
     now: u64,
     addr: Addr,
     then: Option<Addr>,
+    near: usize,
 ) -> bool
     requires { Rises entries.now }
     ensures { result ≡ has_room limit now (number_of addr.0) (option_map (λ next. number_of next.0) then) entries.now }
 {
     match then {
         // Mostly the table isn't full, and the neighbour need not be looked for.
-        None => entries.len() < limit || holds(entries, addr) || has_place(entries, limit, now),
-        Some(next) if holds(entries, addr) => place_beside(entries, limit, now, addr, next),
+        None => {
+            entries.len() < limit
+                || holds_near(entries, addr, near)
+                || has_place(entries, limit, now)
+        }
+        Some(next) if holds_near(entries, addr, near) => place_beside(
+            entries, limit, now, addr, next,
+        ),
         Some(next) => {
             has_place(entries, limit, now) && place_behind(entries, limit, now, addr, next)
         }

@@ -10,7 +10,6 @@ ghost use Rattle.nd_neighbour.specs.View.{seen_in};
 use crate::cache::Cache;
 use crate::entry::{Entry, Stage};
 use nd_addr::{Addr, Mac};
-use nd_table::find;
 use std::alloc::Allocator;
 
 /// What is shown of a neighbour (RFC 4861, section 5.1).
@@ -53,7 +52,7 @@ impl<A: Allocator> Cache<A> {
         ensures value { option_map (λ n. seen_in n) result ≡ option_map (seen now) (entry_in (number_of addr.0) self.now.entries) }
         ensures seen { (history : List Row) → Stands self.now.entries history → option_map (λ n. seen_in n) result ≡ seen_of (number_of addr.0) (story (number_of addr.0) history) now }
     {
-        show(&self.entries, now, addr)
+        Some(self.get(addr)?.shown(now))
     }
 }
 
@@ -114,17 +113,6 @@ impl<A: Allocator> Iterator for Neighbours<'_, A> {
     }
 }
 
-/// Returns what is shown of a neighbour, if it has an entry.
-pub(crate) fn show<A: Allocator>(entries: &[Entry<A>], now: u64, addr: Addr) -> Option<Neighbour>
-    requires { Rises entries.now }
-    ensures { option_map (λ n. seen_in n) result ≡ option_map (seen now) (entry_in (number_of addr.0) entries.now) }
-{
-    match find(entries, addr) {
-        Some(i) => Some(entries[i].shown(now)),
-        None => None,
-    }
-}
-
 impl<A: Allocator> Entry<A> {
     ghost use Rattle.nd_neighbour.specs.ShownKept.{left_in, seen, state_in};
     ghost use Rattle.nd_neighbour.specs.View.{seen_in};
@@ -143,7 +131,7 @@ impl<A: Allocator> Entry<A> {
     }
 
     /// Returns the time for which a confirmation still holds at `now`, if one does, both in milliseconds (RFC 4861, section 7.3.2).
-    fn reachable_left(&self, now: u64) -> Option<u64>
+    pub fn reachable_left(&self, now: u64) -> Option<u64>
         ensures { result ≡ left_in self.now.stage now }
     {
         match &self.stage {
@@ -157,7 +145,7 @@ impl<A: Allocator> Entry<A> {
     }
 
     /// Returns its state at `now`, in milliseconds (RFC 4861, section 7.3.2).
-    fn state(&self, now: u64) -> Reachability
+    pub fn state(&self, now: u64) -> Reachability
         ensures { result ≡ state_in self.now.stage now }
     {
         match &self.stage {

@@ -1,6 +1,6 @@
 //! Next-hop determination (RFC 4861, section 5.2). The definitions are in `specs/NextHop.antt`.
 
-ghost use Rattle.std.specs.Prelude.{◌≡◌, ◌⊎◌, ℕ, List, Contains, option_map, true};
+ghost use Rattle.std.specs.Prelude.{◌≡◌, ◌⊎◌, ℕ, List, Contains, bytes_eq, option_map, true};
 ghost use Rattle.nd_addr.specs.Number.{number_of};
 ghost use Rattle.nd_nexthop.specs.NextHop.{hop, by_redirect, is_own_or_none};
 ghost use Rattle.nd_nexthop.specs.NextHopKept.{hop_of};
@@ -115,7 +115,19 @@ fn determine<V: View>(redirect: Option<Addr>, destination: Addr, view: &V) -> Ho
 fn is_own_or_none<V: View>(destination: Addr, view: &V) -> bool
     ensures { result ≡ is_own_or_none (V.own view.now) destination.0 }
 {
-    destination.is_unspecified() || destination.is_loopback() || view.is_own(destination)
+    is_same(destination, Addr::UNSPECIFIED)
+        || is_same(destination, Addr::LOOPBACK)
+        || view.is_own(destination)
+}
+
+/// Returns true if two addresses are the same, by their numbers: to compare their bytes takes longer.
+fn is_same(a: Addr, b: Addr) -> bool
+    ensures { result ≡ bytes_eq a.0 b.0 }
+{
+    nd_addr::laws::addresses_are_told_by_numbers();
+    let _a = a.as_bytes();
+    let _b = b.as_bytes();
+    a.to_bits() == b.to_bits()
 }
 
 /// Returns the next hop of a redirected packet: the target, which is the destination if that is on the link (RFC 4861, section 8.3).

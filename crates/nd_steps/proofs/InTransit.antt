@@ -13,14 +13,11 @@ use Rattle.nd_addr.specs.Number.{number_of, mac_at}
 use Rattle.nd_addr.proofs.ByteLists.{IsBytes-drop}
 use Rattle.nd_compose.specs.Frames.{open_mac}
 use Rattle.nd_compose.specs.Redirect.{redirect_frame}
-use Rattle.nd_neighbour.specs.declared.shown.Neighbour.{Neighbour}
 use Rattle.nd_neighbour.specs.EntryKept.{NeighbourEntry}
 use Rattle.nd_neighbour.specs.History.{Story, story}
-use Rattle.nd_neighbour.specs.ShownKept.{seen}
 use Rattle.nd_neighbour.specs.Story.{is_present, mac_of}
 use Rattle.nd_neighbour.specs.StoryKept.{the_entry}
 use Rattle.nd_neighbour.specs.TableKept.{Stands, entry_in}
-use Rattle.nd_neighbour.specs.View.{seen_in}
 use Rattle.nd_neighbour.proofs.Stories.{absent_mac}
 use Rattle.nd_neighbour.proofs.Dues.{known_by}
 use Rattle.nd_chronicle.specs.Start.{Start, link_local}
@@ -41,18 +38,6 @@ payload_fits frame h =
     omega (arith, two_bytes packet (IsBytes-drop 14 frame h), length-take (ipv6_header_length + payload_length_of packet - ipv6_header_length) (drop ipv6_header_length packet))
 
 -- ---- the link-layer address of a neighbour
-
--- the number of one that is shown
-abbrev pub mac_shown : Option Neighbour → Option ℕ
-mac_shown None = None
-mac_shown (Some n) = option_map (λ mac. number_of mac.0) n.mac
-
--- it is the one that is kept
-pub kept_mac : (now : ℕ) (shown : Option Neighbour) (kept : Option NeighbourEntry) → option_map (λ n. seen_in n) shown ≡ option_map (seen now) kept → option_map mac_at (mac_shown shown) ≡ mac_in kept
-kept_mac now None None e = refl
-kept_mac now None (Some k) e = let no : ⊥ = cc in absurd no
-kept_mac now (Some n) None e = let no : ⊥ = cc in absurd no
-kept_mac now (Some n) (Some k) e = let same : seen_in n ≡ seen now k = cc in ap (λ s. option_map mac_at s.mac) same
 
 node_mac : (key : ℕ) (s : Story) (present : Bool) → is_present s ≡ present → mac_in (if present then Some (the_entry key s) else None) ≡ option_map mac_at (mac_of s)
 node_mac key s true p = ap (option_map mac_at) (known_by (mac_of s) _ _ _ _)

@@ -16,11 +16,11 @@ use nd_table::compare;
 use std::alloc::Allocator;
 
 /// Returns true if a neighbour is in any state other than INCOMPLETE.
-fn is_resolved<A: Allocator>(neighbours: &Cache<A>, now: u64, addr: Addr) -> bool
+fn is_resolved<A: Allocator>(neighbours: &Cache<A>, addr: Addr) -> bool
     ensures { result ≡ is_resolved (entry_in (number_of addr.0) neighbours.now.entries) }
 {
-    match neighbours.entry(now, addr) {
-        Some(neighbour) => neighbour.mac.is_some(),
+    match neighbours.get(addr) {
+        Some(neighbour) => neighbour.is_known(),
         None => false,
     }
 }
@@ -71,7 +71,7 @@ impl<A: Allocator> View for Tables<'_, A> {
         match self.routers.at(i) {
             Some(listed) => Some(Candidate {
                 addr: listed.addr,
-                usable: is_resolved(self.neighbours, self.now, listed.addr),
+                usable: is_resolved(self.neighbours, listed.addr),
                 preference: listed.preference,
                 failed: listed.failed,
             }),

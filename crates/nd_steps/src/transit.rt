@@ -69,25 +69,24 @@ pub fn frame_sent_on<A: Allocator>(
     frame_from(alloc, mac, &header, packet.payload)
 }
 
-/// Returns the link-layer address of a neighbour at `now`, in milliseconds, if it is known.
-fn known_mac<A: Allocator>(neighbours: &Cache<A>, now: u64, addr: Addr) -> Option<Mac>
+/// Returns the link-layer address of a neighbour, if it is known.
+fn known_mac<A: Allocator>(neighbours: &Cache<A>, addr: Addr) -> Option<Mac>
     ensures { result ≡ mac_in (entry_in (number_of addr.0) neighbours.now.entries) }
 {
     nd_addr::laws::addresses_are_told_by_numbers();
-    let mac = neighbours.entry(now, addr)?.mac?;
+    let mac = neighbours.get(addr)?.mac()?;
     let _bytes = mac.as_bytes();
     Some(mac)
 }
 
 /// Returns the Redirect that announces a better first hop, `target`, to the sender of a packet, with the link-layer address of that hop if it is
-/// known at `now`, in milliseconds (RFC 4861, section 8.2). It is sent from `mac`, the node's Ethernet address, and `own`, its link-local one.
+/// known (RFC 4861, section 8.2). It is sent from `mac`, the node's Ethernet address, and `own`, its link-local one.
 /// `bytes` is the packet as received, from its IPv6 header on, which the Redirect quotes. Returns an error if out of memory.
 pub fn better_hop_frame<A: Allocator + Clone>(
     alloc: &A,
     mac: Mac,
     own: Addr,
     neighbours: &Cache<A>,
-    now: u64,
     target: Addr,
     packet: &Ip6Ref<'_>,
     bytes: &[u8],
@@ -95,7 +94,7 @@ pub fn better_hop_frame<A: Allocator + Clone>(
     ensures value { IfOk result (λ frame. frame ≡ redirect_frame mac own (packet_parts packet.now).header.source (mac_in (entry_in (number_of target.0) neighbours.now.entries)) target (packet_parts packet.now).header.destination bytes.now) }
     ensures by_history { IfOk result (λ frame. (start : Start) (moment : ℕ) (c : Chronicle) → Stands neighbours.now.entries (neighbour_history c) → start.mac ≡ mac → own ≡ link_local start → frame ≡ better_hop_frame start moment target (packet_parts packet.now) bytes.now c) }
 {
-    let target_mac = known_mac(neighbours, now, target);
+    let target_mac = known_mac(neighbours, target);
     let redirect = Redirect {
         target,
         destination: packet.header.destination,
