@@ -19,7 +19,7 @@ use Rattle.nd_nexthop.specs.History.{kept}
 use Rattle.nd_nexthop.specs.NextHop.{NextHop, via, hop}
 use Rattle.nd_validity.specs.Hearing.{Outcome}
 use Rattle.nd_validity.proofs.Deciding.{hears_one}
-use Rattle.nd_chronicle.specs.Start.{Start}
+use Rattle.nd_chronicle.specs.Start.{Policies, Start}
 use Rattle.nd_chronicle.specs.Happening.{Chronicle}
 use Rattle.nd_chronicle.specs.Histories.{router_history, prefix_history, redirect_history}
 use Rattle.nd_chronicle.specs.OwnAddress.{is_own}
@@ -27,7 +27,12 @@ use Rattle.nd_addr.specs.declared.role.Role.{Role}
 use Rattle.nd_addr.specs.declared.role.Role.TheVariants.{Host, Router}
 use Rattle.nd_addr.specs.Same.{same_prefix, prefixes_tell}
 use Rattle.nd_chronicle.specs.NextHop.{candidate, AreRouters, IsNextHop, IsHopOf}
+use Rattle.nd_chronicle.specs.Reading.{IsRead, read_outcome}
 use Rattle.nd_chronicle.specs.Hearing.{FromFirstHop, NotFromFirstHop, Verdict, Judges, IsDropped, IsTaken, IsStrange, IsMisdirected, IsPacket, IsPassing, IsStrangePacket, IsHeard}
+
+-- a frame is read in one way
+pub one_read : (frame : List ℕ) (policies : Policies) (role : Role) (a b : Outcome) → IsRead policies frame role a → IsRead policies frame role b → a ≡ b
+one_read frame policies role a b h k = h.as_read ∙ ap (λ (o : Outcome). read_outcome policies o) (hears_one frame role h.said k.said h.by_frame k.by_frame) ∙ sym k.as_read
 
 module _ (c : Chronicle) (now : ℕ) where
   pub one_router_list : (es fs : List (Lasting ℕ)) → Lists same (announcements (router_history c)) now es → Lists same (announcements (router_history c)) now fs → es ≡ fs
@@ -61,7 +66,7 @@ module _ (c : Chronicle) (now : ℕ) where
   not_both start source (bodies.Na na) h k = k
 
   module _ (start : Start) where
-    one_judged : {said : Outcome} {a b : Verdict} → Judges start c now said a → Judges start c now said b → a ≡ b
+    one_judged : {frame : List ℕ} {said : Outcome} {a b : Verdict} → Judges start c now frame said a → Judges start c now frame said b → a ≡ b
     one_judged IsDropped IsDropped = refl
     one_judged (IsTaken u f) (IsTaken u' f') = refl
     one_judged (IsTaken u f) (IsStrange n) = absurd (n u)
@@ -84,4 +89,4 @@ module _ (c : Chronicle) (now : ℕ) where
 
     pub one_heard : (frame : List ℕ) (a b : Verdict) → IsHeard start c now frame a → IsHeard start c now frame b → a ≡ b
     one_heard frame a b h k =
-        one_judged (subst (λ (o : Outcome). Judges start c now o a) (hears_one frame start.role h.outcome k.outcome h.by_frame k.by_frame) h.by_node) k.by_node
+        one_judged (subst (λ (o : Outcome). Judges start c now frame o a) (one_read frame start.policies start.role h.outcome k.outcome h.by_frame k.by_frame) h.by_node) k.by_node

@@ -16,12 +16,14 @@ use Rattle.nd_advertiser.specs.Contents.{last_contents_of}
 use Rattle.nd_forwarding.specs.Forward.{Fate, lost_no_route, lost_hop_limit, sent, fate}
 use Rattle.nd_forwarding.specs.Routes.{routes}
 use Rattle.nd_decode.specs.Message.{Parts, Spells}
+use Rattle.nd_decode.specs.Option.{Said}
+use Rattle.nd_decode.specs.declared.prefix_info.PrefixInfo.{PrefixInfo}
 use Rattle.nd_decode.specs.declared.body.Body.{Body}
 use Rattle.nd_decode.specs.declared.body.Body.TheVariants as bodies
 use Rattle.nd_decode.specs.declared.router_advertisement.RouterAdvertisement.{RouterAdvertisement}
 use Rattle.nd_table.specs.declared.lasting.Lasting.{Lasting}
 use Rattle.nd_params.specs.Params.{redraws}
-use Rattle.nd_validity.specs.Hearing.{Outcome, Hears}
+use Rattle.nd_validity.specs.Hearing.{Outcome, Hears, valid, other, dropped}
 use Rattle.nd_neighbour.specs.Due as neighbours_due
 use Rattle.nd_neighbour.specs.EntryKept.{NeighbourEntry, waiting_in}
 use Rattle.nd_neighbour.specs.History as neighbours
@@ -38,7 +40,7 @@ use Rattle.nd_slaac.specs.ByHand.{AddressByHand}
 use Rattle.nd_slaac.specs.History.{Lifetimes}
 use Rattle.nd_slaac.specs.PrefixOption.{prefixes_in}
 use Rattle.nd_slaac.specs.State as states
-use Rattle.nd_chronicle.specs.Start.{Start, link_local, link_local_key}
+use Rattle.nd_chronicle.specs.Start.{Policies, Start, link_local, link_local_key}
 use Rattle.nd_chronicle.specs.Happening.{Chronicle, Address, Sent, Heard, Lost, Neighbour, Path, Ceased, RedirectMade, Way, Forgotten, Loss, Refusal, Disabled, Tentative, Full}
 use Rattle.nd_chronicle.specs.Histories.{address_history, neighbour_history, advertising_history, route_history}
 use Rattle.nd_chronicle.specs.InForce.{base_reachable_time}
@@ -47,6 +49,7 @@ use Rattle.nd_chronicle.specs.Packet.{losing, sending, with_pushed, MakesPlace, 
 use Rattle.nd_chronicle.specs.Refused.{UnlessRefused, AtRouter}
 use Rattle.nd_chronicle.specs.Advertising.{advertising_by, planning, telling_end, wants_answer, full_of_offers, full_of_routes}
 use Rattle.nd_chronicle.specs.Forwarding.{Redirects, SendsOn, FateAdds, redirect_to}
+use Rattle.nd_chronicle.specs.Reading.{IsRead, read_outcome}
 use Rattle.nd_chronicle.specs.Hearing.{Verdict, hears, goes_up, goes_on, drops, IsForUs, Judges, IsTaken, takes_target, is_awake}
 use Rattle.nd_chronicle.specs.Message.{said, PlaceFor, sending_if_known, telling_if_known, releasing, leaving}
 use Rattle.nd_chronicle.specs.RouterAdvertisement.{forming, redrawing, with_delay, then_options, times_out, then_advertised}
@@ -176,6 +179,24 @@ pub data Brings (start : Start) (now : ℕ) (event : Event) (c d : Chronicle) : 
   -- the end of a known one other than the link-local one
   EndsKnown : (key : ℕ) → key ≢ link_local_key start → states.is_known (story_of c key) ≡ true → address_history d ≡ (now, key, addresses.Ended) ∷ address_history c → Brings start now event c d
 
+-- the frame spells a message with the same prefixes
+record IsSpelled (frame : List ℕ) (options : List Said) : Type 0 where
+  pub spelling : Parts
+  pub spelled : Spells (payload_in frame) spelling
+  pub prefixes : prefixes_in options ≡ prefixes_in spelling.options
+
+abbrev prefixes_of : Outcome → List PrefixInfo
+prefixes_of (valid source destination message) = prefixes_in message.options
+prefixes_of (other packet) = []
+prefixes_of (dropped why) = []
+
+-- no policy reads other prefixes
+spelled_as : (frame : List ℕ) (role : Role) (policies : Policies) (source destination : Addr) (message : Parts) (said : Outcome) → Hears frame role said → valid source destination message ≡ read_outcome policies said
+    → IsSpelled frame message.options
+spelled_as frame role policies source destination message (valid s d m) h e = record { spelling = m; spelled = h.4; prefixes = ap prefixes_of e }
+spelled_as frame role policies source destination message (other packet) h e = let no : ⊥ = cc in absurd no
+spelled_as frame role policies source destination message (dropped why) h e = let no : ⊥ = cc in absurd no
+
 differs : {a b : ℕ} → (a == b) ≡ false → a ≢ b
 differs {a = a} {b = b} e same = true≢false (sym (eq-eqb a b same) ∙ e)
 
@@ -242,19 +263,19 @@ module _ (start : Start) (now : ℕ) (event : Event) (c : Chronicle) where
     up_by false true h = absurd (let no : ⊥ = cc in no)
     up_by false false h = absurd (let no : ⊥ = cc in no)
 
-    module _ (frame : List ℕ) (received : event ≡ events.Receives frame) (spelled : Spells (payload_in frame) message) where
+    module _ (frame : List ℕ) (received : event ≡ events.Receives frame) (s : IsSpelled frame message.options) where
       brings_names : (ra : RouterAdvertisement) (placed d : Chronicle) → is_up start c ≡ true → PlaceFor start c now (said c source message) placed
           → d ≡ then_advertised start now source destination ra message placed → Brings start now event c d
       brings_names ra placed d up p h =
           let row = (now, Heard source destination message) ∷ placed in
           let third = redrawing start now ra.reachable_time (redraws (base_reachable_time placed) ra.reachable_time) row in
           let second = releasing now (said placed source message) (neighbour_history placed) third in
-          Announces frame message (holds multicast_prefix destination.0) (leaving now (times_out start now placed source ra) (number_of source.0) second) received spelled up
+          Announces frame s.spelling (holds multicast_prefix destination.0) (leaving now (times_out start now placed source ra) (number_of source.0) second) received s.spelled up
           (leaving_same now (times_out start now placed source ra) (number_of source.0) second
           ∙ releasing_same now (said placed source message) (neighbour_history placed) third
           ∙ redrawing_same now start ra.reachable_time (redraws (base_reachable_time placed) ra.reachable_time) row
           ∙ place_for_same start c now (said c source message) placed p)
-          h
+          (subst (λ (infos : List PrefixInfo). d ≡ then_options start now (holds multicast_prefix destination.0) infos (leaving now (times_out start now placed source ra) (number_of source.0) second)) s.prefixes h)
 
       brings_message : (body : Body) → takes_target c source body ≡ true → is_awake start c source body ≡ true → (d : Chronicle) → MessageAdds start now source destination message body c d → Brings start now event c d
       brings_message (bodies.Ns ns) takes awake d h =
@@ -265,10 +286,10 @@ module _ (start : Start) (now : ℕ) (event : Event) (c : Chronicle) where
           Nothing (ap address_history h.2 ∙ planning_same now start (wants_answer start c) _ ∙ known_place h.0 h.1)
       brings_message (bodies.Redirect r) takes awake d h = Nothing (ap address_history h.2 ∙ known_place h.0 h.1)
 
-    -- what is heard is for this node, and the frame spells it
-    heard : {outcome : Outcome} (frame : List ℕ) → Judges start c now outcome (hears source destination message) → Hears frame start.role outcome
-        → IsForUs start c source destination message × Spells (payload_in frame) message
-    heard frame (IsTaken u first) says = (u, says.4)
+    -- what is heard is for this node, and the frame spells its prefixes
+    heard : {outcome : Outcome} (frame : List ℕ) → Judges start c now frame outcome (hears source destination message) → IsRead start.policies frame start.role outcome
+        → IsForUs start c source destination message × IsSpelled frame message.options
+    heard frame (IsTaken u first) says = (u, spelled_as frame start.role start.policies source destination message says.said says.by_frame says.as_read)
 
   -- ---- a packet goes
 
@@ -288,7 +309,7 @@ module _ (start : Start) (now : ℕ) (event : Event) (c : Chronicle) where
   brings_fate lost_hop_limit packet bytes d h = Nothing (ap address_history h)
   brings_fate (sent next) packet bytes d h = brings_sends_on (redirect_to start now packet c) packet bytes _ d h
 
-  brings_verdict : (frame : List ℕ) → event ≡ events.Receives frame → (outcome : Outcome) (v : Verdict) (d : Chronicle) → Hears frame start.role outcome → Judges start c now outcome v
+  brings_verdict : (frame : List ℕ) → event ≡ events.Receives frame → (outcome : Outcome) (v : Verdict) (d : Chronicle) → IsRead start.policies frame start.role outcome → Judges start c now frame outcome v
       → VerdictAdds start now frame v c d → Brings start now event c d
   brings_verdict frame received outcome (drops why) d says j h = Nothing (ap address_history h)
   brings_verdict frame received outcome (goes_up packet) d says j h = Nothing (ap address_history h)

@@ -40,7 +40,7 @@ module _ (start : Start) (c : Chronicle) (now : ℕ) (frame : List ℕ) (address
         verdict = hears unspecified (solicited_node address) (record { body = bodies.Ns (record { target = address }); options = message.options });
         heard = record {
           outcome = valid unspecified (solicited_node address) (record { body = bodies.Ns (record { target = address }); options = message.options });
-          by_frame = h;
+          by_frame = record { said = valid unspecified (solicited_node address) (record { body = bodies.Ns (record { target = address }); options = message.options }); by_frame = h; as_read = refl };
           by_node = IsTaken (record {
             destination_is = inr (inr (record {
               key = number_of address.0;
@@ -70,7 +70,7 @@ module _ (start : Start) (c : Chronicle) (now : ℕ) (frame : List ℕ) (address
         verdict = hears address all_nodes (record { body = bodies.Na (record { router = router; solicited = false; override_flag = overrides; target = address }); options = message.options });
         heard = record {
           outcome = valid address all_nodes (record { body = bodies.Na (record { router = router; solicited = false; override_flag = overrides; target = address }); options = message.options });
-          by_frame = h;
+          by_frame = record { said = valid address all_nodes (record { body = bodies.Na (record { router = router; solicited = false; override_flag = overrides; target = address }); options = message.options }); by_frame = h; as_read = refl };
           by_node = IsTaken (record { destination_is = inl refl; target = refl; awake = awake }) tt;
         };
         adds = (None, record { neighbours = true; placed = λ enters full. (let no : ⊥ = cc in no); first = refl }, (c, record { pushed = None; place = refl; with_it = refl }, refl));

@@ -1,6 +1,6 @@
 -- What a node hears in a frame: what the frame says by itself, unless it is not for this node, or a Redirect that does not come from the
 -- current first hop (RFC 4861, sections 7.2.3, 7.2.5, 8.1 and RFC 4862, section 5.4).
-use Rattle.std.specs.Prelude.{◌≡◌, ◌≢◌, ℕ, Bool, true, false, ◌&&◌, ◌||◌, ◌⊎◌, bytes_eq, List}
+use Rattle.std.specs.Prelude.{◌≡◌, ◌≢◌, ℕ, Bool, true, false, ◌&&◌, ◌||◌, not, ◌⊎◌, bytes_eq, slice_range, List}
 use Rattle.nd_addr.specs.declared.addr.Addr.{Addr}
 use Rattle.nd_addr.specs.declared.role.Role.TheVariants.{Router}
 use Rattle.nd_addr.specs.declared.why.Why.{Why}
@@ -11,13 +11,14 @@ use Rattle.nd_addr.specs.Number.{addr_at, number_of}
 use Rattle.nd_decode.specs.Message.{Parts}
 use Rattle.nd_decode.specs.declared.body.Body.{Body}
 use Rattle.nd_decode.specs.declared.body.Body.TheVariants as bodies
-use Rattle.nd_validity.specs.Hearing.{Outcome, valid, other, dropped, Hears}
+use Rattle.nd_validity.specs.Hearing.{Outcome, valid, other, dropped}
 use Rattle.nd_nexthop.specs.NextHop.{NextHop, via}
 use Rattle.nd_forwarding.specs.Forward.{may_be_forwarded}
 use Rattle.nd_chronicle.specs.Start.{Start, link_local}
 use Rattle.nd_chronicle.specs.Happening.{Chronicle}
 use Rattle.nd_chronicle.specs.NextHop.{IsNextHop}
 use Rattle.nd_chronicle.specs.OwnAddress.{is_tentative, is_assigned, is_own, is_up}
+use Rattle.nd_chronicle.specs.Reading.{IsRead}
 
 -- ---- to whom it goes
 
@@ -64,14 +65,19 @@ pub record IsPacketForUs (start : Start) (c : Chronicle) (packet : PacketParts) 
   pub destination_is : IsOurs start (is_assigned c) packet.header.destination
   pub up : is_up start c ≡ true
 
+-- with the policy `unicast`: the frame came to the node's own link-layer address, and to no group
+abbrev pub came_to : Start → List ℕ → Bool
+came_to start frame = not start.policies.unicast || bytes_eq (slice_range frame 0 6) start.mac.0
+
 -- the packet is to be sent on: it isn't for this node, a router whose link-local address is assigned, nor for an address of its own that is
 -- tentative still, and neither its source nor its destination keeps it on its link (RFC 4291, section 2.5.6)
-pub record IsInTransit (start : Start) (c : Chronicle) (packet : PacketParts) : Type 0 where
+pub record IsInTransit (start : Start) (c : Chronicle) (frame : List ℕ) (packet : PacketParts) : Type 0 where
   pub role : start.role ≡ Router
   pub not_ours : IsPacketForUs start c packet → ⊥
   pub not_own : is_own c packet.header.destination.0 ≡ false
   pub may : may_be_forwarded packet.header ≡ true
   pub up : is_up start c ≡ true
+  pub came : came_to start frame ≡ true
 
 -- ---- the sender of a Redirect
 
@@ -97,20 +103,20 @@ pub data Verdict : Type 0 where
 
 -- What this node makes of what the frame says by itself: a reason stays; a message is heard that is for it and comes from where it has to;
 -- another packet goes up that is for it, and on where it is in transit.
-pub data Judges (start : Start) (c : Chronicle) (now : ℕ) : Outcome → Verdict → Type 0 where
-  IsDropped : {why : Why} → Judges start c now (dropped why) (drops why)
+pub data Judges (start : Start) (c : Chronicle) (now : ℕ) (frame : List ℕ) : Outcome → Verdict → Type 0 where
+  IsDropped : {why : Why} → Judges start c now frame (dropped why) (drops why)
   IsTaken : {source destination : Addr} {message : Parts} → IsForUs start c source destination message → FromFirstHop start c now source message.body
-      → Judges start c now (valid source destination message) (hears source destination message)
+      → Judges start c now frame (valid source destination message) (hears source destination message)
   IsStrange : {source destination : Addr} {message : Parts} → (IsForUs start c source destination message → ⊥)
-      → Judges start c now (valid source destination message) (drops NotForUs)
+      → Judges start c now frame (valid source destination message) (drops NotForUs)
   IsMisdirected : {source destination : Addr} {message : Parts} → IsForUs start c source destination message → NotFromFirstHop start c now source message.body
-      → Judges start c now (valid source destination message) (drops NotFirstHop)
-  IsPacket : {packet : PacketParts} → IsPacketForUs start c packet → Judges start c now (other packet) (goes_up packet)
-  IsPassing : {packet : PacketParts} → IsInTransit start c packet → Judges start c now (other packet) (goes_on packet)
-  IsStrangePacket : {packet : PacketParts} → (IsPacketForUs start c packet → ⊥) → (IsInTransit start c packet → ⊥) → Judges start c now (other packet) (drops NotForUs)
+      → Judges start c now frame (valid source destination message) (drops NotFirstHop)
+  IsPacket : {packet : PacketParts} → IsPacketForUs start c packet → Judges start c now frame (other packet) (goes_up packet)
+  IsPassing : {packet : PacketParts} → IsInTransit start c frame packet → Judges start c now frame (other packet) (goes_on packet)
+  IsStrangePacket : {packet : PacketParts} → (IsPacketForUs start c packet → ⊥) → (IsInTransit start c frame packet → ⊥) → Judges start c now frame (other packet) (drops NotForUs)
 
 -- this is made of the frame
 pub record IsHeard (start : Start) (c : Chronicle) (now : ℕ) (frame : List ℕ) (verdict : Verdict) : Type 0 where
   pub outcome : Outcome
-  pub by_frame : Hears frame start.role outcome
-  pub by_node : Judges start c now outcome verdict
+  pub by_frame : IsRead start.policies frame start.role outcome
+  pub by_node : Judges start c now frame outcome verdict

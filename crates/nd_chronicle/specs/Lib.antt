@@ -8,6 +8,7 @@ pub mod OwnAddress
 pub mod Refused
 pub mod Packet
 pub mod NextHop
+pub mod Reading
 pub mod Hearing
 pub mod Message
 pub mod RouterAdvertisement

@@ -23,19 +23,15 @@ pub record Limits : Type 0 where
   pub routes : ℕ
   pub waiting : ℕ
 
--- what a node does on a link that isn't trusted, each where it is asked for: an advertisement that doesn't fit is taken in parts (RFC 8106, section
--- 5.3.1); what is known to live goes before what is only asked for (RFC 6583, section 7); timers outside their ranges are not taken; what claims to be
--- of the node itself isn't heard; a router forwards only what is sent to its own link-layer address. None of them has an effect yet.
+-- what a node does on a link that isn't trusted, each where it is asked for: numbers of an advertisement that are outside their ranges say nothing; a router
+-- sends on only what came to its own link-layer address
 pub record Policies : Type 0 where
-  pub parts : Bool
-  pub speakers : Bool
   pub timers : Bool
-  pub self : Bool
   pub unicast : Bool
 
 -- none is asked for
 abbrev pub no_policies : Policies
-no_policies = record { parts = false; speakers = false; timers = false; self = false; unicast = false }
+no_policies = record { timers = false; unicast = false }
 
 -- when it starts, in milliseconds, as a host or as a router, its link-layer address, how many solicitations it sends for each address (RFC
 -- 4862, section 5.1, DupAddrDetectTransmits), the words of its generator, its limits, and its policies

@@ -29,7 +29,8 @@ use Rattle.nd_chronicle.specs.Happening.{Chronicle}
 use Rattle.nd_chronicle.specs.Histories.{router_history, prefix_history, redirect_history, address_history}
 use Rattle.nd_chronicle.specs.NextHop.{candidate, IsNextHop, routed_hop, IsHopOf}
 use Rattle.nd_chronicle.specs.OwnAddress.{story_of, is_assigned, is_own, is_up}
-use Rattle.nd_chronicle.specs.Hearing.{IsCounted, IsOurs, takes_target, is_awake, IsForUs, IsPacketForUs, IsInTransit, FromFirstHop, NotFromFirstHop, Verdict, Judges, IsDropped, IsTaken, IsStrange, IsMisdirected, IsPacket, IsPassing, IsStrangePacket, IsHeard}
+use Rattle.nd_chronicle.specs.Reading.{read_outcome}
+use Rattle.nd_chronicle.specs.Hearing.{came_to, IsCounted, IsOurs, takes_target, is_awake, IsForUs, IsPacketForUs, IsInTransit, FromFirstHop, NotFromFirstHop, Verdict, Judges, IsDropped, IsTaken, IsStrange, IsMisdirected, IsPacket, IsPassing, IsStrangePacket, IsHeard}
 use Rattle.nd_existence.proofs.Deciding.{either_or, both_or, true_or, false_or, same_or, some_below}
 use Rattle.nd_existence.proofs.Tables.{address_bound, nothing_of_address}
 use Rattle.nd_existence.proofs.Listings.{listed}
@@ -130,11 +131,11 @@ module _ (start : Start) (c : Chronicle) where
         | inr none ↦ inr (λ is. none (is.destination_is, is.up))
       ]
 
-  in_transit_or : (packet : PacketParts) → (IsPacketForUs start c packet → ⊥) → IsInTransit start c packet ⊎ (IsInTransit start c packet → ⊥)
-  in_transit_or packet not_ours =
-      elim (both_or (router_or start.role) (both_or (false_or (is_own c packet.header.destination.0)) (both_or (true_or (may_be_forwarded packet.header)) (true_or (is_up start c))))) [
-        | inl p ↦ inl (record { role = p.0; not_ours = not_ours; not_own = p.1.0; may = p.1.1.0; up = p.1.1.1 })
-        | inr none ↦ inr (λ is. none (is.role, (is.not_own, (is.may, is.up))))
+  in_transit_or : (frame : List ℕ) (packet : PacketParts) → (IsPacketForUs start c packet → ⊥) → IsInTransit start c frame packet ⊎ (IsInTransit start c frame packet → ⊥)
+  in_transit_or frame packet not_ours =
+      elim (both_or (router_or start.role) (both_or (false_or (is_own c packet.header.destination.0)) (both_or (true_or (may_be_forwarded packet.header)) (both_or (true_or (is_up start c)) (true_or (came_to start frame)))))) [
+        | inl p ↦ inl (record { role = p.0; not_ours = not_ours; not_own = p.1.0; may = p.1.1.0; up = p.1.1.1.0; came = p.1.1.1.1 })
+        | inr none ↦ inr (λ is. none (is.role, (is.not_own, (is.may, (is.up, is.came)))))
       ]
 
 -- ---- what is heard
@@ -152,19 +153,20 @@ module _ (start : Start) (c : Chronicle) (now : ℕ) where
   first_hop_or source (bodies.Ns ns) = inl tt
   first_hop_or source (bodies.Na na) = inl tt
 
-  judged : (said : Outcome) → (verdict : Verdict) × Judges start c now said verdict
-  judged (dropped why) = (_, IsDropped)
-  judged (valid source destination message) = elim (for_us_or start c source destination message) [
+  judged : (frame : List ℕ) (said : Outcome) → (verdict : Verdict) × Judges start c now frame said verdict
+  judged frame (dropped why) = (_, IsDropped)
+  judged frame (valid source destination message) = elim (for_us_or start c source destination message) [
     | inl us ↦ elim (first_hop_or source message.body) [ inl from ↦ (_, IsTaken us from) | inr misdirected ↦ (_, IsMisdirected us misdirected) ]
     | inr strange ↦ (_, IsStrange strange)
   ]
-  judged (other packet) = elim (packet_for_us_or start c packet) [
+  judged frame (other packet) = elim (packet_for_us_or start c packet) [
     | inl us ↦ (_, IsPacket us)
-    | inr strange ↦ elim (in_transit_or start c packet strange) [ inl passing ↦ (_, IsPassing passing) | inr none ↦ (_, IsStrangePacket strange none) ]
+    | inr strange ↦ elim (in_transit_or start c frame packet strange) [ inl passing ↦ (_, IsPassing passing) | inr none ↦ (_, IsStrangePacket strange none) ]
   ]
 
   -- something is made of each frame
   pub frame_heard : (frame : List ℕ) → (verdict : Verdict) × IsHeard start c now frame verdict
   frame_heard frame =
-      let j = judged (hearing_of frame start.role) in
-      (j.0, record { outcome = hearing_of frame start.role; by_frame = hears frame start.role; by_node = j.1 })
+      let said = hearing_of frame start.role in
+      let j = judged frame (read_outcome start.policies said) in
+      (j.0, record { outcome = read_outcome start.policies said; by_frame = record { said = said; by_frame = hears frame start.role; as_read = refl }; by_node = j.1 })

@@ -354,6 +354,7 @@ pub record Takes {R A : Type 0} (stream : R → Stream) (old new : Node R A) (be
   pub role : new.role ≡ old.role
   pub mac : new.mac ≡ old.mac
   pub chosen : new.limits ≡ old.limits
+  pub policies : new.policies ≡ old.policies
   pub last : new.last ≡ now
   -- what the generator will answer between a redraw and the first delay
   pub left : Stream
@@ -620,6 +621,7 @@ module _ {R A : Type 0} (stream : R → Stream) (old new : Node R A) (before aft
     role = t.role ∙ s.role;
     mac = t.mac ∙ s.mac;
     chosen = t.chosen ∙ s.chosen;
+    policies = t.policies ∙ s.policies;
     address_mac = forms_all.mac;
     address_transmits = forms_all.transmits;
     limits = record {

@@ -15,13 +15,14 @@ use Rattle.nd_params.specs.ParamsKept as parameters
 use Rattle.nd_dns.specs.DnsKept as dns
 use Rattle.nd_routers.specs.PrefixesKept.{Prefixes}
 use Rattle.nd_nexthop.specs.Choice as choice
-use Rattle.nd_chronicle.specs.Start.{Start, link_local_key}
+use Rattle.nd_chronicle.specs.Start.{Policies, Start, link_local_key}
 use Rattle.nd_chronicle.specs.Histories.{parameter_history, address_history}
 use Rattle.nd_chronicle.specs.Due.{is_host}
 use Rattle.nd_chronicle.specs.Generator.{stream_left}
 use Rattle.nd_chronicle.specs.History.{beginning}
 use Rattle.nd_steps.specs.SolicitRouters.{Solicitations, next_solicitation}
 use Rattle.nd_node.specs.declared.node.Node.{Node}
+use Rattle.nd_node.specs.Node.{with_policies}
 use Rattle.nd_node.specs.NodeKept.{Stands}
 use Rattle.nd_steps.proofs.Remembering.{remembers_nothing}
 use Rattle.nd_node.proofs.Turns.{all_later}
@@ -42,6 +43,7 @@ pub record Starts {R A : Type 0} (stream : R → Stream) (start : Start) (node :
   pub role : node.role ≡ start.role
   pub mac : node.mac ≡ start.mac
   pub chosen : node.limits ≡ start.limits
+  pub policies : node.policies ≡ start.policies
   pub last : node.last ≡ start.at
   pub drawn_at : node.params.drawn_at ≡ start.at
   pub address_mac : node.addresses.mac ≡ start.mac
@@ -67,6 +69,7 @@ stands_beginning stream start node v params routers' prefixes addresses' neighbo
   role = v.role;
   mac = v.mac;
   chosen = v.chosen;
+  policies = v.policies;
   address_mac = v.address_mac;
   address_transmits = v.address_transmits;
   limits = record {
@@ -100,4 +103,33 @@ stands_beginning stream start node v params routers' prefixes addresses' neighbo
   names_by_then = omega arith;
   memo = rw (v.no_prefixes, v.choice) (remembers_nothing node.last _ node.addresses.addresses [] node.neighbours.entries node.routers refl (λ moment after asked. refl));
   in_time = all_later node start.at (rw v.routers tt) (rw v.formed (omega arith)) (rw v.neighbours tt) (rw v.solicitations (none_is_due node.role start.at)) (rw v.advertiser (none_advertised node.role start.at)) (omega (arith, v.drawn_at));
+}
+
+-- the same with policies: the beginning doesn't depend on them
+pub begins_with : {R A : Type 0} (stream : R → Stream) (start : Start) (node : Node R A) (policies : Policies) → Stands stream start node (beginning start)
+    → Stands stream (with_policies policies start) (record node { policies = policies }) (beginning (with_policies policies start))
+begins_with stream start node policies s = record {
+  role = s.role;
+  mac = s.mac;
+  chosen = s.chosen;
+  policies = refl;
+  address_mac = s.address_mac;
+  address_transmits = s.address_transmits;
+  limits = s.limits;
+  params = s.params;
+  routers = s.routers;
+  prefixes = s.prefixes;
+  addresses = s.addresses;
+  neighbours = s.neighbours;
+  dns = s.dns;
+  redirects = s.redirects;
+  solicitations = record { assigned = s.solicitations.assigned; sent = s.solicitations.sent; heard = s.solicitations.heard };
+  router = record { advertiser = s.router.advertiser; routes = s.router.routes; offer_limit = s.router.offer_limit; route_limit = s.router.route_limit; spaced = s.router.spaced };
+  generator = s.generator;
+  last = s.last;
+  prefixes_by_then = s.prefixes_by_then;
+  servers_by_then = s.servers_by_then;
+  names_by_then = s.names_by_then;
+  memo = s.memo;
+  in_time = s.in_time;
 }

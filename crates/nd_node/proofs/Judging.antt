@@ -17,7 +17,8 @@ use Rattle.nd_decode.specs.declared.body.Body.TheVariants as bodies
 use Rattle.nd_decode.specs.declared.redirect.Redirect.{Redirect}
 use Rattle.nd_validity.specs.Hearing.{Outcome, Hears, valid, other, dropped}
 use Rattle.nd_nexthop.specs.NextHop.{NextHop, via}
-use Rattle.nd_chronicle.specs.Start.{Start}
+use Rattle.nd_chronicle.specs.Start.{Policies, Start}
+use Rattle.nd_chronicle.specs.Reading.{IsRead, read_outcome}
 use Rattle.nd_chronicle.specs.Happening.{Chronicle, Happening, Dropped, Up, Passed, last_moment}
 use Rattle.nd_chronicle.specs.Hearing as verdicts
 use Rattle.nd_chronicle.specs.Hearing.{FromFirstHop, IsForUs, IsPacketForUs, IsInTransit, IsDropped, IsTaken, IsStrange, IsMisdirected, IsPacket, IsPassing, IsStrangePacket, takes_target}
@@ -106,6 +107,7 @@ stays_keeps stream old new k = record {
     role = k.role ∙ s.role;
     mac = k.mac ∙ s.mac;
     chosen = k.chosen ∙ s.chosen;
+    policies = k.policies ∙ s.policies;
     address_mac = rw k.addresses s.address_mac;
     address_transmits = rw k.addresses s.address_transmits;
     limits = record {
@@ -209,11 +211,11 @@ module _ {R A : Type 0} (stream : R → Stream) (old mid new : Node R A) (x y : 
 -- ---- a frame
 
 -- whether a packet is in transit is the same once time has passed
-pub in_transit_later : (start : Start) (c : Chronicle) (now : ℕ) (packet : PacketParts) → IsInTransit start c packet → IsInTransit start ((now, Passed) ∷ c) packet
-in_transit_later start c now packet t = record { role = t.role; not_ours = λ f. t.not_ours (record { destination_is = f.destination_is; up = f.up }); not_own = t.not_own; may = t.may; up = t.up }
+pub in_transit_later : (start : Start) (c : Chronicle) (now : ℕ) (frame : List ℕ) (packet : PacketParts) → IsInTransit start c frame packet → IsInTransit start ((now, Passed) ∷ c) frame packet
+in_transit_later start c now frame packet t = record { role = t.role; not_ours = λ f. t.not_ours (record { destination_is = f.destination_is; up = f.up }); not_own = t.not_own; may = t.may; up = t.up; came = t.came }
 
-in_transit_before : (start : Start) (c : Chronicle) (now : ℕ) (packet : PacketParts) → IsInTransit start ((now, Passed) ∷ c) packet → IsInTransit start c packet
-in_transit_before start c now packet t = record { role = t.role; not_ours = λ f. t.not_ours (record { destination_is = f.destination_is; up = f.up }); not_own = t.not_own; may = t.may; up = t.up }
+in_transit_before : (start : Start) (c : Chronicle) (now : ℕ) (frame : List ℕ) (packet : PacketParts) → IsInTransit start ((now, Passed) ∷ c) frame packet → IsInTransit start c frame packet
+in_transit_before start c now frame packet t = record { role = t.role; not_ours = λ f. t.not_ours (record { destination_is = f.destination_is; up = f.up }); not_own = t.not_own; may = t.may; up = t.up; came = t.came }
 
 pub is_not : (answer : Bool) (P : Type 0) → answer ≡ true ↔ P → answer ≡ false → P → ⊥
 is_not answer P says is p = let yes' = says.1 p in let never : ⊥ = cc in never
@@ -223,20 +225,24 @@ module _ {R A : Type 0} (stream : R → Stream) (old new : Node R A) (x y : List
   by_role : (start : Start) (c : Chronicle) (outcome : Outcome) → Stands stream start old c → Hears frame old.role outcome → Hears frame start.role outcome
   by_role start c outcome s h = subst (λ (r : Role). Hears frame r outcome) s.role h
 
+  -- the same as it is read, which the policies of the node say
+  read_by_start : (start : Start) (c : Chronicle) (outcome : Outcome) → Stands stream start old c → IsRead old.policies frame old.role outcome → IsRead start.policies frame start.role outcome
+  read_by_start start c outcome s h = record { said = h.said; by_frame = by_role start c h.said s h.by_frame; as_read = h.as_read ∙ ap (λ (p : Policies). read_outcome p h.said) s.policies }
+
   -- it is dropped for what it says by itself
   pub dropped_by_frame : (why : Why) → Hears frame old.role (dropped why) → AddsAlone stream old new x y now (Dropped why) → AddsEvent stream old new x y now (events.Receives frame) Done
   dropped_by_frame why h adds = record {
     each = λ start c s le.
         let a = adds.each start c s le in (
           (now, Dropped why) ∷ (now, Passed) ∷ c,
-          record { verdict = verdicts.drops why; heard = record { outcome = dropped why; by_frame = by_role start c (dropped why) s h; by_node = IsDropped }; adds = refl },
+          record { verdict = verdicts.drops why; heard = record { outcome = dropped why; by_frame = record { said = dropped why; by_frame = by_role start c (dropped why) s h; as_read = refl }; by_node = IsDropped }; adds = refl },
           a.0,
           a.1,
           refl,
         );
   }
 
-  module _ (source destination : Addr) (message : Parts) (h : Hears frame old.role (valid source destination message)) (ours : Bool)
+  module _ (source destination : Addr) (message : Parts) (h : IsRead old.policies frame old.role (valid source destination message)) (ours : Bool)
       (says : (start : Start) (c : Chronicle) → Stands stream start old c → ours ≡ true ↔ IsForUs start c source destination message) (same : SameTarget now source message) where
     -- time that passed doesn't change for whom it is
     for_us_later : (start : Start) (c : Chronicle) → IsForUs start c source destination message → IsForUs start ((now, Passed) ∷ c) source destination message
@@ -252,7 +258,7 @@ module _ {R A : Type 0} (stream : R → Stream) (old new : Node R A) (x y : List
             a.1,
             record {
               verdict = a.0;
-              heard = record { outcome = valid source destination message; by_frame = by_role start c (valid source destination message) s h; by_node = a.2 };
+              heard = record { outcome = valid source destination message; by_frame = read_by_start start c (valid source destination message) s h; by_node = a.2 };
               adds = a.3;
             },
             a.4,
@@ -270,7 +276,7 @@ module _ {R A : Type 0} (stream : R → Stream) (old new : Node R A) (x y : List
               verdict = verdicts.drops NotForUs;
               heard = record {
                 outcome = valid source destination message;
-                by_frame = by_role start c (valid source destination message) s h;
+                by_frame = read_by_start start c (valid source destination message) s h;
                 by_node = IsStrange (λ f. let yes' = (says start c s).1 (for_us_before start c f) in let never : ⊥ = cc in never);
               };
               adds = refl;
@@ -283,7 +289,7 @@ module _ {R A : Type 0} (stream : R → Stream) (old new : Node R A) (x y : List
 
   module _ (packet : PacketParts) (h : Hears frame old.role (other packet)) (ours : Bool) (says : (start : Start) (c : Chronicle) → Stands stream start old c → ours ≡ true ↔ IsPacketForUs start c packet) where
     -- it is to be sent on
-    module _ (stranger : ours ≡ false) (passes : Bool) (in_transit : (start : Start) (c : Chronicle) → Stands stream start old c → (IsPacketForUs start c packet → ⊥) → passes ≡ true ↔ IsInTransit start c packet) where
+    module _ (stranger : ours ≡ false) (passes : Bool) (in_transit : (start : Start) (c : Chronicle) → Stands stream start old c → (IsPacketForUs start c packet → ⊥) → passes ≡ true ↔ IsInTransit start c frame packet) where
       not_ours : (start : Start) (c : Chronicle) → Stands stream start old c → IsPacketForUs start c packet → ⊥
       not_ours start c s = is_not ours (IsPacketForUs start c packet) (says start c s) stranger
 
@@ -296,9 +302,9 @@ module _ {R A : Type 0} (stream : R → Stream) (old new : Node R A) (x y : List
                 verdict = verdicts.drops NotForUs;
                 heard = record {
                   outcome = other packet;
-                  by_frame = by_role start c (other packet) s h;
+                  by_frame = record { said = other packet; by_frame = by_role start c (other packet) s h; as_read = refl };
                   by_node = IsStrangePacket (λ f. not_ours start c s (record { destination_is = f.destination_is; up = f.up }))
-                      (λ t. is_not passes (IsInTransit start c packet) (in_transit start c s (not_ours start c s)) is (in_transit_before start c now packet t));
+                      (λ t. is_not passes (IsInTransit start c frame packet) (in_transit start c s (not_ours start c s)) is (in_transit_before start c now frame packet t));
                 };
                 adds = refl;
               },
@@ -317,8 +323,8 @@ module _ {R A : Type 0} (stream : R → Stream) (old new : Node R A) (x y : List
                 verdict = verdicts.goes_on packet;
                 heard = record {
                   outcome = other packet;
-                  by_frame = by_role start c (other packet) s h;
-                  by_node = IsPassing (in_transit_later start c now packet ((in_transit start c s (not_ours start c s)).0 is));
+                  by_frame = record { said = other packet; by_frame = by_role start c (other packet) s h; as_read = refl };
+                  by_node = IsPassing (in_transit_later start c now frame packet ((in_transit start c s (not_ours start c s)).0 is));
                 };
                 adds = a.1;
               },
@@ -338,7 +344,7 @@ module _ {R A : Type 0} (stream : R → Stream) (old new : Node R A) (x y : List
               verdict = verdicts.goes_up packet;
               heard = record {
                 outcome = other packet;
-                by_frame = by_role start c (other packet) s h;
+                by_frame = record { said = other packet; by_frame = by_role start c (other packet) s h; as_read = refl };
                 by_node = IsPacket (record { destination_is = f.destination_is; up = f.up });
               };
               adds = refl;

@@ -154,13 +154,13 @@ module _ {R A : Type 0} (stream : R → Stream) (old : Node R A) (x : List (ℕ 
       let leads : Leads stream (record old { last = now }) (record old { last = now }) x (with_answer x now destination (resolutions.Path (ways.To to (Some mac)))) (WishTold now destination key) =
       wish_leads stream (record old { last = now }) (record old { last = now }) x (with_answer x now destination (resolutions.Path (ways.To to (Some mac)))) now destination key old.params.retrans_timer old.neighbours.waiting
       still_none (λ es h m st. (by_table es h st m, to_table es h st m)) pushed_out refl
-      (record { role = refl; mac = refl; chosen = refl; generator = refl; last = refl; params = refl; routers = refl; prefixes = refl; dns = refl; redirects = refl; solicitations = refl; router = refl; address_mac = refl; address_transmits = refl; address_limit = refl; neighbour_limit = refl; waiting = refl })
+      (record { role = refl; mac = refl; chosen = refl; policies = refl; generator = refl; last = refl; params = refl; routers = refl; prefixes = refl; dns = refl; redirects = refl; solicitations = refl; router = refl; address_mac = refl; address_transmits = refl; address_limit = refl; neighbour_limit = refl; waiting = refl })
       refl (Keeps refl (λ history st k. refl)) refl refl (leased_wish entries now key old.params.retrans_timer old.neighbours.waiting n found leased old.neighbours.limit) old.mac refl (addr_at (link_local_of old.addresses.mac)) refl
       (IsKnown (number_of mac.0)) (wish_known entries now key old.params.retrans_timer old.neighbours.waiting n found (number_of mac.0) known)
       (answered_behind x x now old.mac (addr_at (link_local_of old.addresses.mac)) destination key (IsKnown (number_of mac.0)) (reports.Path destination (ways.To to (Some mac))) refl (sym (append-nil (happenings x)))) in
       let has : has_room old.neighbours.limit now key None entries ≡ true = rw found refl in
       wish_taken stream old (record old { last = now }) x (with_answer x now destination (resolutions.Path (ways.To to (Some mac)))) now destination key settled (record old { last = now }) x
-      (record { role = refl; mac = refl; chosen = refl; generator = refl; last = refl; params = refl; routers = refl; prefixes = refl; addresses = refl; entries = refl; limit = refl; waiting = refl; dns = refl; choice = refl; solicitations = refl; router = refl })
+      (record { role = refl; mac = refl; chosen = refl; policies = refl; generator = refl; last = refl; params = refl; routers = refl; prefixes = refl; addresses = refl; entries = refl; limit = refl; waiting = refl; dns = refl; choice = refl; solicitations = refl; router = refl })
       refl room_has_place full_by_history has leads
 
   -- what the lease says, by the entry of the neighbour

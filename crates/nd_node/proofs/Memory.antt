@@ -1,5 +1,5 @@
 -- What asks for no memory.
-use Rattle.std.proofs.Common.{◌≡◌, ℕ, List, Option, Some, None, true, sym, ap, subst}
+use Rattle.std.proofs.Common.{◌≡◌, ℕ, List, Option, Some, None, true, sym, ◌∙◌, ap, subst}
 use Rattle.std.specs.Option.{option_map}
 use Rattle.nd_addr.specs.declared.addr.Addr.{Addr}
 use Rattle.nd_addr.specs.declared.mac.Mac.{Mac}
@@ -18,7 +18,8 @@ use Rattle.nd_neighbour.specs.TableKept.{entry_in}
 use Rattle.nd_addr.specs.declared.role.Role.{Role}
 use Rattle.nd_addr.specs.declared.why.Why.{Why}
 use Rattle.nd_addr.specs.Ip6.{PacketParts}
-use Rattle.nd_chronicle.specs.Start.{Start}
+use Rattle.nd_chronicle.specs.Start.{Policies, Start}
+use Rattle.nd_chronicle.specs.Reading.{IsRead, read_outcome}
 use Rattle.nd_chronicle.specs.Happening.{Chronicle}
 use Rattle.nd_chronicle.specs.Hearing.{IsForUs, IsInTransit, IsPacketForUs, IsHeard, Judges, IsStrange, IsMisdirected, IsStrangePacket, NotFromFirstHop, drops}
 use Rattle.nd_chronicle.specs.Histories.{given_or_marked}
@@ -45,25 +46,30 @@ told_of_sender times key mac (Some n) entries e = ap (λ (k : ℕ). told_at (ent
 -- ---- what is dropped
 
 -- a message that is for this node is dropped only as a Redirect from another node than the first hop
-pub misdirected : (start : Start) (c : Chronicle) (now : ℕ) (source destination : Addr) (message : Parts) (why : Why) → IsForUs start c source destination message
-    → Judges start c now (valid source destination message) (drops why) → NotFromFirstHop start c now source message.body
+pub misdirected : (start : Start) (c : Chronicle) (now : ℕ) {frame : List ℕ} (source destination : Addr) (message : Parts) (why : Why) → IsForUs start c source destination message
+    → Judges start c now frame (valid source destination message) (drops why) → NotFromFirstHop start c now source message.body
 misdirected start c now source destination message why u (IsStrange n) = absurd (n u)
 misdirected start c now source destination message why u (IsMisdirected u' n) = n
 
 -- a packet that is for this node isn't
-pub packet_stays : (start : Start) (c : Chronicle) (now : ℕ) (packet : PacketParts) (why : Why) → IsPacketForUs start c packet → Judges start c now (other packet) (drops why) → ⊥
+pub packet_stays : (start : Start) (c : Chronicle) (now : ℕ) {frame : List ℕ} (packet : PacketParts) (why : Why) → IsPacketForUs start c packet → Judges start c now frame (other packet) (drops why) → ⊥
 packet_stays start c now packet why u (IsStrangePacket n no_transit) = n u
 
 -- nor is one that is in transit
-pub passing_stays : (start : Start) (c : Chronicle) (now : ℕ) (packet : PacketParts) (why : Why) → IsInTransit start c packet → Judges start c now (other packet) (drops why) → ⊥
+pub passing_stays : (start : Start) (c : Chronicle) (now : ℕ) {frame : List ℕ} (packet : PacketParts) (why : Why) → IsInTransit start c frame packet → Judges start c now frame (other packet) (drops why) → ⊥
 passing_stays start c now packet why u (IsStrangePacket n no_transit) = no_transit u
 
--- the node judges what the frame says
-pub judged_by_frame : (start : Start) (c : Chronicle) (now : ℕ) (frame : List ℕ) (role : Role) (said : Outcome) (why : Why) → role ≡ start.role → ((o : Outcome) → Hears frame role o → said ≡ o)
-    → IsHeard start c now frame (drops why) → Judges start c now said (drops why)
-judged_by_frame start c now frame role said why same only h =
-    let is : said ≡ h.outcome = only h.outcome (subst (λ (r : Role). Hears frame r h.outcome) (sym same) h.by_frame) in
-    subst (λ (o : Outcome). Judges start c now o (drops why)) (sym is) h.by_node
+-- what is read in a frame that says one thing
+pub one_reading : (start : Start) (frame : List ℕ) (role : Role) (policies : Policies) (said outcome : Outcome) → role ≡ start.role → policies ≡ start.policies → ((o : Outcome) → Hears frame role o → said ≡ o)
+    → IsRead start.policies frame start.role outcome → read_outcome policies said ≡ outcome
+one_reading start frame role policies said outcome same asked only h =
+    ap (λ (o : Outcome). read_outcome policies o) (only h.said (subst (λ (r : Role). Hears frame r h.said) (sym same) h.by_frame)) ∙ ap (λ (p : Policies). read_outcome p h.said) asked ∙ sym h.as_read
+
+-- the node judges what it reads in the frame
+pub judged_by_frame : (start : Start) (c : Chronicle) (now : ℕ) (frame : List ℕ) (role : Role) (policies : Policies) (said : Outcome) (why : Why) → role ≡ start.role → policies ≡ start.policies
+    → ((o : Outcome) → Hears frame role o → said ≡ o) → IsHeard start c now frame (drops why) → Judges start c now frame (read_outcome policies said) (drops why)
+judged_by_frame start c now frame role policies said why same asked only h =
+    subst (λ (o : Outcome). Judges start c now frame o (drops why)) (sym (one_reading start frame role policies said h.outcome same asked only h.by_frame)) h.by_node
 
 -- ---- a frame says one thing
 

@@ -129,6 +129,7 @@ stands_asked stream start node c asked s room redirects recalls = record {
   role = s.role;
   mac = s.mac;
   chosen = s.chosen;
+  policies = s.policies;
   address_mac = s.address_mac;
   address_transmits = s.address_transmits;
   limits = record {

@@ -14,6 +14,7 @@ stands_quiet stream start node c d q s = record {
   role = s.role;
   mac = s.mac;
   chosen = s.chosen;
+  policies = s.policies;
   address_mac = s.address_mac;
   address_transmits = s.address_transmits;
   limits = s.limits;

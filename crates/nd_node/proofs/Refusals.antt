@@ -21,7 +21,8 @@ use Rattle.nd_neighbour.specs.Story.{is_awaited, mac_of, waits_of}
 use Rattle.nd_slaac.specs.PrefixOption.{is_taken, lifetimes_of, named_by, prefixes_in}
 use Rattle.nd_slaac.specs.State.{is_by_hand, is_known}
 use Rattle.nd_nexthop.specs.NextHop.{NextHop, direct}
-use Rattle.nd_chronicle.specs.Start.{Start}
+use Rattle.nd_chronicle.specs.Start.{Policies, Start}
+use Rattle.nd_chronicle.specs.Reading.{read_outcome}
 use Rattle.nd_chronicle.specs.Happening.{Chronicle, Heard, Limit, Loss, Lost, Passed, Refusal, Refused, Forgotten, Neighbour}
 use Rattle.nd_chronicle.specs.Advertising.{planning, wants_answer}
 use Rattle.nd_chronicle.specs.Event as events
@@ -52,6 +53,7 @@ use Rattle.nd_chronicle.specs.Forwarding.{FateAdds, ForwardAdds, Redirects, Send
 use Rattle.nd_chronicle.specs.Full.{AdvertisementFills, Fills, MessageFills, Placed}
 use Rattle.nd_chronicle.specs.Hearing.{IsMisdirected, IsStrange, IsTaken, Judges, Verdict, IsPacket, IsPacketForUs, IsPassing, IsStrangePacket}
 use Rattle.nd_node.proofs.InTransit.{SaysRoom}
+use Rattle.nd_node.proofs.Memory.{one_reading}
 use Rattle.nd_node.proofs.TakenOrRefused.{fills_later}
 use Rattle.nd_chronicle.proofs.Events.{one_full}
 use Rattle.nd_node.specs.RouterAdvertisement.{advertised}
@@ -301,7 +303,7 @@ module _ (start : Start) (now : ℕ) (source destination : Addr) (message : Part
   later = (now, Passed) ∷ c
 
   -- a message is refused where a table is full
-  pub message_full : (frame : List ℕ) (verdict : Verdict) → Judges start later now (valid source destination message) verdict → AddsRefusal now c (VerdictAdds start now frame verdict)
+  pub message_full : (frame : List ℕ) (verdict : Verdict) → Judges start later now frame (valid source destination message) verdict → AddsRefusal now c (VerdictAdds start now frame verdict)
       → (limit : Limit) × Fills start later now source message message.body (Some limit)
   message_full frame _ (IsTaken us first) adds =
       let f = full_of now adds.0 later adds.1.0 (MessageAdds start now source destination message message.body later) (message_adds now start source destination message message.body later) adds.1.2 in
@@ -334,27 +336,28 @@ module _ (start : Start) (now : ℕ) (source : Addr) (options : List Said) (c : 
 
 module _ (start : Start) (now : ℕ) (frame : List ℕ) (packet : PacketParts) (c : Chronicle) where
   -- one that isn't for this node is refused where it is in transit
-  pub passing_refused : (verdict : Verdict) → (IsPacketForUs start ((now, Passed) ∷ c) packet → ⊥) → Judges start ((now, Passed) ∷ c) now (other packet) verdict → AddsRefusal now c (VerdictAdds start now frame verdict)
+  pub passing_refused : (verdict : Verdict) → (IsPacketForUs start ((now, Passed) ∷ c) packet → ⊥) → Judges start ((now, Passed) ∷ c) now frame (other packet) verdict → AddsRefusal now c (VerdictAdds start now frame verdict)
       → AddsRefusal now c (ForwardAdds start now packet (packet_bytes frame))
   passing_refused _ never (IsPacket us) adds = absurd (never us)
   passing_refused _ never (IsPassing passes) adds = adds
   passing_refused _ never (IsStrangePacket not_ours not_passing) adds = absurd (not_refused now adds.0 ((now, Passed) ∷ c) _ refl adds.1)
 
   -- one that is for this node isn't refused
-  pub ours_left : (verdict : Verdict) → IsPacketForUs start ((now, Passed) ∷ c) packet → Judges start ((now, Passed) ∷ c) now (other packet) verdict → AddsRefusal now c (VerdictAdds start now frame verdict) → ⊥
+  pub ours_left : (verdict : Verdict) → IsPacketForUs start ((now, Passed) ∷ c) packet → Judges start ((now, Passed) ∷ c) now frame (other packet) verdict → AddsRefusal now c (VerdictAdds start now frame verdict) → ⊥
   ours_left _ us (IsPacket ours) adds = not_refused now adds.0 ((now, Passed) ∷ c) _ refl adds.1
   ours_left _ us (IsPassing passes) adds = passes.not_ours us
   ours_left _ us (IsStrangePacket not_ours not_passing) adds = not_ours us
 
 -- ---- a frame
 
--- what the frame says is judged so
-pub judged_frame : (start : Start) (c : Chronicle) (now : ℕ) (frame : List ℕ) (role : Role) (said : Outcome) → role ≡ start.role → ((o : Outcome) → Hears frame role o → said ≡ o)
-    → AddsRefusal now c (FrameAdds start now frame) → (verdict : Verdict) × Judges start ((now, Passed) ∷ c) now said verdict × AddsRefusal now c (VerdictAdds start now frame verdict)
-judged_frame start c now frame role said same only adds =
+-- what is read in the frame is judged so
+pub judged_frame : (start : Start) (c : Chronicle) (now : ℕ) (frame : List ℕ) (role : Role) (policies : Policies) (said : Outcome) → role ≡ start.role → policies ≡ start.policies → ((o : Outcome) → Hears frame role o → said ≡ o)
+    → AddsRefusal now c (FrameAdds start now frame)
+    → (verdict : Verdict) × Judges start ((now, Passed) ∷ c) now frame (read_outcome policies said) verdict × AddsRefusal now c (VerdictAdds start now frame verdict)
+judged_frame start c now frame role policies said same asked only adds =
     let h = adds.1.heard in
-    let is : said ≡ h.outcome = only h.outcome (subst (λ (r : Role). Hears frame r h.outcome) (sym same) h.by_frame) in
-    (adds.1.verdict, subst (λ (o : Outcome). Judges start ((now, Passed) ∷ c) now o adds.1.verdict) (sym is) h.by_node, (adds.0, adds.1.adds))
+    let is = one_reading start frame role policies said h.outcome same asked only h.by_frame in
+    (adds.1.verdict, subst (λ (o : Outcome). Judges start ((now, Passed) ∷ c) now frame o adds.1.verdict) (sym is) h.by_node, (adds.0, adds.1.adds))
 
 -- ---- a command
 

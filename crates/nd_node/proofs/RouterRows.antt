@@ -90,6 +90,7 @@ module _ {R A : Type 0} (stream : R → Stream) (start : Start) (old : Node R A)
     role = s.role;
     mac = s.mac;
     chosen = s.chosen;
+    policies = s.policies;
     address_mac = s.address_mac;
     address_transmits = s.address_transmits;
     limits = s.limits;

@@ -65,6 +65,7 @@ pub record Still {R A : Type 0} (old new : Node R A) (now : ℕ) : Type 0 where
   pub role : new.role ≡ old.role
   pub mac : new.mac ≡ old.mac
   pub chosen : new.limits ≡ old.limits
+  pub policies : new.policies ≡ old.policies
   pub generator : new.generator ≡ old.generator
   pub params : new.params ≡ old.params
   pub prefixes : new.prefixes ≡ old.prefixes
@@ -95,6 +96,7 @@ module _ {R A : Type 0} (stream : R → Stream) (start : Start) (old new : Node 
     role = same.role ∙ s.role;
     mac = same.mac ∙ s.mac;
     chosen = same.chosen ∙ s.chosen;
+    policies = same.policies ∙ s.policies;
     address_mac = same.address_mac ∙ s.address_mac;
     address_transmits = same.address_transmits ∙ s.address_transmits;
     limits = record {

@@ -37,6 +37,7 @@ passed stream start old new c now s le settled is = rw is (record {
   role = s.role;
   mac = s.mac;
   chosen = s.chosen;
+  policies = s.policies;
   address_mac = s.address_mac;
   address_transmits = s.address_transmits;
   limits = s.limits;

@@ -139,6 +139,7 @@ pub record Turns {R A : Type 0} (old new : Node R A) (at : ℕ) : Type 0 where
   pub role : new.role ≡ old.role
   pub mac : new.mac ≡ old.mac
   pub chosen : new.limits ≡ old.limits
+  pub policies : new.policies ≡ old.policies
   pub prefixes : new.prefixes ≡ old.prefixes
   pub dns : new.dns ≡ old.dns
   pub address_mac : new.addresses.mac ≡ old.addresses.mac
@@ -166,6 +167,7 @@ module _ {R A : Type 0} (stream : R → Stream) (start : Start) (old new : Node 
     role = turns.role ∙ s.role;
     mac = turns.mac ∙ s.mac;
     chosen = turns.chosen ∙ s.chosen;
+    policies = turns.policies ∙ s.policies;
     address_mac = turns.address_mac ∙ s.address_mac;
     address_transmits = turns.address_transmits ∙ s.address_transmits;
     limits = record {

@@ -23,7 +23,7 @@ pub record AddsAlone {R A : Type 0} (stream : R → Stream) (old new : Node R A)
 -- where it comes from, and is answered.
 pub record AddsJudged {R A : Type 0} (stream : R → Stream) (old new : Node R A) (before after : List (ℕ × Out A)) (now : ℕ) (source destination : Addr) (message : Parts) (answer : Answer) : Type 0 where
   pub each : (frame : List ℕ) (start : Start) (c : Chronicle) → Stands stream start old c → last_moment start.at c ≤ now → IsForUs start ((now, Passed) ∷ c) source destination message
-      → (verdict : Verdict) × (d : Chronicle) × Judges start ((now, Passed) ∷ c) now (valid source destination message) verdict
+      → (verdict : Verdict) × (d : Chronicle) × Judges start ((now, Passed) ∷ c) now frame (valid source destination message) verdict
       × VerdictAdds start now frame verdict ((now, Passed) ∷ c) d × Stands stream start new d × Tells c d before after × (answer ≡ answer_after d false)
 
 -- the node stands for the same as before

@@ -25,6 +25,7 @@ pub record Keeps {R A : Type 0} (old new : Node R A) : Type 0 where
   pub role : new.role ≡ old.role
   pub mac : new.mac ≡ old.mac
   pub chosen : new.limits ≡ old.limits
+  pub policies : new.policies ≡ old.policies
   pub generator : new.generator ≡ old.generator
   pub last : new.last ≡ old.last
   pub params : new.params ≡ old.params

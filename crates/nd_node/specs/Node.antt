@@ -3,13 +3,17 @@ use Rattle.std.specs.Prelude.{ℕ, ◌<◌, ◌≤◌, None}
 use Rattle.rand_core.specs.Stream.{Stream}
 use Rattle.nd_addr.specs.declared.mac.Mac.{Mac}
 use Rattle.nd_addr.specs.declared.role.Role.{Role}
-use Rattle.nd_chronicle.specs.Start.{Start, Limits, no_policies}
+use Rattle.nd_chronicle.specs.Start.{Start, Limits, Policies, no_policies}
 use Rattle.nd_chronicle.specs.Happening.{Chronicle, last_moment}
 use Rattle.nd_chronicle.specs.Due.{Due}
 use Rattle.nd_node.specs.declared.node.Node.{Node}
 
 abbrev pub starting : ℕ → Role → Mac → ℕ → Limits → Stream → Start
 starting at role mac transmits limits stream = record { at = at; role = role; mac = mac; transmits = transmits; stream = stream; limits = limits; policies = no_policies }
+
+-- the same with these policies
+abbrev pub with_policies : Policies → Start → Start
+with_policies policies start = record start { policies = policies }
 
 -- the moment up to which time has passed
 abbrev pub last_of : {R A : Type 0} → Node R A → ℕ

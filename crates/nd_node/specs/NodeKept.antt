@@ -56,6 +56,7 @@ pub record Stands {R A : Type 0} (stream : R → Stream) (start : Start) (node :
   pub role : node.role ≡ start.role
   pub mac : node.mac ≡ start.mac
   pub chosen : node.limits ≡ start.limits
+  pub policies : node.policies ≡ start.policies
   pub address_mac : node.addresses.mac ≡ start.mac
   pub address_transmits : node.addresses.transmits ≡ start.transmits
   pub limits : HasLimits start.limits node.neighbours node.routers node.prefixes node.addresses node.dns node.choice

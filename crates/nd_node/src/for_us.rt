@@ -1,13 +1,13 @@
 //! Decides what is for this node and what a router sends on.
 
-ghost use Rattle.std.specs.Prelude.{◌≡◌, ◌↔◌, true};
+ghost use Rattle.std.specs.Prelude.{◌≡◌, ◌↔◌, true, bytes_eq, slice_range};
 ghost use Rattle.nd_addr.specs.Ip6.{PacketParts};
 ghost use Rattle.nd_decode.specs.Message.{Parts};
 ghost use Rattle.nd_chronicle.specs.Happening.{Chronicle};
 ghost use Rattle.nd_chronicle.specs.Start.{Start};
 
 use crate::node::Node;
-use nd_addr::{Addr, Ip6, Role};
+use nd_addr::{Addr, Ip6, Mac, Role};
 use nd_decode::Body;
 use nd_forwarding::may_be_forwarded;
 use nd_slaac::Counted;
@@ -15,8 +15,18 @@ use nd_steps::{is_awake, is_to_nodes, is_to_routers, takes_target};
 use rand_core::Rng;
 use std::alloc::Allocator;
 
+/// Returns true if the Ethernet destination of a frame is `mac`.
+fn is_to(frame: &[u8], mac: Mac) -> bool
+    ensures { result ≡ bytes_eq (slice_range frame.now 0 6) mac.0 }
+{
+    match frame.get(..mac.0.len()) {
+        Some(destination) => destination == mac.0.as_slice(),
+        None => false,
+    }
+}
+
 impl<R: Rng + Drop, A: Allocator + Clone> Node<R, A> {
-    ghost use Rattle.nd_chronicle.specs.Hearing.{IsOurs, IsForUs, IsInTransit, IsPacketForUs};
+    ghost use Rattle.nd_chronicle.specs.Hearing.{came_to, IsOurs, IsForUs, IsInTransit, IsPacketForUs};
     ghost use Rattle.nd_chronicle.specs.OwnAddress.{is_up};
     ghost use Rattle.nd_steps.specs.OwnAddresses.{counting};
     ghost use Rattle.nd_node.specs.NodeKept.{Stands};
@@ -69,13 +79,26 @@ impl<R: Rng + Drop, A: Allocator + Clone> Node<R, A> {
         self.is_ours(Counted::Assigned, destination)
     }
 
+    /// Returns true if the packet of a frame may be sent on by the frame's Ethernet destination: with the policy `unicast` that is the node's own address.
+    fn came_to(&self, frame: &[u8]) -> bool
+        ensures { (start : Start) (c : Chronicle) → Stands R.stream start self.now c → result ≡ came_to start frame.now }
+    {
+        if !self.policies.unicast() {
+            return true;
+        }
+        is_to(frame, self.mac)
+    }
+
     /// Returns true if a packet that isn't for this node is to be sent on: the node is a router whose link-local address is assigned, the
     /// destination is no address of its own that is tentative still, and neither it nor the source keeps the packet on its link (RFC 4291, section
     /// 2.5.6).
-    pub(crate) fn is_in_transit(&self, header: &Ip6) -> bool
-        ensures { (start : Start) (c : Chronicle) (packet : PacketParts) → Stands R.stream start self.now c → packet.header ≡ header.now → (IsPacketForUs start c packet → ⊥) → result ≡ true ↔ IsInTransit start c packet }
+    pub(crate) fn is_in_transit(&self, frame: &[u8], header: &Ip6) -> bool
+        ensures { (start : Start) (c : Chronicle) (packet : PacketParts) → Stands R.stream start self.now c → packet.header ≡ header.now → (IsPacketForUs start c packet → ⊥) → result ≡ true ↔ IsInTransit start c frame.now packet }
     {
         if self.role == Role::Host {
+            return false;
+        }
+        if !self.came_to(frame) {
             return false;
         }
         if !self.is_up() {

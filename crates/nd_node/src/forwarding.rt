@@ -157,7 +157,6 @@ impl<R: Rng + Drop, A: Allocator + Clone> Node<R, A> {
             self.mac,
             own,
             &self.neighbours,
-            now,
             target,
             packet,
             bytes,

@@ -11,6 +11,7 @@ ghost use Rattle.nd_addr.specs.declared.why.Why.{Why};
 ghost use Rattle.nd_table.specs.Moment.{IsMoment};
 ghost use Rattle.nd_chronicle.specs.Start.{Start};
 ghost use Rattle.nd_chronicle.specs.Happening.{Chronicle, Dropped, Passed, last_moment};
+ghost use Rattle.nd_chronicle.specs.Reading.{IsRead};
 ghost use Rattle.nd_chronicle.specs.Hearing.{Judges, Verdict, drops};
 ghost use Rattle.nd_chronicle.specs.Event as events;
 ghost use Rattle.nd_chronicle.specs.Event.{EventAdds, VerdictAdds};
@@ -56,11 +57,11 @@ impl<R: Rng + Drop, A: Allocator + Clone> Node<R, A> {
         ensures leaves { IfOk result (λ reception. reception.changes_tables ≡ false → self.new ≡ record self.old { last = now }) }
         ensures stays { OnErr result (Stays R.stream self.old self.new) }
         ensures told { OnErr result (outs.new.items ≡ outs.old.items) }
-        ensures refused { (verdict : Verdict) (start : Start) (c : Chronicle) → Stands R.stream start self.old c → last_moment start.at c ≤ now → Judges start ((now, Passed) ∷ c) now (other (packet_parts packet.entry)) verdict → AddsRefusal now c (VerdictAdds start now frame.now verdict) → vec_len outs.old < vec_capacity outs.old → IsOk result }
-        ensures quiet { (why : Why) (start : Start) (c : Chronicle) → Stands R.stream start self.old c → last_moment start.at c ≤ now → Judges start ((now, Passed) ∷ c) now (other (packet_parts packet.entry)) (drops why) → vec_len outs.old < vec_capacity outs.old → IsOk result }
+        ensures refused { (verdict : Verdict) (start : Start) (c : Chronicle) → Stands R.stream start self.old c → last_moment start.at c ≤ now → Judges start ((now, Passed) ∷ c) now frame.now (other (packet_parts packet.entry)) verdict → AddsRefusal now c (VerdictAdds start now frame.now verdict) → vec_len outs.old < vec_capacity outs.old → IsOk result }
+        ensures quiet { (why : Why) (start : Start) (c : Chronicle) → Stands R.stream start self.old c → last_moment start.at c ≤ now → Judges start ((now, Passed) ∷ c) now frame.now (other (packet_parts packet.entry)) (drops why) → vec_len outs.old < vec_capacity outs.old → IsOk result }
     {
         if !self.is_packet_for_us(packet.header.destination) {
-            if self.is_in_transit(&packet.header) {
+            if self.is_in_transit(frame, &packet.header) {
                 let answer = self.forward(now, frame, &packet, outs)?;
                 return Ok(Reception {
                     answer,
@@ -100,7 +101,7 @@ impl<R: Rng + Drop, A: Allocator + Clone> Node<R, A> {
         })
     }
 
-    /// Handles a valid message if it is for this node.
+    /// Handles a valid message, as the policies read it, if it is for this node.
     fn judge_message(
         &mut self,
         now: u64,
@@ -109,13 +110,13 @@ impl<R: Rng + Drop, A: Allocator + Clone> Node<R, A> {
     ) -> Result<Reception, AllocError>
         requires moment { IsMoment now }
         requires settled { now < next_of self.old }
-        ensures adds { IfOk result (λ reception. (frame : List ℕ) → Hears frame self.old.role (valid heard.now.source heard.now.destination (parts heard.now.message)) → AddsEvent R.stream self.old self.new outs.old.items outs.new.items now (events.Receives frame) (answer_of reception.answer)) }
+        ensures adds { IfOk result (λ reception. (frame : List ℕ) → IsRead self.old.policies frame self.old.role (valid heard.now.source heard.now.destination (parts heard.now.message)) → AddsEvent R.stream self.old self.new outs.old.items outs.new.items now (events.Receives frame) (answer_of reception.answer)) }
         ensures leaves { IfOk result (λ reception. reception.changes_tables ≡ false → self.new ≡ record self.old { last = now }) }
         ensures stays { OnErr result (Stays R.stream self.old self.new) }
         ensures told { OnErr result (outs.new.items ≡ outs.old.items) }
-        ensures refused { (frame : List ℕ) (verdict : Verdict) (start : Start) (c : Chronicle) → Stands R.stream start self.old c → last_moment start.at c ≤ now → Judges start ((now, Passed) ∷ c) now (valid heard.now.source heard.now.destination (parts heard.now.message)) verdict → AddsRefusal now c (VerdictAdds start now frame verdict) → vec_len outs.old < vec_capacity outs.old → IsOk result }
+        ensures refused { (frame : List ℕ) (verdict : Verdict) (start : Start) (c : Chronicle) → Stands R.stream start self.old c → last_moment start.at c ≤ now → Judges start ((now, Passed) ∷ c) now frame (valid heard.now.source heard.now.destination (parts heard.now.message)) verdict → AddsRefusal now c (VerdictAdds start now frame verdict) → vec_len outs.old < vec_capacity outs.old → IsOk result }
         ensures quiet { (ra : RouterAdvertisement) → heard.now.message.body ≡ bodies.Ra ra → AddsNoName self.old now heard.now.source (options_left heard.now.message.options) (vec_capacity outs.old - vec_len outs.old) → IsOk result }
-        ensures dropped { (why : Why) (start : Start) (c : Chronicle) → Stands R.stream start self.old c → last_moment start.at c ≤ now → Judges start ((now, Passed) ∷ c) now (valid heard.now.source heard.now.destination (parts heard.now.message)) (drops why) → vec_len outs.old < vec_capacity outs.old → IsOk result }
+        ensures dropped { (frame : List ℕ) (why : Why) (start : Start) (c : Chronicle) → Stands R.stream start self.old c → last_moment start.at c ≤ now → Judges start ((now, Passed) ∷ c) now frame (valid heard.now.source heard.now.destination (parts heard.now.message)) (drops why) → vec_len outs.old < vec_capacity outs.old → IsOk result }
     {
         if !self.is_for_us(heard.source, heard.destination, &heard.message.body) {
             return self.drop_unheard(now, Why::NotForUs, outs);
@@ -148,7 +149,10 @@ impl<R: Rng + Drop, A: Allocator + Clone> Node<R, A> {
         match hear(frame, self.role) {
             Hearing::Drop(why) => self.drop_unheard(now, why, outs),
             Hearing::Other(packet) => self.hear_packet(now, frame, packet, outs),
-            Hearing::Valid(heard) => self.judge_message(now, &heard, outs),
+            Hearing::Valid(mut heard) => {
+                self.policies.read_body(&mut heard.message.body);
+                self.judge_message(now, &heard, outs)
+            }
         }
     }
     /// Receives a frame as `hear_frame` does, and returns how the node took the event.

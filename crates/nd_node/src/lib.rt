@@ -19,6 +19,7 @@
 //! # What each call does
 //!
 //! - `Node::new` starts a node: its link-local address is tentative, and duplicate address detection is due (RFC 4862, sections 5.3 and 5.4).
+//!   `with_policies` gives it policies for a link that isn't trusted.
 //! - `event` does all that is due up to a moment, then what the event asks for. It appends what the node sends and reports to a list of `Out`, each
 //!   with its moment, and returns how the node took the event (`Answer`). `receive` does so for a frame and `send` for a packet that the caller
 //!   keeps, `run` for a list of events. A refused event adds its reason alone (`Out::Refused`).
@@ -69,6 +70,7 @@ mod node;
 mod outgoing_packet;
 mod packet;
 mod path;
+mod policies;
 mod reachability_confirmation;
 mod redirect;
 mod refusal;
@@ -92,6 +94,7 @@ pub use limits::{Limits, USUAL_NEIGHBOURS, USUAL_ROUTERS};
 pub use nd_steps::{OutgoingPacket, Turned};
 pub use node::Node;
 pub use path::{Path, TimedPath};
+pub use policies::Policies;
 pub use resolve::Resolution;
 pub use time::Turn;
 pub use version::{VERSION, VERSION_NUMBER};

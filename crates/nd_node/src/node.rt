@@ -2,8 +2,10 @@
 
 ghost use Rattle.std.specs.Prelude.{◌≡◌, ◌<◌, IfOk, IfErr};
 ghost use Rattle.nd_table.specs.Moment.{IsMoment};
+ghost use Rattle.nd_chronicle.specs.Start.{Start};
 
 use crate::limits::Limits;
+use crate::policies::Policies;
 use crate::room::Room;
 use nd_addr::{Mac, Role};
 use nd_dns::Dns;
@@ -25,6 +27,7 @@ pub struct Node<R, A: Allocator> {
     pub(crate) mac: Mac,
     /// The limits that it was started with.
     pub(crate) limits: Limits,
+    pub(crate) policies: Policies,
     pub(crate) generator: R,
     /// The moment up to which time has passed. Only `advance_to` of `clock.rt` changes it.
     pub(crate) last: u64,
@@ -41,13 +44,13 @@ pub struct Node<R, A: Allocator> {
 
 impl<R: Rng + Drop, A: Allocator + Copy> Node<R, A> {
     ghost use Rattle.nd_chronicle.specs.History.{beginning};
-    ghost use Rattle.nd_node.specs.Node.{starting};
+    ghost use Rattle.nd_node.specs.Node.{starting, with_policies};
     ghost use Rattle.nd_node.specs.NodeKept.{Stands};
 
     /// Starts a node at `start`, in milliseconds. It draws its ReachableTime, then the delay of the first solicitation for its link-local address,
     /// and forms that address (RFC 4861, section 6.3.2; RFC 4862, sections 5.3 and 5.4.2). `transmits` is the number of solicitations that it sends
-    /// for each address, and `limits` says how many rows each of its tables keeps at most. If out of memory, returns the generator with no word
-    /// drawn.
+    /// for each address, and `limits` says how many rows each of its tables keeps at most. It has no policies. If out of memory, returns the generator
+    /// with no word drawn.
     pub fn new(
         alloc: A,
         role: Role,
@@ -72,6 +75,7 @@ impl<R: Rng + Drop, A: Allocator + Copy> Node<R, A> {
             role,
             mac,
             limits,
+            policies: Policies::none(),
             generator,
             last: start,
             params,
@@ -91,5 +95,14 @@ impl<R: Rng + Drop, A: Allocator + Copy> Node<R, A> {
             solicitations: RouterSolicitations::new(),
             router: room.router,
         })
+    }
+
+    /// Returns a node that has just started with these policies.
+    pub fn with_policies(mut self, policies: Policies) -> Self
+        ensures value { result ≡ record self { policies = policies } }
+        ensures stands { (start : Start) → Stands R.stream start self (beginning start) → Stands R.stream (with_policies policies start) result (beginning (with_policies policies start)) }
+    {
+        self.policies = policies;
+        self
     }
 }

@@ -1,6 +1,6 @@
 //! Where packets to a destination go, and until when they may be sent there without a question. The definition is in `specs/Path.antt`.
 
-ghost use Rattle.std.specs.Prelude.{◌≡◌, ℕ, ◌+◌, ◌<◌, ◌≤◌, ◌&&◌, Option};
+ghost use Rattle.std.specs.Prelude.{◌≡◌, ◌↔◌, ℕ, ◌+◌, ◌<◌, ◌≤◌, ◌&&◌, IfSome, IsSome, Option};
 ghost use Rattle.std.specs.Option.{option_map};
 ghost use Rattle.nd_addr.specs.Number.{number_of};
 ghost use Rattle.nd_table.specs.Listing.{open_at};
@@ -15,6 +15,7 @@ ghost use Rattle.nd_node.specs.Path.{IsPath, Lasts, first_end, lease, path_by, p
 
 use crate::due::earlier;
 use crate::node::Node;
+use crate::reachability_confirmation::neighbour_by;
 use nd_addr::{Addr, Mac, Role};
 use nd_neighbour::{Neighbour, Reachability};
 use nd_nexthop::Hop;
@@ -91,7 +92,7 @@ fn path_to_all(up: bool, now: u64, due: u64, destination: Addr) -> Path
 
 impl<R: Rng + Drop, A: Allocator + Clone> Node<R, A> {
     ghost use Rattle.nd_node.specs.NodeKept.{Stands, next_of};
-    ghost use Rattle.nd_node.specs.PathKept.{left_kept, left_of, path_kept};
+    ghost use Rattle.nd_node.specs.PathKept.{hop_kept, left_kept, left_of, path_kept};
 
     /// Returns the end of the lease of a path to a neighbour that stays REACHABLE for the time `left`, if it is. Something is due at `due`.
     fn lease(&self, leased: bool, now: u64, due: u64, left: Option<u64>) -> u64
@@ -114,7 +115,7 @@ impl<R: Rng + Drop, A: Allocator + Clone> Node<R, A> {
         ensures left { result.reachable_left ≡ left_of (option_map (seen now) (entry_in (number_of to.0) self.now.neighbours.entries)) }
         ensures path { path_in result.path ≡ path_by up now due (first_end self.now.role (open_at now self.now.prefixes.entries)) (hop_of hop) (option_map (seen now) (entry_in (number_of to.0) self.now.neighbours.entries)) }
     {
-        let Some(neighbour) = self.neighbours.entry(now, to) else {
+        let Some(neighbour) = self.neighbours.get(to) else {
             return TimedPath::without_time(Path {
                 hop,
                 mac: None,
@@ -122,15 +123,17 @@ impl<R: Rng + Drop, A: Allocator + Clone> Node<R, A> {
                 until: now,
             });
         };
-        let leased = up && is_leased(neighbour.state);
+        let state = neighbour.state(now);
+        let left = neighbour.reachable_left(now);
+        let leased = up && is_leased(state);
         TimedPath {
             path: Path {
                 hop,
-                mac: neighbour.mac,
-                state: Some(neighbour.state),
-                until: self.lease(leased, now, due, neighbour.reachable_left),
+                mac: neighbour.mac(),
+                state: Some(state),
+                until: self.lease(leased, now, due, left),
             },
-            reachable_left: neighbour.reachable_left,
+            reachable_left: left,
         }
     }
 
@@ -142,18 +145,46 @@ impl<R: Rng + Drop, A: Allocator + Clone> Node<R, A> {
         ensures value { path_in result ≡ path_kept self.now now destination }
         ensures lasts { (start : Start) (c : Chronicle) (moment : ℕ) → Stands R.stream start self.now c → last_moment start.at c ≤ now → now ≤ moment → moment < result.until → Lasts start c moment destination (path_in result) }
     {
-        self.timed_path(now, destination).path
+        let hop = self.next_hop_to(now, destination);
+        self.path_through(now, self.next_due(), hop, destination)
+            .path
     }
 
-    /// Returns the path of a destination, as `path` does, and for how long its neighbour still is REACHABLE.
-    pub fn timed_path(&self, now: u64, destination: Addr) -> TimedPath
-        requires settled { now < next_of self.now }
+    /// Returns the path of a destination, as `path` does, and for how long its neighbour still is REACHABLE: `None` if something is due up to `now`. It keeps
+    /// the place of that neighbour: if the next question is about it, it needs no search.
+    pub fn timed_path(&mut self, now: u64, destination: Addr) -> Option<TimedPath>
+        ensures settled { IsSome result ↔ (now < next_of self.old) }
+        ensures value { IfSome result (λ timed. path_in timed.path ≡ path_kept self.old now destination) }
+        ensures left { IfSome result (λ timed. timed.reachable_left ≡ left_kept self.old now destination) }
+        ensures same { self.new ≡ self.old }
+    {
+        let due = self.next_due();
+        if due <= now {
+            return None;
+        }
+        let hop = self.next_hop_to(now, destination);
+        self.seek(hop, destination);
+        Some(self.path_through(now, due, hop, destination))
+    }
+
+    /// Keeps the place of the neighbour that packets to a destination go to by the next hop.
+    fn seek(&mut self, hop: Hop, destination: Addr)
+        ensures { self.new ≡ self.old }
+    {
+        if let Some(neighbour) = neighbour_by(hop, destination) {
+            let _is_there = self.neighbours.seek(neighbour);
+        }
+    }
+
+    /// Returns the path of a destination by its next hop, and for how long its neighbour still is REACHABLE. Something is due at `due`.
+    fn path_through(&self, now: u64, due: u64, hop: Hop, destination: Addr) -> TimedPath
+        requires settled { now < due }
+        requires due { due ≡ next_of self.now }
+        requires hop { hop_of hop ≡ hop_kept self.now.role self.now now destination }
         ensures value { path_in result.path ≡ path_kept self.now now destination }
         ensures left { result.reachable_left ≡ left_kept self.now now destination }
     {
         let up = self.is_up();
-        let due = self.next_due();
-        let hop = self.next_hop_to(now, destination);
         match hop {
             Hop::NoRoute => TimedPath::without_time(Path {
                 hop,

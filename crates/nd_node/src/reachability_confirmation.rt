@@ -40,7 +40,7 @@ fn moves_by(reachable: u64, least: u64, state: Reachability, left: Option<u64>) 
 }
 
 /// Returns the neighbour that packets to `destination` go to by the next hop.
-fn neighbour_by(hop: Hop, destination: Addr) -> Option<Addr>
+pub(crate) fn neighbour_by(hop: Hop, destination: Addr) -> Option<Addr>
     ensures { option_map (λ addr. number_of addr.0) result ≡ neighbour_by (hop_of hop) (number_of destination.0) }
 {
     match hop {

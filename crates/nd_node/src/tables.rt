@@ -39,7 +39,7 @@ use nd_addr::{Addr, Prefix, Role};
 use nd_advertiser::{Config, OfferRows};
 use nd_dns::{SearchName, WithLifetimes};
 use nd_forwarding::KeptRoutes;
-use nd_neighbour::{Neighbour, Neighbours};
+use nd_neighbour::{Neighbour, Neighbours, Reachability};
 use nd_nexthop::{Hop, KeptRedirects};
 use nd_params::Params;
 use nd_routers::DefaultRouters;
@@ -70,6 +70,13 @@ impl<R: Rng + Drop, A: Allocator + Clone> Node<R, A> {
             → option_map (λ n. neighbour_view.seen_in n) result ≡ neighbours.seen_of (number_of addr.0) (neighbour_rows.story (number_of addr.0) (neighbour_history c)) now }
     {
         self.neighbours.entry(now, addr)
+    }
+
+    /// Returns the state of the neighbour of an address at `now`, if there is an entry for it (RFC 4861, section 7.3.2).
+    pub fn neighbour_state(&self, now: u64, addr: Addr) -> Option<Reachability>
+        ensures { result ≡ option_map (λ n. n.state) (option_map (seen now) (entry_in (number_of addr.0) self.now.neighbours.entries)) }
+    {
+        Some(self.neighbours.get(addr)?.state(now))
     }
 
     /// Returns the default routers as they are at `now`, in the order in which they entered the list (RFC 4861, section 5.1).

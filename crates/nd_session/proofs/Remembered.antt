@@ -106,6 +106,18 @@ module _ (node : Node Source Global) (now : ℕ) (destination to : Addr) (mac : 
 
 -- ---- what is recalled
 
+-- a path that is remembered is recalled
+pub recalls_one : (slots : Slots) (now version : ℕ) (path : LeasedPath) (found : Option LeasedPath) → slots.version ≡ version → path.from ≡ now → now < path.until
+    → IfSome found (λ p. Contains slots.paths p) → IfSome found (λ p. p ≡ record path { version = version }) → IfSome found (λ p. IsRecalled slots now path.destination p)
+recalls_one slots now version path None same from until there is = there
+recalls_one slots now version path (Some p) same from until there is = record {
+  there = there;
+  version = ap (λ (q : LeasedPath). q.version) is ∙ sym same;
+  destination_is = ap (λ (q : LeasedPath). q.destination) is;
+  from = subst (λ (q : LeasedPath). q.from ≤ now) (sym is) (omega (arith, from));
+  until = subst (λ (q : LeasedPath). now < q.until) (sym is) until;
+}
+
 module _ (slots : Slots) (node : Node Source Global) (now : ℕ) (destination : Addr) (path : LeasedPath) (r : AreRemembered slots node) (recalled : IsRecalled slots now destination path) where
   here : IsPathAt node path now
   here = r path recalled.there recalled.version now recalled.from recalled.until

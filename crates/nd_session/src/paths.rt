@@ -175,17 +175,21 @@ impl Paths {
         None
     }
 
-    /// Remembers a path in a slot of its destination.
-    pub(crate) fn remember(&mut self, mut path: LeasedPath)
+    /// Remembers a path in a slot of its destination, and returns it as it is remembered. At the last version nothing is.
+    pub(crate) fn remember(&mut self, mut path: LeasedPath) -> Option<LeasedPath>
         ensures version { self.new.version ≡ self.old.version }
         ensures leases { self.new.leases ≡ self.old.leases }
         ensures paths { (p : _) → Contains self.new.paths p → Contains self.old.paths p ⊎ (p ≡ record path { version = self.old.version }) }
+        ensures there { IfSome result (λ p. Contains self.new.paths p) }
+        ensures value { IfSome result (λ p. p ≡ record path { version = self.old.version }) }
     {
         path.version = self.version;
         let slot = self.free_slot(path.from, path.destination);
         if slot < self.slots.len() && self.version < LAST_VERSION {
             self.slots[slot] = path;
+            return Some(path);
         }
+        None
     }
 
     /// Returns the first slot of a destination that has no path of another one at `now`, in milliseconds, or else its first slot.

@@ -1,6 +1,6 @@
 //! Where packets go of a caller that keeps them (RFC 4861, sections 5.2, 7.2.2 and 7.3.3). The definitions are in `specs/Resolve.antt`.
 
-ghost use Rattle.std.specs.Prelude.{◌≡◌, ◌+◌, ◌<◌, ◌≤◌, ◌-◌, ◌⊎◌, true, IfSome, MatchBool, MatchResult, None, Some};
+ghost use Rattle.std.specs.Prelude.{◌≡◌, ◌+◌, ◌<◌, ◌≤◌, ◌-◌, ◌⊎◌, true, IfOk, IfSome, OnOk, MatchBool, MatchResult, None, Some};
 ghost use Rattle.nd_addr.specs.Number.{number_of};
 ghost use Rattle.nd_table.specs.Moment.{IsMoment};
 ghost use Rattle.nd_neighbour.specs.declared.shown.Reachability.TheVariants.{Delay};
@@ -10,7 +10,7 @@ ghost use Rattle.nd_node.specs.Node.{last_of};
 ghost use Rattle.nd_node.specs.NodeKept.{Stands, next_of};
 ghost use Rattle.nd_node.specs.Path.{path_in};
 ghost use Rattle.nd_node.specs.PathKept.{left_kept, path_kept, towards};
-ghost use Rattle.nd_node.specs.Time.{Onward};
+ghost use Rattle.nd_node.specs.Time.{Onward, Passes};
 ghost use Rattle.nd_random.specs.Source.{stream_of_source};
 ghost use Rattle.nd_session.specs.Event.{LedBy};
 ghost use Rattle.nd_session.specs.Leases.{KeepsLeases};
@@ -100,14 +100,11 @@ impl Session {
         if !is_delayed(path.state) {
             return true;
         }
-        match self.node.neighbour(path.until - 1, to) {
-            Some(neighbour) => is_delayed(Some(neighbour.state)),
-            None => false,
-        }
+        is_delayed(self.node.neighbour_state(path.until - 1, to))
     }
 
-    /// Remembers the path of a destination at `now`, in milliseconds, up to which nothing is due, if it has a lease.
-    fn remember(&mut self, now: u64, destination: Addr, timed: TimedPath)
+    /// Remembers the path of a destination at `now`, in milliseconds, up to which nothing is due, if it has a lease, and returns it as `Paths::recall` does.
+    fn remember(&mut self, now: u64, destination: Addr, timed: TimedPath) -> Option<LeasedPath>
         requires settled { now < next_of self.old.node }
         requires path { path_in timed.path ≡ path_kept self.old.node now destination }
         requires left { timed.reachable_left ≡ left_kept self.old.node now destination }
@@ -115,26 +112,28 @@ impl Session {
         ensures queue { self.new.queue ≡ self.old.queue }
         ensures room { self.new.room ≡ self.old.room }
         ensures version { self.new.paths.leases ≡ self.old.paths.leases }
+        ensures recalled { IfSome result (λ path. IsRecalled self.new.paths now destination path) }
     {
         let path = timed.path;
         let Some((to, mac)) = leased_to(now, destination, path) else {
-            return;
+            return None;
         };
         let Some(reachable_until) = end_of(now, timed.reachable_left) else {
-            return;
+            return None;
         };
-        if self.is_steady(now, destination, to, path) {
-            self.paths.remember(LeasedPath {
-                destination,
-                to,
-                mac,
-                state: path.state,
-                reachable_until,
-                from: now,
-                until: path.until,
-                version: 0,
-            });
+        if !self.is_steady(now, destination, to, path) {
+            return None;
         }
+        self.paths.remember(LeasedPath {
+            destination,
+            to,
+            mac,
+            state: path.state,
+            reachable_until,
+            from: now,
+            until: path.until,
+            version: 0,
+        })
     }
 
     /// Returns the answer with the state of the neighbour and the lease, and remembers the path. If something is due at `now`, in milliseconds, already,
@@ -150,15 +149,14 @@ impl Session {
         match resolution {
             Resolution::Refused(refusal) => PathAnswer::Refused(refusal),
             Resolution::Path(way) => {
-                if !self.node.settled(now) {
+                let Some(timed) = self.node.timed_path(now, destination) else {
                     return PathAnswer::Path {
                         way,
                         state: None,
                         until: now,
                     };
-                }
-                let timed = self.node.timed_path(now, destination);
-                self.remember(now, destination, timed);
+                };
+                let _remembered = self.remember(now, destination, timed);
                 PathAnswer::Path {
                     way,
                     state: timed.path.state,
@@ -187,6 +185,28 @@ impl Session {
         }
     }
 
+    /// Does what is due up to `now`, in milliseconds, as `settle` does, and returns the path of a destination then, and for how long its neighbour still is
+    /// REACHABLE.
+    fn settled_path(&mut self, now: u64, destination: Addr) -> Result<TimedPath, AllocError>
+        requires { IsMoment now }
+        ensures passes { OnOk result (LedBy self.old self.new (Passes now)) }
+        ensures settled { OnOk result (now < next_of self.new.node) }
+        ensures value { IfOk result (λ timed. path_in timed.path ≡ path_kept self.new.node now destination) }
+        ensures left { IfOk result (λ timed. timed.reachable_left ≡ left_kept self.new.node now destination) }
+        ensures onward { LedBy self.old self.new (Onward now) }
+        ensures ready { IsReady self.old → IsReady self.new }
+        ensures leases { KeepsLeases self.old self.new }
+    {
+        if let Some(timed) = self.node.timed_path(now, destination) {
+            return Ok(timed);
+        }
+        self.settle(now)?;
+        match self.node.timed_path(now, destination) {
+            Some(timed) => Ok(timed),
+            None => unreachable!(),
+        }
+    }
+
     /// Does what is due up to `now`, in milliseconds, and answers by the node; the path is remembered if it has a lease. Otherwise as `resolve`.
     #[inline(never)]
     fn look_up(&mut self, now: u64, destination: Addr) -> Result<PathAnswer, AllocError>
@@ -196,10 +216,8 @@ impl Session {
         ensures ready { (start : Start) (c : Chronicle) → Stands stream_of_source start self.old.node c → IsReady self.old → IsReady self.new }
         ensures leases { KeepsLeases self.old self.new }
     {
-        self.settle(now)?;
-        let timed = self.node.timed_path(now, destination);
-        self.remember(now, destination, timed);
-        if let Some(path) = self.paths.recall(now, destination) {
+        let timed = self.settled_path(now, destination)?;
+        if let Some(path) = self.remember(now, destination, timed) {
             return Ok(self.answer_within(now, destination, path));
         }
         self.paths.forget();

@@ -11,7 +11,7 @@ ghost use Rattle.nd_chronicle.specs.History.{beginning};
 ghost use Rattle.nd_chronicle.specs.Start.{Start};
 ghost use Rattle.nd_out.specs.Out.{happening};
 ghost use Rattle.nd_node.specs.Event.{event_of};
-ghost use Rattle.nd_node.specs.Node.{starting, last_of};
+ghost use Rattle.nd_node.specs.Node.{starting, last_of, with_policies};
 ghost use Rattle.nd_node.specs.NodeKept.{Stands, next_of};
 ghost use Rattle.nd_node.specs.Time.{Advances, IsInHand, Leads, Onward, Passes, longest_due};
 ghost use Rattle.nd_steps.specs.Outputs.{frame_sent};
@@ -25,7 +25,7 @@ use crate::paths::Paths;
 use crate::queue::Queue;
 use nd_addr::{Addr, Mac, Role};
 use nd_compose::FrameRoom;
-use nd_node::{Answer, Event, Limits, Node, Reception};
+use nd_node::{Answer, Event, Limits, Node, Policies, Reception};
 use nd_out::Out;
 use nd_random::Source;
 use nd_slaac::Transmits;
@@ -50,8 +50,8 @@ impl Session {
     ghost use Rattle.nd_session.specs.Ready.{IsReady};
 
     /// Starts a node at `start`, in milliseconds, whose random words come from `source`. Its queue is empty. `transmits` is the number of
-    /// solicitations that it sends for each address, and `limits` says how many rows each of its tables keeps at most. Returns an error if out of
-    /// memory.
+    /// solicitations that it sends for each address, `limits` says how many rows each of its tables keeps at most, and `policies` what it does on a link
+    /// that isn't trusted. Returns an error if out of memory.
     pub fn start(
         alloc: Global,
         role: Role,
@@ -59,10 +59,11 @@ impl Session {
         start: u64,
         transmits: Transmits,
         limits: Limits,
+        policies: Policies,
         source: Source,
     ) -> Result<Session, AllocError>
         requires { IsMoment start }
-        ensures stands { IfOk result (λ s. let first = starting start role mac transmits limits (stream_of_source source) in Stands stream_of_source first s.node (beginning first)) }
+        ensures stands { IfOk result (λ s. let first = with_policies policies (starting start role mac transmits limits (stream_of_source source)) in Stands stream_of_source first s.node (beginning first)) }
         ensures empty { IfOk result (λ s. s.queue ≡ []) }
         ensures ready { IfOk result IsReady }
     {
@@ -70,6 +71,7 @@ impl Session {
         let paths = Paths::new(alloc, limits.destinations())?;
         match Node::new(alloc, role, mac, start, transmits, limits, source) {
             Ok(node) => {
+                let node = node.with_policies(policies);
                 let room = FrameRoom::with_room(alloc, node.longest_due())?;
                 Ok(Session {
                     node,

@@ -1,7 +1,7 @@
 //! A session runs, in and out of a slot: what no clause says, since each call may be out of memory.
 
 use nd_addr::{Addr, Mac, Role};
-use nd_node::{Event, Limits};
+use nd_node::{Event, Limits, Policies};
 use nd_random::Source;
 use nd_session::{Session, Slot};
 use nd_slaac::Transmits;
@@ -30,6 +30,7 @@ fn host_in_slot(rt: &(impl Abort + AllocGlobal)) -> Slot {
         0,
         Transmits::ONE,
         limits,
+        Policies::none(),
         Source::seeded(0),
     )
     .expect(rt, "memory");

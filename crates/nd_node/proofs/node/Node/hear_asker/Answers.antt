@@ -39,7 +39,7 @@ returns-clause-adds g c =
     answered g.R.Rng.stream c.args.self.now (record c.args.self.now { last = c.args.now; neighbours = heard.new.neighbours; choice = heard.new.choice }) c.args.outs.now.items c.make_room.new.outs.items before after
     c.args.now c.args.heard.now.source c.args.heard.now.destination c.args.ns.now (options_left c.args.heard.now.message.options) c.requires.settled times c.news_of-news.result heard.result _
     c.none_overdue.ensures.still c.none_overdue.ensures.table c.one_is_pushed_out.ensures
-    (record { role = refl; mac = refl; chosen = refl; generator = refl; last = refl; params = refl; routers = refl; prefixes = refl; dns = refl; redirects = may_redirects c.args.self.now.choice heard.new.choice c.make_room.new.neighbours.entries heard.new.neighbours.entries hears.remembers; solicitations = refl; router = refl; address_mac = refl; address_transmits = refl; address_limit = refl; neighbour_limit = hears.limit ∙ c.make_room.ensures.limit; waiting = hears.waiting ∙ c.make_room.ensures.waiting })
+    (record { role = refl; mac = refl; chosen = refl; policies = refl; generator = refl; last = refl; params = refl; routers = refl; prefixes = refl; dns = refl; redirects = may_redirects c.args.self.now.choice heard.new.choice c.make_room.new.neighbours.entries heard.new.neighbours.entries hears.remembers; solicitations = refl; router = refl; address_mac = refl; address_transmits = refl; address_limit = refl; neighbour_limit = hears.limit ∙ c.make_room.ensures.limit; waiting = hears.waiting ∙ c.make_room.ensures.waiting })
     refl (subst (λ (entries : List neighbour_entries.NeighbourEntry). MayRemember c.args.self.now.choice heard.new.choice entries heard.new.neighbours.entries) c.make_room.ensures.entries hears.remembers)
     (rw c.requires.body at (c.news_of-news.ensures times)) (rw e at c.times_in_force-times.ensures.reachable)
     (subst (λ (limit : ℕ). HearsOf limit c.args.now (option_map (said_by times) c.news_of-news.result) c.args.self.now.neighbours.entries heard.new.neighbours.entries before after heard.result) c.make_room.ensures.limit

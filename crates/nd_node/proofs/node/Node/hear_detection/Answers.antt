@@ -10,7 +10,7 @@ returns-then-hear_conflict-clause-adds g c = λ options.
     rw e (duplicates g.R.Rng.stream c.args.self.now _ c.args.outs.now.items _ _ c.push_reserved.new.self.items c.args.now c.args.heard.now.source c.args.heard.now.destination c.args.ns.now options
     c.requires.unspecified c.requires.settled _ _ refl c.in_ok-reserve.ensures.items (rw c.requires.body at c.report_heard.ensures.items) c.push_reserved.ensures.items
     c.none_overdue.ensures.still c.none_overdue.ensures.table refl
-    (record { role = refl; mac = refl; chosen = refl; generator = refl; last = refl; params = refl; routers = refl; prefixes = refl; dns = refl; redirects = ap (λ t. t.redirects) conflict.remembers; solicitations = refl; router = refl; address_mac = conflict.mac; address_transmits = conflict.transmits; address_limit = conflict.limit; neighbour_limit = refl; waiting = refl })
+    (record { role = refl; mac = refl; chosen = refl; policies = refl; generator = refl; last = refl; params = refl; routers = refl; prefixes = refl; dns = refl; redirects = ap (λ t. t.redirects) conflict.remembers; solicitations = refl; router = refl; address_mac = conflict.mac; address_transmits = conflict.transmits; address_limit = conflict.limit; neighbour_limit = refl; waiting = refl })
     conflict.remembers refl conflict.tentative (conflict.gains refl c.args.now))
 
 pub returns-clause-adds : goal.returns-clause-adds

@@ -25,6 +25,7 @@ returns-clause-adds g c =
       role = refl;
       mac = refl;
       chosen = refl;
+      policies = refl;
       generator = refl;
       params = refl;
       prefixes = refl;

@@ -28,7 +28,7 @@ returns-in_err-answer-clause-quiet g c = λ why start c' s le judged place.
     let packet : PacketParts = packet_parts c.args.packet in
     let stranger = is_not c.is_packet_for_us.result (IsPacketForUs start c' packet) (c.is_packet_for_us.ensures start c' packet s refl) c.if-not-is_packet_for_us.true in
     let passes = (c.is_in_transit.ensures start c' packet s refl stranger).0 c.if-is_in_transit.true in
-    absurd (passing_stays start ((c.args.now, Passed) ∷ c') c.args.now packet why (in_transit_later start c' c.args.now packet passes) judged)
+    absurd (passing_stays start ((c.args.now, Passed) ∷ c') c.args.now packet why (in_transit_later start c' c.args.now c.args.frame.now packet passes) judged)
 
 pub returns-then-not-is_packet_for_us-clause-adds : goal.returns-then-not-is_packet_for_us-clause-adds
 returns-then-not-is_packet_for_us-clause-adds g c =
@@ -67,7 +67,7 @@ pub returns-in_err-answer-clause-refused : goal.returns-in_err-answer-clause-ref
 returns-in_err-answer-clause-refused g c = λ verdict start c' s le judged adds place.
     let packet : PacketParts = packet_parts c.args.packet in
     let stranger = is_not c.is_packet_for_us.result (IsPacketForUs start c' packet) (c.is_packet_for_us.ensures start c' packet s refl) c.if-not-is_packet_for_us.true in
-    let passes = in_transit_later start c' c.args.now packet ((c.is_in_transit.ensures start c' packet s refl stranger).0 c.if-is_in_transit.true) in
+    let passes = in_transit_later start c' c.args.now c.args.frame.now packet ((c.is_in_transit.ensures start c' packet s refl stranger).0 c.if-is_in_transit.true) in
     absurd (true≢false (sym (c.in_err-answer.ensures.refused (packet_bytes c.args.frame.now) start c' s (passing_refused start c.args.now c.args.frame.now packet c' verdict passes.not_ours judged adds) place)))
 
 pub returns-in_err-clone-clause-refused : goal.returns-in_err-clone-clause-refused

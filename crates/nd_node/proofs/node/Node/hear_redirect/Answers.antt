@@ -29,7 +29,7 @@ returns-clause-adds g c =
     rw e (adds_message g.R.Rng.stream c.args.self.now c.args.now c.args.heard.now.source c.args.heard.now.destination (bodies.Redirect c.args.redirect.now) (options_left c.args.heard.now.message.options) nothing (plain_redirect c.args.now c.args.heard.now.source c.args.heard.now.destination c.args.redirect.now (options_left c.args.heard.now.message.options)) c.requires.settled times c.news_of-news.result
     (rw c.requires.body at (c.news_of-news.ensures times)) (rw e at c.times_in_force-times.ensures.reachable) (record c.args.self.now { last = c.args.now; neighbours = c.hear_of_neighbour.new.neighbours; choice = c.hear_of_neighbour.new.choice }) _ c.args.outs.now.items c.reserve.new.self.items c.report_heard.new.outs.items c.hear_of_neighbour.new.outs.items c.hear_of_neighbour.result _
     c.none_overdue.ensures.still c.none_overdue.ensures.table c.one_is_pushed_out.ensures
-    (record { role = refl; mac = refl; chosen = refl; generator = refl; params = refl; prefixes = refl; dns = refl; solicitations = refl; router = refl; address_mac = refl; address_transmits = refl; address_limit = refl; neighbour_limit = heard.limit; waiting = heard.waiting; router_limit = refl; room = room_then c.args.self.now.choice c.redirected.new.self c.hear_of_neighbour.new.choice (record { redirects = c.redirected.ensures.limit; destinations = c.redirected.ensures.destinations }) (room_kept c.redirected.new.self c.hear_of_neighbour.new.choice (may_redirects c.redirected.new.self c.hear_of_neighbour.new.choice c.args.self.now.neighbours.entries c.hear_of_neighbour.new.neighbours.entries heard.remembers)); last = refl })
+    (record { role = refl; mac = refl; chosen = refl; policies = refl; generator = refl; params = refl; prefixes = refl; dns = refl; solicitations = refl; router = refl; address_mac = refl; address_transmits = refl; address_limit = refl; neighbour_limit = heard.limit; waiting = heard.waiting; router_limit = refl; room = room_then c.args.self.now.choice c.redirected.new.self c.hear_of_neighbour.new.choice (record { redirects = c.redirected.ensures.limit; destinations = c.redirected.ensures.destinations }) (room_kept c.redirected.new.self c.hear_of_neighbour.new.choice (may_redirects c.redirected.new.self c.hear_of_neighbour.new.choice c.args.self.now.neighbours.entries c.hear_of_neighbour.new.neighbours.entries heard.remembers)); last = refl })
     refl refl
     (λ start c' s le. forgets c.args.self.now (record c.args.self.now { last = c.args.now; neighbours = c.hear_of_neighbour.new.neighbours; choice = c.hear_of_neighbour.new.choice }) c.args.self.now.last c.args.now (omega (arith, s.last, le)) s.memo refl
     (may_nothing c.redirected.new.self c.hear_of_neighbour.new.choice c.args.self.now.neighbours.entries c.hear_of_neighbour.new.neighbours.entries heard.remembers (ap (λ m. m.hops) c.in_ok-redirected.ensures.memory))

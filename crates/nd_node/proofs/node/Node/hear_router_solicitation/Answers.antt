@@ -30,7 +30,7 @@ returns-clause-adds g c =
     rw e (adds_message g.R.Rng.stream c.args.self.now c.args.now c.args.heard.now.source c.args.heard.now.destination bodies.Rs (options_left c.args.heard.now.message.options) (planned c.args.now) (plain_solicitation c.args.now c.args.heard.now.source c.args.heard.now.destination (options_left c.args.heard.now.message.options)) c.requires.settled times c.news_of-news.result
     (rw c.requires.body at (c.news_of-news.ensures times)) (rw e at c.times_in_force-times.ensures.reachable) (record c.args.self.now { last = c.args.now; neighbours = c.hear_of_neighbour.new.neighbours; choice = c.hear_of_neighbour.new.choice }) _ c.args.outs.now.items c.reserve.new.self.items c.report_heard.new.outs.items c.hear_of_neighbour.new.outs.items c.hear_of_neighbour.result _
     c.none_overdue.ensures.still c.none_overdue.ensures.table c.one_is_pushed_out.ensures
-    (record { role = refl; mac = refl; chosen = refl; generator = refl; params = refl; prefixes = refl; dns = refl; solicitations = refl; router = refl; address_mac = refl; address_transmits = refl; address_limit = refl; neighbour_limit = heard.limit; waiting = heard.waiting; router_limit = refl; room = room_kept _ _ (may_redirects c.args.self.now.choice c.hear_of_neighbour.new.choice c.args.self.now.neighbours.entries c.hear_of_neighbour.new.neighbours.entries heard.remembers); last = refl })
+    (record { role = refl; mac = refl; chosen = refl; policies = refl; generator = refl; params = refl; prefixes = refl; dns = refl; solicitations = refl; router = refl; address_mac = refl; address_transmits = refl; address_limit = refl; neighbour_limit = heard.limit; waiting = heard.waiting; router_limit = refl; room = room_kept _ _ (may_redirects c.args.self.now.choice c.hear_of_neighbour.new.choice c.args.self.now.neighbours.entries c.hear_of_neighbour.new.neighbours.entries heard.remembers); last = refl })
     refl refl
     (λ start c' s le. may_recall c.args.self.now (record c.args.self.now { last = c.args.now; neighbours = c.hear_of_neighbour.new.neighbours; choice = c.hear_of_neighbour.new.choice }) c.args.self.now.last c.args.now (omega (arith, s.last, le)) s.memo refl heard.remembers refl (λ key. refl) (neighbour_history c') s.neighbours)
     (λ start c' s. subst (λ (b : Bool). Placed start c' c.args.now (entering (option_map (said_by times) c.news_of-news.result)) b) c.if-not-has_place.false (c.has_place.ensures.placed start c' times s.limits.neighbours s.neighbours))

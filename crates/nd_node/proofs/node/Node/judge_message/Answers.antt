@@ -25,7 +25,7 @@ returns-clause-adds g c =
     c.in_ok-answer.ensures.adds
 
 pub returns-in_err-answer-clause-dropped : goal.returns-in_err-answer-clause-dropped
-returns-in_err-answer-clause-dropped g c = λ why start c' s le judged place.
+returns-in_err-answer-clause-dropped g c = λ frame why start c' s le judged place.
     let m = c.args.heard.now.message in
     let source = c.args.heard.now.source in
     let ours = (c.is_for_us.ensures start c' (parts m) s refl).0 c.if-not-is_for_us.false in

@@ -24,6 +24,7 @@ returns-clause-stands g c =
       role = refl;
       mac = refl;
       chosen = refl;
+      policies = c.none.ensures;
       last = refl;
       drawn_at = ap (λ (v : parameters.Values). v.drawn_at) c.new-params.ensures.value;
       address_mac = ap (λ (t : addresses.Table). t.mac) c.start.ensures.first;

@@ -46,7 +46,7 @@ returns-clause-adds g c =
     c.go.new.self c.go-2.new.self c.args.outs.now.items c.ready_for_two.new.outs.items c.go.new.outs.items c.go-2.new.outs.items c.args.now (number_of c.args.hop.0) c.args.target c.link_local-own.result
     (packet_parts c.args.packet.now) c.args.bytes.now c.in_ok-redirect.redirect c.in_ok-frame.frame c.requires.settled
     c.room.result c.room.ensures.history c.if-not-room.false
-    (record { role = refl; mac = refl; chosen = refl; generator = refl; last = refl; params = refl; routers = refl; prefixes = refl; addresses = refl; entries = c.ready_for_two.ensures.entries; limit = c.ready_for_two.ensures.limit; waiting = c.ready_for_two.ensures.waiting; dns = refl; choice = refl; solicitations = refl; router = refl })
+    (record { role = refl; mac = refl; chosen = refl; policies = refl; generator = refl; last = refl; params = refl; routers = refl; prefixes = refl; addresses = refl; entries = c.ready_for_two.ensures.entries; limit = c.ready_for_two.ensures.limit; waiting = c.ready_for_two.ensures.waiting; dns = refl; choice = refl; solicitations = refl; router = refl })
     c.ready_for_two.ensures.same
     (record c.args.self.now.router { routes = c.redirected.new.self }) refl refl c.redirected.ensures.stands c.redirected.ensures.limit
     c.link_local-own.ensures c.in_ok-redirect.ensures.by_history c.in_ok-frame.ensures (rw c.advance_to.ensures at c.go.ensures.leads) c.go-2.ensures.leads

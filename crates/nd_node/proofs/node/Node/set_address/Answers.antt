@@ -13,7 +13,7 @@ use Rattle.nd_node.proofs.node.Node.set_address.Goals as goal
 pub returns-in-Ok-clause-adds : goal.returns-in-Ok-clause-adds
 returns-in-Ok-clause-adds g c =
     rw c.advance_to.ensures (sets g.R.Rng.stream c.args.self.now _ c.args.outs.now.items c.args.outs.now.items c.args.now c.args.own.now c.requires.settled c.none_overdue.ensures.still c.none_overdue.ensures.table
-    (record { role = refl; mac = refl; chosen = refl; generator = refl; last = refl; params = refl; routers = refl; prefixes = refl; dns = refl; redirects = ap (λ t. t.redirects) c.changed.ensures; solicitations = refl; router = refl; address_mac = c.set_by_hand.ensures.mac; address_transmits = c.set_by_hand.ensures.transmits; address_limit = c.set_by_hand.ensures.limit; neighbour_limit = refl; waiting = refl })
+    (record { role = refl; mac = refl; chosen = refl; policies = refl; generator = refl; last = refl; params = refl; routers = refl; prefixes = refl; dns = refl; redirects = ap (λ t. t.redirects) c.changed.ensures; solicitations = refl; router = refl; address_mac = c.set_by_hand.ensures.mac; address_transmits = c.set_by_hand.ensures.transmits; address_limit = c.set_by_hand.ensures.limit; neighbour_limit = refl; waiting = refl })
     refl c.changed.ensures c.set_by_hand.result _ c.in-Ok.is c.in_default.ensures c.set_by_hand.ensures.story c.retrans_timer-retrans.result c.retrans_timer-retrans.ensures.value c.set_by_hand.ensures.gains refl)
 
 pub returns-in-Some-clause-adds : goal.returns-in-Some-clause-adds

@@ -22,6 +22,7 @@ returns g c =
       role = refl;
       mac = refl;
       chosen = refl;
+      policies = refl;
       last = refl;
       left = _;
       params = c.hear_parameters.ensures;

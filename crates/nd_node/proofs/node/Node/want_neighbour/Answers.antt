@@ -17,7 +17,7 @@ pub returns-clause-adds : goal.returns-clause-adds
 returns-clause-adds g c = λ destination.
     wish_taken g.R.Rng.stream c.args.self.now c.wish-mac.new.self c.args.outs.now.items _ c.args.now destination (number_of c.args.to.0) c.requires.settled
     (record c.args.self.now { last = c.args.now; neighbours = c.ready_for_wish.new.neighbours }) c.ready_for_wish.new.outs.items
-    (record { role = refl; mac = refl; chosen = refl; generator = refl; last = refl; params = refl; routers = refl; prefixes = refl; addresses = refl; entries = c.ready_for_wish.ensures.entries; limit = c.ready_for_wish.ensures.limit; waiting = c.ready_for_wish.ensures.waiting; dns = refl; choice = refl; solicitations = refl; router = refl })
+    (record { role = refl; mac = refl; chosen = refl; policies = refl; generator = refl; last = refl; params = refl; routers = refl; prefixes = refl; addresses = refl; entries = c.ready_for_wish.ensures.entries; limit = c.ready_for_wish.ensures.limit; waiting = c.ready_for_wish.ensures.waiting; dns = refl; choice = refl; solicitations = refl; router = refl })
     c.ready_for_wish.ensures.same c.room_is_place.ensures c.full_by_history.ensures (sym c.if-not-room.ensures.value) (rw c.advance_to.ensures at (c.wish-mac.ensures.leads destination))
 
 pub returns-in_err-solicitation-clause-refused : goal.returns-in_err-solicitation-clause-refused

@@ -21,7 +21,7 @@ pub returns-clause-leads : goal.returns-clause-leads
 returns-clause-leads g c = λ destination.
     wish_leads g.R.Rng.stream c.args.self.now _ c.args.outs.now.items _ c.args.now destination (number_of c.args.to.0) _ _ c.none_overdue.ensures.still c.none_overdue.ensures.table c.one_is_pushed_out.ensures
     c.requires.last
-    (record { role = refl; mac = refl; chosen = refl; generator = refl; last = refl; params = refl; routers = refl; prefixes = refl; dns = refl; redirects = may_redirects c.args.self.now.choice c.note_wish.new.choice c.args.self.now.neighbours.entries c.want.new.self.entries (may g c); solicitations = refl; router = refl; address_mac = refl; address_transmits = refl; address_limit = refl; neighbour_limit = c.in-Ok.ensures.limit; waiting = c.in-Ok.ensures.waiting })
+    (record { role = refl; mac = refl; chosen = refl; policies = refl; generator = refl; last = refl; params = refl; routers = refl; prefixes = refl; dns = refl; redirects = may_redirects c.args.self.now.choice c.note_wish.new.choice c.args.self.now.neighbours.entries c.want.new.self.entries (may g c); solicitations = refl; router = refl; address_mac = refl; address_transmits = refl; address_limit = refl; neighbour_limit = c.in-Ok.ensures.limit; waiting = c.in-Ok.ensures.waiting })
     refl (may g c) c.times_in_force-times.ensures.retrans refl c.in-Ok.ensures.stands _ refl _ c.link_local-own.ensures (wanting_of c.in-Ok.want) c.in-Ok.ensures.history
     (answered_behind c.args.outs.now.items c.tell_wish.new.outs.items c.args.now c.args.self.now.mac c.link_local-own.result destination (number_of c.args.to.0) (wanting_of c.in-Ok.want)
     (reports.Path destination (ways.To c.args.to c.known_in.result)) (ap (λ (m : Option ℕ). Path destination (WayTo (number_of c.args.to.0) m)) c.known_in.ensures) c.tell_wish.ensures.told)

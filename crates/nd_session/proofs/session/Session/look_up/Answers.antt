@@ -16,12 +16,12 @@ use Rattle.nd_session.proofs.session.Session.look_up.Goals as goal
 pub returns-in-Some-clause-resolved : goal.returns-in-Some-clause-resolved
 returns-in-Some-clause-resolved c =
     answered_at_once c.args.self.now c.remember.new.self c.answer_within.new.self c.args.now c.args.destination c.answer_within.result c.requires.in_time
-    (leads_on c.args.self.now c.settle.new.self c.remember.new.self c.remember.ensures.node c.remember.ensures.queue c.in_ok-settle.ensures.passes) c.answer_within.ensures.answered
+    (leads_on c.args.self.now c.settled_path.new.self c.remember.new.self c.remember.ensures.node c.remember.ensures.queue c.in_ok-timed.ensures.passes) c.answer_within.ensures.answered
 
 pub returns-in-Some-clause-ready : goal.returns-in-Some-clause-ready
 returns-in-Some-clause-ready c = λ start c' s is.
     ready_later c.remember.new.self c.answer_within.new.self c.args.now c.answer_within.ensures.clock c.answer_within.ensures.answered.queue c.answer_within.ensures.room
-    (ready_on c.settle.new.self c.remember.new.self c.remember.ensures.node c.remember.ensures.queue c.remember.ensures.room (c.in_ok-settle.ensures.ready is))
+    (ready_on c.settled_path.new.self c.remember.new.self c.remember.ensures.node c.remember.ensures.queue c.remember.ensures.room (c.in_ok-timed.ensures.ready is))
 
 pub invariant_of-self-inside : goal.invariant_of-self-inside
 invariant_of-self-inside c = record { remembered = remembers_nothing c.forget.new.self c.answer_path.new.self c.forget.ensures.forgotten }
@@ -32,9 +32,9 @@ returns-in_err-resolution-clause-ready c = λ start history s is.
     nothing_ready stream_of_source c.args.self.now.node c.self.inside.0.0 c.answer_path.new.self c.args.self.now.queue (reverse q.due.items ++ (reverse q.front.items ++ q.back.items))
     (reverse q.due.items ++ (reverse q.front.items ++ c.answer_path.new.outs.items)) c.args.now c.self.inside.0.1.1.0
     (subst (λ (s : Session). Leads stream_of_source c.args.self.now.node s.node c.args.self.now.queue s.queue (Passes c.args.now)) (sym c.self.view_is)
-    (leads_on c.args.self.now c.settle.new.self c.remember.new.self c.remember.ensures.node c.remember.ensures.queue c.in_ok-settle.ensures.passes))
+    (leads_on c.args.self.now c.settled_path.new.self c.remember.new.self c.remember.ensures.node c.remember.ensures.queue c.in_ok-timed.ensures.passes))
     c.in_err-resolution.ensures.stays (ap (λ l. reverse q.due.items ++ (reverse q.front.items ++ l)) c.in_err-resolution.ensures.told)
-    start history s (subst IsReady (sym c.self.view_is) (ready_on c.settle.new.self c.remember.new.self c.remember.ensures.node c.remember.ensures.queue c.remember.ensures.room (c.in_ok-settle.ensures.ready is)))
+    start history s (subst IsReady (sym c.self.view_is) (ready_on c.settled_path.new.self c.remember.new.self c.remember.ensures.node c.remember.ensures.queue c.remember.ensures.room (c.in_ok-timed.ensures.ready is)))
 
 pub returns-clause-resolved : goal.returns-clause-resolved
 returns-clause-resolved c =
@@ -47,7 +47,7 @@ returns-clause-resolved c =
           (follows stream_of_source c.args.self.now.node c.self.inside.0.0 c.answer_path.new.self c.args.self.now.queue (reverse q.due.items ++ (reverse q.front.items ++ q.back.items))
           (with_answer after c.args.now c.args.destination resolution) c.args.now (events.Resolves c.args.destination) c.requires.in_time
           (subst (λ (s : Session). Leads stream_of_source c.args.self.now.node s.node c.args.self.now.queue s.queue (Passes c.args.now)) (sym c.self.view_is)
-          (leads_on c.args.self.now c.settle.new.self c.remember.new.self c.remember.ensures.node c.remember.ensures.queue c.in_ok-settle.ensures.passes))
+          (leads_on c.args.self.now c.settled_path.new.self c.remember.new.self c.remember.ensures.node c.remember.ensures.queue c.in_ok-timed.ensures.passes))
           (path_behind stream_of_source c.self.inside.0.0 c.answer_path.new.self (reverse q.due.items) (reverse q.front.items) q.back.items c.answer_path.new.outs.items c.args.now c.args.destination resolution c.in_ok-resolution.ensures.adds));
       lease = c.with_lease.ensures.lease;
     }
@@ -58,7 +58,7 @@ returns-clause-ready c = λ start history s is.
     let ready = path_ready stream_of_source c.args.self.now.node c.self.inside.0.0 c.answer_path.new.self c.args.self.now.queue (reverse q.due.items ++ (reverse q.front.items ++ q.back.items))
     (reverse q.due.items ++ (reverse q.front.items ++ c.answer_path.new.outs.items)) c.args.now c.args.destination c.in_ok-resolution.resolution c.self.inside.0.1.1.0 c.requires.in_time
     (subst (λ (s : Session). Leads stream_of_source c.args.self.now.node s.node c.args.self.now.queue s.queue (Passes c.args.now)) (sym c.self.view_is)
-    (leads_on c.args.self.now c.settle.new.self c.remember.new.self c.remember.ensures.node c.remember.ensures.queue c.in_ok-settle.ensures.passes))
+    (leads_on c.args.self.now c.settled_path.new.self c.remember.new.self c.remember.ensures.node c.remember.ensures.queue c.in_ok-timed.ensures.passes))
     (path_behind stream_of_source c.self.inside.0.0 c.answer_path.new.self (reverse q.due.items) (reverse q.front.items) q.back.items c.answer_path.new.outs.items c.args.now c.args.destination c.in_ok-resolution.resolution c.in_ok-resolution.ensures.adds)
-    start history s (subst IsReady (sym c.self.view_is) (ready_on c.settle.new.self c.remember.new.self c.remember.ensures.node c.remember.ensures.queue c.remember.ensures.room (c.in_ok-settle.ensures.ready is))) in
+    start history s (subst IsReady (sym c.self.view_is) (ready_on c.settled_path.new.self c.remember.new.self c.remember.ensures.node c.remember.ensures.queue c.remember.ensures.room (c.in_ok-timed.ensures.ready is))) in
     rw (c.with_lease.ensures.node, c.with_lease.ensures.queue, c.with_lease.ensures.room) ready

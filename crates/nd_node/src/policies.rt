@@ -1,0 +1,124 @@
+//! The policies of a node, chosen when it is made, and how it reads a message by them. The definition is in `specs/Reading.antt` of nd_chronicle.
+
+ghost use Rattle.std.specs.Prelude.{◌≡◌, true};
+ghost use Rattle.nd_chronicle.specs.Reading.{in_range, read_advertisement, read_body};
+ghost use Rattle.nd_chronicle.specs.Start.{no_policies};
+
+use nd_decode::{Body, RouterAdvertisement};
+use std::marker::Model;
+
+/// The least Cur Hop Limit that the policy `timers` takes (our choice).
+const MIN_HOP_LIMIT: u8 = 32;
+
+/// The least Reachable Time that the policy `timers` takes, in milliseconds (our choice).
+const MIN_REACHABLE_TIME: u32 = 1_000;
+
+/// The greatest Reachable Time that the policy `timers` takes, in milliseconds: the greatest that a router may advertise (RFC 4861, section 6.2.1).
+const MAX_REACHABLE_TIME: u32 = 3_600_000;
+
+/// The least Retrans Timer that the policy `timers` takes, in milliseconds (our choice).
+const MIN_RETRANS_TIMER: u32 = 100;
+
+/// The greatest Retrans Timer that the policy `timers` takes, in milliseconds (our choice).
+const MAX_RETRANS_TIMER: u32 = 30_000;
+
+/// What a node does on a link that isn't trusted, each where it is asked for.
+#[derive(Clone, Copy, Debug, PartialEq, Eq)]
+pub struct Policies {
+    timers: bool,
+    unicast: bool,
+}
+
+impl Model for Policies {
+    ghost use Rattle.nd_chronicle.specs.Start.{Policies};
+
+    ghost Value = { Policies };
+
+    ghost view = { λ p. record { timers = p.timers; unicast = p.unicast } };
+
+    ghost inverse = { λ v. record { timers = v.timers; unicast = v.unicast } };
+}
+
+impl Policies {
+    /// Returns no policy: a node takes what the RFCs tell it to take. Each node on a link has none, and any other node by default.
+    pub fn none() -> Policies
+        ensures { result ≡ no_policies }
+    {
+        Policies {
+            timers: false,
+            unicast: false,
+        }
+    }
+
+    /// Returns these policies with `timers`: a Cur Hop Limit below 32, a Reachable Time outside 1,000 to 3,600,000 ms and a Retrans Timer outside 100 to
+    /// 30,000 ms are read as 0, unspecified (RFC 4861, section 4.2).
+    pub fn with_timers(self) -> Policies
+        ensures { result ≡ record self { timers = true } }
+    {
+        Policies {
+            timers: true,
+            ..self
+        }
+    }
+
+    /// Returns these policies with `unicast`: a router sends a packet on only if the Ethernet destination of its frame is the router's own address, and drops
+    /// another frame that isn't for it. It has no effect at a host.
+    pub fn with_unicast(self) -> Policies
+        ensures { result ≡ record self { unicast = true } }
+    {
+        Policies {
+            unicast: true,
+            ..self
+        }
+    }
+
+    /// Returns true if the numbers of an advertisement are read by the policy `timers`.
+    pub fn timers(self) -> bool
+        ensures { result ≡ self.timers }
+    {
+        self.timers
+    }
+
+    /// Returns true if packets are sent on by the policy `unicast`.
+    pub fn unicast(self) -> bool
+        ensures { result ≡ self.unicast }
+    {
+        self.unicast
+    }
+
+    /// Reads the body of a message by these policies.
+    pub(crate) fn read_body(self, body: &mut Body)
+        ensures { body.new ≡ read_body self body.old }
+    {
+        match body {
+            Body::Ra(ra) => self.read_advertisement(ra),
+            Body::Rs | Body::Ns(_) | Body::Na(_) | Body::Redirect(_) => {}
+        }
+    }
+
+    /// Reads an advertisement by these policies.
+    fn read_advertisement(self, ra: &mut RouterAdvertisement)
+        ensures { ra.new ≡ read_advertisement self ra.old }
+    {
+        if !self.timers {
+            return;
+        }
+        ra.hop_limit = if ra.hop_limit < MIN_HOP_LIMIT {
+            0
+        } else {
+            ra.hop_limit
+        };
+        ra.reachable_time = in_range(MIN_REACHABLE_TIME, MAX_REACHABLE_TIME, ra.reachable_time);
+        ra.retrans_timer = in_range(MIN_RETRANS_TIMER, MAX_RETRANS_TIMER, ra.retrans_timer);
+    }
+}
+
+/// Returns a number of an advertisement, or 0 outside its range (RFC 4861, section 4.2).
+fn in_range(least: u32, most: u32, number: u32) -> u32
+    ensures { result ≡ in_range least most number }
+{
+    if least <= number && number <= most {
+        return number;
+    }
+    0
+}
