@@ -7,7 +7,7 @@ use Rattle.clap.specs.Simple.{App, HasMatchesOf, app_of, subcommand_of, subcomma
 use Rattle.clap.specs.Walk.{Row}
 use Rattle.clap.specs.declared.builder.command.Command.{Command}
 use Rattle.clap.specs.declared.parser.matches.ArgMatches.{ArgMatches}
-use Rattle.ndpctl_args.specs.CommandLine.{Names, the_command, faults_of, named_in, given_in, GivesAsked, GivesRun, RefusesGiven, MacIsBad, DrawsAreBad, TransmitsAreBad, LimitIsBad, LimitsAreBad, place_of, IsBadRun, Asks, Refuses}
+use Rattle.ndpctl_args.specs.CommandLine.{Names, the_command, faults_of, named_in, given_in, GivesAsked, GivesRun, RefusesGiven, MacIsBad, DrawsAreBad, TransmitsAreBad, LimitIsBad, LimitsAreBad, PolicyIsBad, place_of, IsBadRun, Asks, Refuses}
 use Rattle.ndpctl_args.specs.declared.asked.Asked.{Asked}
 use Rattle.ndpctl_args.specs.declared.asked.Asked.TheVariants as asked
 use Rattle.ndpctl_args.specs.declared.asked.Refused.{Refused}
@@ -55,6 +55,7 @@ module _ (names : Names) (words : List (List ℕ)) (rows : List Row) (faultless 
   refuses refused.Offers h = limit 8 h
   refuses refused.Routes h = limit 9 h
   refuses refused.Waiting h = limit 10 h
+  refuses refused.Policy h = (names, record { faultless = faultless; named = named; bad = subst PolicyIsBad given h })
   refuses refused.Memory h = absurd h
 
 -- a limit that is refused, where all before the limits is good
@@ -74,6 +75,7 @@ limit_refused given refused.Destinations more h = more 7 h
 limit_refused given refused.Offers more h = more 8 h
 limit_refused given refused.Routes more h = more 9 h
 limit_refused given refused.Waiting more h = more 10 h
+limit_refused given refused.Policy more h = absurd h
 limit_refused given refused.Memory more h = absurd h
 
 -- it is handed on

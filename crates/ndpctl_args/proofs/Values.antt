@@ -4,7 +4,9 @@ use Rattle.std.specs.Option.{IfNone, IfSome, option_map_or}
 use Rattle.std.proofs.lemmas.Option.{IfSome_then, none-some}
 use Rattle.nd_addr.specs.declared.role.Role.{Role}
 use Rattle.nd_addr.specs.declared.role.Role.TheVariants.{Host, Router}
-use Rattle.ndpctl_args.specs.CommandLine.{carrier_named, role_named}
+use Rattle.nd_chronicle.specs.Start.{no_policies}
+use Rattle.ndpctl_run.specs.Policies.{policies_of}
+use Rattle.ndpctl_args.specs.CommandLine.{carrier_named, policies_given, role_named}
 use Rattle.ndpctl_args.specs.declared.asked.Carrier.{Carrier}
 use Rattle.ndpctl_args.specs.declared.asked.Carrier.TheVariants.{Memory, Udp}
 use Rattle.clap.specs.Matches.{first_value, subcommand_name_of}
@@ -64,6 +66,10 @@ memory_unnamed f e = ap carrier_named (e ∙ first_value-rows f (codes "wire"))
 pub named_carrier : (f : Found) (text : Text) (is_udp : Bool) → Some text ≡ first_value f (codes "wire") → is_udp ≡ bytes_eq text (codes "udp")
     → carrier_by is_udp ≡ carrier_named (first_of (codes "wire") (rows_of f))
 named_carrier f text is_udp e is = ap carrier_by is ∙ ap carrier_named (e ∙ first_value-rows f (codes "wire"))
+
+-- the policies, by the value of their option
+pub policies_by : (f : Found) (value : Option Text) → value ≡ first_value f (codes "policy") → option_map_or policies_of value (Some no_policies) ≡ policies_given (rows_of f)
+policies_by f value e = ap (λ (v : Option Text). option_map_or policies_of v (Some no_policies)) (e ∙ first_value-rows f (codes "policy"))
 
 -- the name of the subcommand, by its rows
 pub name_in_rows : (m : ArgMatches) → subcommand_name_of m ≡ option_map (λ p. p.0) (subcommand_rows_of m)

@@ -21,8 +21,9 @@ use Rattle.nd_nexthop.specs.Memo.{max_remembered}
 use Rattle.nd_advertiser.specs.Offers.{max_offers}
 use Rattle.nd_forwarding.specs.Routes.{max_routes}
 use Rattle.nd_packet.specs.Waiting.{max_waiting}
-use Rattle.nd_chronicle.specs.Start.{Limits}
+use Rattle.nd_chronicle.specs.Start.{Limits, Policies, no_policies}
 use Rattle.ndpctl_run.specs.Number.{IsCountWord}
+use Rattle.ndpctl_run.specs.Policies.{policies_of}
 use Rattle.ndpctl_run.specs.Source.{IsSource}
 use Rattle.ndpctl_run.specs.Transmits.{IsTransmitsWord}
 use Rattle.ndpctl_run.specs.declared.options.RunOptions.{RunOptions}
@@ -65,11 +66,16 @@ with_limits app =
     let hops = with_limit (with_limit names (codes "redirects") (codes "64")) (codes "destinations") (codes "256") in
     with_limit (with_limit (with_limit hops (codes "offers") (codes "16")) (codes "routes") (codes "64")) (codes "waiting") (codes "3")
 
--- `run` takes `--role`, one of these names, and `--mac`, both of which are required, and `--draws`, `--transmits` and the limits, which have defaults
+-- the option that names policies
+abbrev pub policy_option : Rule
+policy_option = record (new_rule (codes "policy")) { long = Some (codes "policy") }
+
+-- `run` takes `--role`, one of these names, and `--mac`, both of which are required, `--draws`, `--transmits` and the limits, which have defaults, and
+-- `--policy`
 abbrev pub the_run : NameList → App
 the_run roles =
     let required = with_rule (with_rule (new_app (codes "run")) (role_option roles)) mac_option in
-    with_limits (with_rule (with_rule required draws_option) transmits_option)
+    with_rule (with_limits (with_rule (with_rule required draws_option) transmits_option)) policy_option
 
 abbrev pub wire_option : NameList → Rule
 wire_option wires = record (option_with_default (codes "wire") (codes "memory")) { parser = Some (parsers.Names wires) }
@@ -150,6 +156,10 @@ abbrev pub numbers_of : Limits → List ℕ
 numbers_of l =
     l.neighbours ∷ l.routers ∷ l.prefixes ∷ l.addresses ∷ l.servers ∷ l.names ∷ l.redirects ∷ l.destinations ∷ l.offers ∷ l.routes ∷ l.waiting ∷ []
 
+-- the policies that the value of `--policy` names: none where it isn't given
+abbrev pub policies_given : List Row → Option Policies
+policies_given given = option_map_or policies_of (first_of (codes "policy") given) (Some no_policies)
+
 -- what the values of the options of `run` ask for
 pub record GivesRun (given : List Row) (options : RunOptions Source) : Type 0 where
   pub role_is : options.role ≡ role_named (first_of (codes "role") given)
@@ -157,6 +167,7 @@ pub record GivesRun (given : List Row) (options : RunOptions Source) : Type 0 wh
   pub source_is : GivesDraws given options.generator
   pub transmits_is : GivesTransmits given options.transmits
   pub limits_are : GiveCounts given limit_options (numbers_of options.limits)
+  pub policies_are : policies_given given ≡ Some options.policies
 
 -- no address is spelled
 abbrev pub MacIsBad : List Row → Type 0
@@ -194,6 +205,18 @@ pub record LimitsAreBad (count : ℕ) (given : List Row) : Type 0 where
   pub transmits_is : GivesTransmits given transmits
   pub limit : LimitIsBad count given
 
+-- the values before `--policy` are good, and that of it names no policies
+pub record PolicyIsBad (given : List Row) : Type 0 where
+  pub mac : Mac
+  pub mac_is : GivesMac given mac.0
+  pub source : Source
+  pub source_is : GivesDraws given source
+  pub transmits : ℕ
+  pub transmits_is : GivesTransmits given transmits
+  pub numbers : List ℕ
+  pub limits_are : GiveCounts given limit_options numbers
+  pub none : policies_given given ≡ None
+
 -- the place of a limit among them, where its value is refused
 abbrev pub place_of : Refused → Option ℕ
 place_of refused.Neighbours = Some 0
@@ -219,6 +242,7 @@ abbrev pub RefusesGiven : List Row → Refused → Type 0
 RefusesGiven given refused.Mac = MacIsBad given
 RefusesGiven given refused.Draws = DrawsAreBad given
 RefusesGiven given refused.Transmits = TransmitsAreBad given
+RefusesGiven given refused.Policy = PolicyIsBad given
 RefusesGiven given (refused.Told error) = ⊥
 RefusesGiven given refused.Memory = ⊥
 RefusesGiven given limit = MatchOption (place_of limit) ⊥ (λ place. LimitsAreBad place given)
@@ -251,5 +275,6 @@ Refuses words (refused.Told error) = (names : Names) × IsFault names words (kin
 Refuses words refused.Mac = (names : Names) × IsBadRun names words MacIsBad
 Refuses words refused.Draws = (names : Names) × IsBadRun names words DrawsAreBad
 Refuses words refused.Transmits = (names : Names) × IsBadRun names words TransmitsAreBad
+Refuses words refused.Policy = (names : Names) × IsBadRun names words PolicyIsBad
 Refuses words refused.Memory = Unit {0}
 Refuses words limit = MatchOption (place_of limit) ⊥ (λ place. (names : Names) × IsBadRun names words (LimitsAreBad place))

@@ -62,6 +62,8 @@ pub enum Refused {
     Routes,
     /// The value of `--waiting` is no number from 1 to 8.
     Waiting,
+    /// The value of `--policy` is no list of policies that are parted by commas, each at most once.
+    Policy,
     /// Out of memory.
     Memory,
 }

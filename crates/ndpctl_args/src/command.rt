@@ -3,7 +3,7 @@
 ghost use Rattle.std.specs.Prelude.{◌≡◌, false, IfOk};
 ghost use Rattle.clap.specs.Words.{app_of, rule_of, with_rule};
 ghost use Rattle.clap.specs.declared.builder.command.Command.TheViews.{out-Command};
-ghost use Rattle.ndpctl_args.specs.CommandLine.{option_with_default, the_command, the_link, the_run, with_limits};
+ghost use Rattle.ndpctl_args.specs.CommandLine.{option_with_default, policy_option, the_command, the_link, the_run, with_limits};
 
 use clap::{Arg, Command};
 use nd_node::VERSION;
@@ -79,7 +79,19 @@ fn run_command<'a>(alloc: Global, roles: &'a [&'a str]) -> Result<Command<'a>, A
         .arg(mac)?
         .arg(draws)?
         .arg(transmits)?;
-    with_limits(alloc, command)
+    let command = with_limits(alloc, command)?;
+    with_policy(alloc, command)
+}
+
+/// Returns the command with the option that names the policies of the node.
+fn with_policy<'a>(alloc: Global, command: Command<'a>) -> Result<Command<'a>, AllocError>
+    ensures shape { IfOk result (λ more. app_of more ≡ with_rule (app_of command.entry) policy_option) }
+    ensures local { (out-Command command.entry).has_globals ≡ false → IfOk result (λ more. (out-Command more).has_globals ≡ false) }
+{
+    let policy = Arg::new(alloc, "policy").long("policy").help(
+        "What it does on a link that isn't trusted, parted by commas: timers, unicast",
+    );
+    command.arg(policy)
 }
 
 /// Returns the command with an option more: `--name`, whose value is `default`, a limit as in `Limits::usual`, if the words don't give one.

@@ -4,7 +4,7 @@ ghost use Rattle.std.specs.Prelude.{◌≡◌, ◌≤◌, ℕ, Some, MatchOption
 ghost use Rattle.clap.specs.Words.{first_of, found_of, rows_of};
 ghost use Rattle.nd_random.specs.declared.source.Source.{Source};
 ghost use Rattle.ndpctl_args.specs.CommandLine.{GivesAsked, RefusesGiven, carrier_named, role_named};
-ghost use Rattle.ndpctl_args.specs.CommandLine.{GiveCounts, GivesCount, GivesDraws, GivesMac, GivesTransmits, LimitIsBad, MacIsBad, limit_options, numbers_of, place_of};
+ghost use Rattle.ndpctl_args.specs.CommandLine.{GiveCounts, GivesCount, GivesDraws, GivesMac, GivesTransmits, LimitIsBad, MacIsBad, limit_options, numbers_of, place_of, policies_given};
 
 use crate::asked::{Asked, Carrier, Refused};
 use crate::command::{ROUTER, UDP};
@@ -15,12 +15,12 @@ use nd_dns::{MAX_NAMES, MAX_SERVERS};
 use nd_forwarding::MAX_ROUTES;
 use nd_neighbour::MAX_NEIGHBOURS;
 use nd_nexthop::{MAX_REDIRECTS, MAX_REMEMBERED};
-use nd_node::Limits;
+use nd_node::{Limits, Policies};
 use nd_packet::MAX_WAITING;
 use nd_random::Source;
 use nd_routers::{MAX_PREFIXES, MAX_ROUTERS};
 use nd_slaac::{MAX_ADDRESSES, Transmits};
-use ndpctl_run::{RunOptions, read_count, read_source, read_transmits};
+use ndpctl_run::{RunOptions, read_count, read_policies, read_source, read_transmits};
 
 /// Returns the role that the value of `--role` names. `clap` accepts no other values.
 fn read_role(given: &ArgMatches<'_>) -> Role
@@ -134,6 +134,16 @@ fn read_limits(given: &ArgMatches<'_>) -> Result<Limits, Refused>
     Ok(chosen(limits.with_waiting(waiting)))
 }
 
+/// Returns the policies that the value of `--policy` names.
+fn given_policies(given: &ArgMatches<'_>) -> Option<Policies>
+    ensures { result ≡ policies_given (rows_of (found_of given.now)) }
+{
+    match given.get_str("policy") {
+        Some(text) => read_policies(text),
+        None => Some(Policies::none()),
+    }
+}
+
 /// Returns the run that the values of the options ask for, or the first bad value in the order of `Refused`.
 pub(crate) fn read_run(given: &ArgMatches<'_>) -> Result<Asked, Refused>
     ensures right { IfOk result (GivesAsked (rows_of (found_of given.now))) }
@@ -149,11 +159,15 @@ pub(crate) fn read_run(given: &ArgMatches<'_>) -> Result<Asked, Refused>
         return Err(Refused::Transmits);
     };
     let limits = read_limits(given)?;
+    let Some(policies) = given_policies(given) else {
+        return Err(Refused::Policy);
+    };
     Ok(Asked::Run(RunOptions {
         role: read_role(given),
         mac,
         transmits,
         limits,
+        policies,
         generator,
     }))
 }

@@ -10,8 +10,8 @@ use std::alloc::Global;
 
 /// Returns what `words` ask for; the first word is the program's path.
 ///
-/// Returns the first of these errors that holds: `clap` finds a fault in the words, or the value of `--mac`, `--draws`, `--transmits` or a limit, in the
-/// order of `Refused`, is bad. Returns `Memory` if it is out of memory.
+/// Returns the first of these errors that holds: `clap` finds a fault in the words, or the value of `--mac`, `--draws`, `--transmits`, a limit or
+/// `--policy`, in the order of `Refused`, is bad. Returns `Memory` if it is out of memory.
 pub fn read_words<'a>(alloc: Global, words: &'a [String]) -> Result<Asked, Refused>
     ensures right { IfOk result (Asks (map (λ word. string_bytes word) words.now)) }
     ensures wrong { IfErr result (Refuses (map (λ word. string_bytes word) words.now)) }

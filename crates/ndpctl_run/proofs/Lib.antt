@@ -13,6 +13,7 @@ pub mod OfferWords
 pub mod RouteWords
 pub mod OwnAddressWords
 pub mod CommandWords
+pub mod PolicyWords
 pub mod Lines
 pub mod Labels
 pub mod Said

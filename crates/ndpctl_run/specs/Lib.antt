@@ -17,3 +17,5 @@ pub mod ScriptKept
 pub mod ScriptLaws
 pub mod Answer
 pub mod Transmits
+pub mod Policies
+pub mod Start

@@ -1,7 +1,7 @@
 //! The options of `ndpctl run`.
 
 use nd_addr::{Mac, Role};
-use nd_node::Limits;
+use nd_node::{Limits, Policies};
 use nd_slaac::Transmits;
 
 /// The node that answers the lines of a script.
@@ -14,6 +14,8 @@ pub struct RunOptions<R> {
     pub transmits: Transmits,
     /// The limits of the node's tables.
     pub limits: Limits,
+    /// The node's policies.
+    pub policies: Policies,
     /// The generator of the node's random words.
     pub generator: R,
 }

@@ -4,11 +4,11 @@ ghost use Rattle.std.specs.Prelude.{◌≢◌, ◌⊎◌, ℕ, IfOk, OnOk, OnErr
 ghost use Rattle.nd_lines.specs.Counts.{HasRisen, HasGrownBy, most_reads};
 ghost use Rattle.nd_lines.specs.Told.{TellsAll, TellsFront, TellsBeginning, TellsAsRead, TellsToMemory};
 ghost use Rattle.nd_chronicle.specs.History.{beginning};
-ghost use Rattle.nd_node.specs.Node.{starting};
 ghost use Rattle.nd_node.specs.NodeKept.{Stands};
 ghost use Rattle.ndpctl_run.specs.Line.{IsLine};
 ghost use Rattle.ndpctl_run.specs.Said.{SaysNothing};
 ghost use Rattle.ndpctl_run.specs.Script.{IsText};
+ghost use Rattle.ndpctl_run.specs.Start.{start_of};
 
 use crate::options::RunOptions;
 use crate::script::Script;
@@ -30,16 +30,16 @@ pub fn run_script<I: Input, O: Output, R: Rng + Drop, A: Allocator + Copy>(
     writer: &mut O,
     options: RunOptions<R>,
 ) -> Result<(), ToolFault>
-    ensures ok { OnOk result (TellsAll (IsText (starting 0 options.role options.mac options.transmits options.limits (R.stream options.generator))) (I.remaining reader.old) (O.contents writer.old) (O.contents writer.new) None) }
-    ensures line { (n : ℕ) → IsErrOf result (ToolFault.Line n) → TellsAll (IsText (starting 0 options.role options.mac options.transmits options.limits (R.stream options.generator))) (I.remaining reader.old) (O.contents writer.old) (O.contents writer.new) (Some n) }
-    ensures front { OnErr result (TellsFront (IsText (starting 0 options.role options.mac options.transmits options.limits (R.stream options.generator))) (I.remaining reader.old) (O.contents writer.old) (O.contents writer.new)) }
-    ensures beginning { OnErr result (TellsBeginning (IsText (starting 0 options.role options.mac options.transmits options.limits (R.stream options.generator))) (I.remaining reader.old) (O.contents writer.old) (O.contents writer.new)) }
+    ensures ok { OnOk result (TellsAll (IsText (start_of options (R.stream options.generator))) (I.remaining reader.old) (O.contents writer.old) (O.contents writer.new) None) }
+    ensures line { (n : ℕ) → IsErrOf result (ToolFault.Line n) → TellsAll (IsText (start_of options (R.stream options.generator))) (I.remaining reader.old) (O.contents writer.old) (O.contents writer.new) (Some n) }
+    ensures front { OnErr result (TellsFront (IsText (start_of options (R.stream options.generator))) (I.remaining reader.old) (O.contents writer.old) (O.contents writer.new)) }
+    ensures beginning { OnErr result (TellsBeginning (IsText (start_of options (R.stream options.generator))) (I.remaining reader.old) (O.contents writer.old) (O.contents writer.new)) }
     ensures read_failed { IsErrOf result ToolFault.Read → HasRisen (I.failed reader.old) (I.failed reader.new) ⊎ HasGrownBy most_reads (I.given reader.old) (I.given reader.new) }
     // If a read fails, the answers to all lines that were read before it are written.
-    ensures answered { IsErrOf result ToolFault.Read → TellsAsRead (IsText (starting 0 options.role options.mac options.transmits options.limits (R.stream options.generator))) (I.remaining reader.old) (I.remaining reader.new) (O.contents writer.old) (O.contents writer.new) }
+    ensures answered { IsErrOf result ToolFault.Read → TellsAsRead (IsText (start_of options (R.stream options.generator))) (I.remaining reader.old) (I.remaining reader.new) (O.contents writer.old) (O.contents writer.new) }
     ensures write_failed { IsErrOf result ToolFault.Write → HasRisen (O.failed writer.old) (O.failed writer.new) }
     // Out of memory: the answers to all lines before the one at which it ran out are written, whole. That line is not malformed.
-    ensures memory { IsErrOf result ToolFault.Memory → TellsToMemory (IsText (starting 0 options.role options.mac options.transmits options.limits (R.stream options.generator))) (SaysNothing IsLine) (I.remaining reader.old) (I.remaining reader.new) (O.contents writer.old) (O.contents writer.new) }
+    ensures memory { IsErrOf result ToolFault.Memory → TellsToMemory (IsText (start_of options (R.stream options.generator))) (SaysNothing IsLine) (I.remaining reader.old) (I.remaining reader.new) (O.contents writer.old) (O.contents writer.new) }
     ensures never_wire { result ≢ Err ToolFault.Wire }
 {
     crate::laws::one_reading();
@@ -59,7 +59,7 @@ fn start<R: Rng + Drop, A: Allocator + Copy>(
     alloc: A,
     options: RunOptions<R>,
 ) -> Result<Script<R, A>, AllocError>
-    ensures { IfOk result (λ script. let first = starting 0 options.role options.mac options.transmits options.limits (R.stream options.generator) in Stands R.stream first script.node (beginning first)) }
+    ensures { IfOk result (λ script. let first = start_of options (R.stream options.generator) in Stands R.stream first script.node (beginning first)) }
 {
     match Node::new(
         alloc,
@@ -70,7 +70,7 @@ fn start<R: Rng + Drop, A: Allocator + Copy>(
         options.limits,
         options.generator,
     ) {
-        Ok(node) => Ok(Script::new(alloc, node)),
+        Ok(node) => Ok(Script::new(alloc, node.with_policies(options.policies))),
         Err(_) => Err(AllocError),
     }
 }

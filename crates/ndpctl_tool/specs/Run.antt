@@ -3,10 +3,10 @@ use Rattle.std.specs.Prelude.{◌≡◌, ℕ, List, None}
 use Rattle.nd_lines.specs.Answers.{Texts, Only}
 use Rattle.nd_lines.specs.Each.{text_of_each, malformed_of_each}
 use Rattle.ndpctl_check.specs.Check.{answer_to}
-use Rattle.nd_node.specs.Node.{starting}
 use Rattle.ndpctl_run.specs.Line.{IsLine}
 use Rattle.ndpctl_run.specs.Said.{SaysNothing}
 use Rattle.ndpctl_run.specs.Script.{IsText}
+use Rattle.ndpctl_run.specs.Start.{start_of}
 use Rattle.nd_random.specs.Source.{stream_of_source}
 use Rattle.ndpctl_args.specs.declared.asked.Asked.{Asked}
 use Rattle.ndpctl_args.specs.declared.asked.Asked.TheVariants.{Check, Run, Link}
@@ -19,7 +19,7 @@ use Rattle.ndpctl_link.specs.Script.{IsLinkText}
 abbrev pub texts_asked : Asked → Texts
 texts_asked Check = Only (text_of_each answer_to) (malformed_of_each answer_to)
 texts_asked (Run options) =
-    IsText (starting 0 options.role options.mac options.transmits options.limits (stream_of_source options.generator))
+    IsText (start_of options (stream_of_source options.generator))
 texts_asked (Link carrier) = IsLinkText
 
 -- which of its lines are malformed

@@ -93,7 +93,8 @@ fn status_of_refused(refused: &Refused) -> u8
         | Refused::Destinations
         | Refused::Offers
         | Refused::Routes
-        | Refused::Waiting => BAD_COMMAND_LINE,
+        | Refused::Waiting
+        | Refused::Policy => BAD_COMMAND_LINE,
         Refused::Memory => ToolFault::Memory.status(),
     }
 }
@@ -118,6 +119,7 @@ impl fmt::Display for Ending {
             Ending::Refused(Refused::Offers) => f.write_str("ndpctl: bad offers\n"),
             Ending::Refused(Refused::Routes) => f.write_str("ndpctl: bad routes\n"),
             Ending::Refused(Refused::Waiting) => f.write_str("ndpctl: bad waiting\n"),
+            Ending::Refused(Refused::Policy) => f.write_str("ndpctl: bad policy\n"),
             Ending::Refused(Refused::Memory) => f.write_str("ndpctl: no memory\n"),
             Ending::NotText => f.write_str("ndpctl: a word is not UTF-8\n"),
         }

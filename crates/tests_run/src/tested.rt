@@ -5,7 +5,7 @@
 use nd_addr::{Mac, Role};
 use nd_lines::input::Pieces;
 use nd_lines::output::Writing;
-use nd_node::Limits;
+use nd_node::{Limits, Policies};
 use nd_random::Source;
 use nd_slaac::Transmits;
 use ndpctl_run::{RunOptions, run_script};
@@ -52,6 +52,7 @@ pub(crate) fn run_on(rt: &impl Abort, alloc: Global, node: &Tested, script: &str
         mac: node.mac,
         transmits: Transmits::ONE,
         limits: node.limits,
+        policies: Policies::none(),
         generator: Source::Constant(0),
     };
     let done = run_script(alloc, &mut reader, &mut writer, options);

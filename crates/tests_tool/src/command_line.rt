@@ -1,7 +1,7 @@
 //! The words of the command line.
 
 use nd_addr::{Mac, Role};
-use nd_node::Limits;
+use nd_node::{Limits, Policies};
 use nd_random::Source;
 use nd_slaac::Transmits;
 use ndpctl_args::{Asked, Carrier, Refused, read_words};
@@ -65,6 +65,8 @@ fn run_is_read(rt: HostRuntime) {
         "600",
         "--routers",
         "20",
+        "--policy",
+        "timers",
     ];
     let read = options(&rt, &words);
     assert!(rt; read.role == Role::Host);
@@ -72,6 +74,7 @@ fn run_is_read(rt: HostRuntime) {
     assert!(rt; matches!(read.generator, Source::Constant(7)));
     assert!(rt; read.transmits.number() == 3);
     assert!(rt; Some(read.limits) == Limits::new(600, 20));
+    assert!(rt; read.policies == Policies::none().with_timers());
 }
 
 #[test]
@@ -81,6 +84,7 @@ fn options_have_defaults(rt: HostRuntime) {
     assert!(rt; matches!(read.generator, Source::Seeded(_)));
     assert!(rt; read.transmits == Transmits::ONE);
     assert!(rt; read.limits == Limits::usual());
+    assert!(rt; read.policies == Policies::none());
 }
 
 #[test]
@@ -111,6 +115,7 @@ fn refused(rt: &(impl Abort + AllocGlobal), words: &[&str]) -> &'static str {
         Err(Refused::Offers) => "offers",
         Err(Refused::Routes) => "routes",
         Err(Refused::Waiting) => "waiting",
+        Err(Refused::Policy) => "policy",
         Err(Refused::Memory) => "memory",
     }
 }
@@ -201,6 +206,27 @@ fn expect_limit(rt: &(impl Abort + AllocGlobal), place: usize, option: &str, num
 }
 
 /// Each number is read up to the ends of its range.
+/// Words that are parted by commas, each at most once, in any order.
+#[test]
+fn policies_are_named_once(rt: HostRuntime) {
+    let both = Policies::none().with_timers().with_unicast();
+    for value in ["timers,unicast", "unicast,timers"] {
+        let read = options(&rt, &run_with("--policy", value));
+        assert!(rt; read.policies == both);
+    }
+    for value in [
+        "",
+        "x",
+        "timers,",
+        ",timers",
+        "timers,timers",
+        "timers unicast",
+        "unicast,timers,unicast",
+    ] {
+        assert_eq!(rt; refused(&rt, &run_with("--policy", value)), "policy");
+    }
+}
+
 #[test]
 fn numbers_have_ranges(rt: HostRuntime) {
     for (value, transmits) in [("1", 1), ("8", 8)] {

@@ -1,12 +1,12 @@
 use Rattle.std.proofs.Common.{◌≡◌, ◌∙◌, ◌||◌, ap, ap₂, codes, true, false, Some, Option}
 use Rattle.std.proofs.lemmas.Result.{IfOk-weaker}
 use Rattle.clap.specs.Walk.{Rule, rule_of}
-use Rattle.clap.specs.Simple.{app_of, app_of_fields, new_app, new_rule, with_rule}
+use Rattle.clap.specs.Simple.{App, app_of, app_of_fields, new_app, new_rule, with_rule}
 use Rattle.clap.specs.declared.builder.arg.Arg.{Arg}
 use Rattle.clap.specs.declared.builder.command.Command.TheViews.{out-Command}
 use Rattle.clap.specs.declared.builder.value_parser.ValueParser.{ValueParser}
 use Rattle.clap.specs.declared.builder.value_parser.ValueParser.TheVariants.{Names}
-use Rattle.ndpctl_args.specs.CommandLine.{role_option, mac_option, draws_option, transmits_option, with_limits}
+use Rattle.ndpctl_args.specs.CommandLine.{role_option, mac_option, draws_option, policy_option, transmits_option, with_limits}
 use Rattle.ndpctl_args.proofs.command.run_command.Goals as goal
 
 pub returns-clause-local : goal.returns-clause-local
@@ -20,7 +20,7 @@ returns-clause-local c =
     let run : (out-Command c.about.result).has_globals ≡ false = ap (λ f. f.has_globals) c.about.ensures ∙ c.new-3.ensures.local in
     let required = c.in_ok-arg-2.ensures.globals ∙ ap₂ ◌||◌ (c.in_ok-arg.ensures.globals ∙ ap₂ ◌||◌ run role) mac in
     let numbered = c.in_ok-command.ensures.globals ∙ ap₂ ◌||◌ (c.in_ok-arg-3.ensures.globals ∙ ap₂ ◌||◌ required draws) transmits in
-    c.with_limits.ensures.local numbered
+    c.with_policy.ensures.local (c.in_ok-command-2.ensures.local numbered)
 
 pub returns-clause-shape : goal.returns-clause-shape
 returns-clause-shape c =
@@ -43,4 +43,4 @@ returns-clause-shape c =
     let run_is : app_of c.about.result ≡ new_app (codes "run") = ap app_of_fields c.about.ensures ∙ c.new-3.ensures.app in
     let required = c.in_ok-arg-2.ensures.shape mac ∙ ap₂ with_rule (c.in_ok-arg.ensures.shape role ∙ ap₂ with_rule run_is role_is) mac_is in
     let numbered = c.in_ok-command.ensures.shape transmits ∙ ap₂ with_rule (c.in_ok-arg-3.ensures.shape draws ∙ ap₂ with_rule required draws_is) transmits_is in
-    IfOk-weaker c.with_limits.result _ _ (λ more h. h ∙ ap with_limits numbered) c.with_limits.ensures.shape
+    IfOk-weaker c.with_policy.result _ _ (λ more h. h ∙ ap (λ (a : App). with_rule a policy_option) (c.in_ok-command-2.ensures.shape ∙ ap with_limits numbered)) c.with_policy.ensures.shape

@@ -1,4 +1,6 @@
+use Rattle.std.proofs.Common.{sym, ◌∙◌}
 use Rattle.clap.specs.Words.{found_of, rows_of}
+use Rattle.ndpctl_args.specs.CommandLine.{numbers_of}
 use Rattle.ndpctl_args.proofs.Matches.{limit_refused, run_refused}
 use Rattle.ndpctl_args.proofs.options.read_run.Goals as goal
 
@@ -21,6 +23,20 @@ returns-clause-right c = record {
   source_is = c.in-Some-given_draws.ensures.found;
   transmits_is = c.in-Some-given_transmits.ensures.found;
   limits_are = c.in_ok-limits.ensures.right;
+  policies_are = sym c.given_policies.ensures ∙ c.in-Some-given_policies.is;
+}
+
+pub returns-in_default-given_policies-clause-wrong : goal.returns-in_default-given_policies-clause-wrong
+returns-in_default-given_policies-clause-wrong c = record {
+  mac = c.in-Some.mac;
+  mac_is = c.in-Some.ensures.found;
+  source = c.in-Some-given_draws.generator;
+  source_is = c.in-Some-given_draws.ensures.found;
+  transmits = c.in-Some-given_transmits.transmits;
+  transmits_is = c.in-Some-given_transmits.ensures.found;
+  numbers = numbers_of c.in_ok-limits.limits;
+  limits_are = c.in_ok-limits.ensures.right;
+  none = sym c.given_policies.ensures ∙ c.in_default-given_policies.is;
 }
 
 pub returns-in_err-limits-clause-wrong : goal.returns-in_err-limits-clause-wrong

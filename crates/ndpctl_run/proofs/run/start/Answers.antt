@@ -1,0 +1,7 @@
+use Rattle.nd_node.specs.Node.{starting}
+use Rattle.ndpctl_run.proofs.run.start.Goals as goal
+
+pub returns-in-Ok : goal.returns-in-Ok
+returns-in-Ok g c =
+    let asked = c.args.options in
+    rw c.new-in-Ok.ensures (c.with_policies.ensures.stands (starting 0 asked.role asked.mac asked.transmits asked.limits (g.R.Rng.stream asked.generator)) c.in-Ok.ensures.stands)
