@@ -252,12 +252,23 @@ enum nd_draws {
     ND_DRAWS_WORD = 1  /* each random word is `seed`, below 2^32: for tests */
 };
 
+/* What a node does on a link that is not trusted, each where it is asked for. */
+enum nd_policy {
+    /* Of a Router Advertisement, a Cur Hop Limit below 32, a Reachable Time outside 1,000 to
+     * 3,600,000 ms and a Retrans Timer outside 100 to 30,000 ms are read as 0, unspecified. */
+    ND_POLICY_TIMERS = 4,
+
+    /* A router sends on only packets whose frame has its own address as the Ethernet destination,
+     * and drops others that are not for it. At a host it has no effect. */
+    ND_POLICY_UNICAST = 16
+};
+
 typedef struct nd_options {
     uint32_t role;     /* enum nd_role */
     nd_mac mac;        /* the interface's own address; not checked */
     uint8_t transmits; /* DupAddrDetectTransmits (RFC 4862, 5.1), 1 to 8; 0: 1 */
     uint8_t draws;     /* enum nd_draws */
-    uint32_t policies; /* 0: no policy is built yet */
+    uint32_t policies; /* a sum of enum nd_policy, or 0 */
     uint64_t start;    /* the moment of the start */
     uint64_t seed;     /* decides the random delays: take it from the system's entropy, so that
                           machines that start together do not send together (RFC 4861, 6.3.7) */

@@ -12,6 +12,7 @@ const STATES = ['', 'tentative', 'preferred', 'deprecated', 'duplicate'];
 const PREFERENCES = ['medium', 'high', 'low'];
 const CLEARABLES = ['', 'neighbours', 'routers', 'prefixes', 'redirects', 'dns'];
 const REASONS = @REASONS@;
+const POLICIES = { timers: 4, unicast: 16 };
 const FOREVER = 2n ** 64n - 1n, MOMENT_LIMIT = 2n ** 62n;
 
 // What is wrong with a line.
@@ -218,12 +219,13 @@ const EVENTS = {
 // ---- a run
 
 // Opens a node with the words of the command line of `ndpctl run`, the limits among them by their names, and the moment of its start.
-async function opened(module, { role, mac: address, draws = 'seed:0', transmits = 1, start = 0, ...limits }) {
+async function opened(module, { role, mac: address, draws = 'seed:0', transmits = 1, policy = '', start = 0, ...limits }) {
     const [, source, seed] = /^(seed|word):(\d+)$/.exec(draws) ?? [];
     if (!source) throw new Malformed('draws are seed:<n> or word:<n>');
     const { exports } = await WebAssembly.instantiate(module, {});
     const draw = { draws: source === 'word' ? 1 : 0, seed };
-    const node = new NdNode(exports, { role: role === 'router' ? 1 : 0, mac: macOf(address), transmits, start, ...limits, ...draw });
+    const policies = policy.split(',').reduce((bits, word) => bits | (POLICIES[word] ?? 0), 0);
+    const node = new NdNode(exports, { role: role === 'router' ? 1 : 0, mac: macOf(address), transmits, policies, start, ...limits, ...draw });
     node.role = role;
     return node;
 }

@@ -86,9 +86,9 @@ static void try_options(nd_node *node)
     is("an open at a moment that is none", open_with(node, options), ND_INVALID);
     options = host_options();
     options.policies = 1;
-    is("an open with a policy", open_with(node, options), ND_INVALID);
-    options.policies = UINT32_C(1) << 31;
-    is("an open with the last policy", open_with(node, options), ND_INVALID);
+    is("an open with a policy that isn't built", open_with(node, options), ND_INVALID);
+    options.policies = ND_POLICY_TIMERS | UINT32_C(1) << 31;
+    is("an open with a policy, and the last one", open_with(node, options), ND_INVALID);
     is("no refused open left memory", (int64_t)heap_blocks, 0);
     is("an open", open_with(node, host_options()), ND_DONE);
     is("an open of an open node", open_with(node, host_options()), ND_INVALID);

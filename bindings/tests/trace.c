@@ -598,7 +598,16 @@ static bool read_limit(const char *name, const char *value)
     return false;
 }
 
-static void read_option(const char *name, const char *value)
+/* Reads the words of policies, parted by commas. */
+static void read_policies(char *words)
+{
+    for (char *word = strtok(words, ","); word != NULL; word = strtok(NULL, ",")) {
+        require(strcmp(word, "timers") == 0 || strcmp(word, "unicast") == 0, "--policy");
+        options.policies |= strcmp(word, "timers") == 0 ? ND_POLICY_TIMERS : ND_POLICY_UNICAST;
+    }
+}
+
+static void read_option(const char *name, char *value)
 {
     uint8_t *m = options.mac.bytes;
     if (strcmp(name, "--role") == 0)
@@ -609,6 +618,8 @@ static void read_option(const char *name, const char *value)
         options.transmits = (uint8_t)strtoul(value, NULL, 10);
     else if (read_limit(name, value))
         return;
+    else if (strcmp(name, "--policy") == 0)
+        read_policies(value);
     else if (strcmp(name, "--refuse") == 0) {
         heap_refuse = strtoul(value, NULL, 10);
         counts_requests = true;

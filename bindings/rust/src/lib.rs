@@ -75,6 +75,23 @@ pub enum Draws {
     Word(u32),
 }
 
+/// What a node does on a link that isn't trusted, each where it is asked for.
+#[derive(Clone, Copy, Debug, Default, PartialEq, Eq)]
+pub struct Policies {
+    /// Of a Router Advertisement, a Cur Hop Limit below 32, a Reachable Time outside 1,000 to 3,600,000 ms and a Retrans Timer outside 100 to 30,000 ms are
+    /// read as 0, unspecified (RFC 4861, 4.2).
+    pub timers: bool,
+    /// A router sends on only packets whose frame has its own address as the Ethernet destination, and drops others that aren't for it. At a host it has no
+    /// effect.
+    pub unicast: bool,
+}
+
+impl Policies {
+    fn bits(self) -> u32 {
+        u32::from(self.timers) << 2 | u32::from(self.unicast) << 4
+    }
+}
+
 /// How a node is opened.
 #[derive(Clone, Debug, PartialEq, Eq)]
 pub struct Options {
@@ -88,15 +105,16 @@ pub struct Options {
     pub transmits: u8,
     /// How many rows the tables have at most. `Limits::default()` are the usual numbers.
     pub limits: Limits,
+    pub policies: Policies,
 }
 
 impl Options {
-    /// Returns the options of a host with the usual limits.
+    /// Returns the options of a host with the usual limits and no policy.
     pub fn host(mac: [u8; 6], start: u64, seed: u64) -> Options {
-        Options { role: Role::Host, mac, start, draws: Draws::Seed(seed), transmits: 1, limits: Limits::default() }
+        Options { role: Role::Host, mac, start, draws: Draws::Seed(seed), transmits: 1, limits: Limits::default(), policies: Policies::default() }
     }
 
-    /// Returns the options of a router with the usual limits.
+    /// Returns the options of a router with the usual limits and no policy.
     pub fn router(mac: [u8; 6], start: u64, seed: u64) -> Options {
         Options { role: Role::Router, ..Options::host(mac, start, seed) }
     }
@@ -111,7 +129,7 @@ impl Options {
             mac: self.mac,
             transmits: self.transmits,
             draws,
-            policies: 0,
+            policies: self.policies.bits(),
             start: self.start,
             seed,
             limits: self.limits,

@@ -6,6 +6,10 @@ use std::net::Ipv6Addr;
 const MAC: [u8; 6] = [0x34, 0x56, 0x78, 0x9a, 0xbc, 0xde];
 const ROUTER_MAC: [u8; 6] = [2, 0, 0, 0, 0, 1];
 
+/// A Router Advertisement with a Retrans Timer of 2^32 - 1 ms, of the corpus.
+const RETRANS_TIMER_OF_49_DAYS: &str = "33330000000102666666666686dd6000000000103afffe80000000000000006666fffe666666ff020000000000000000000000000001\
+    86006ffd4000000000000000ffffffff";
+
 fn address(text: &str) -> Ipv6Addr {
     text.parse().unwrap()
 }
@@ -298,6 +302,16 @@ fn limits_are_chosen() {
     assert_eq!(host().counts(0).unwrap().limits, usual());
     for limits in [Limits { waiting: 9, ..usual() }, Limits { reserved: [0, 0, 0, 0, 1], ..usual() }] {
         assert_eq!(Node::open(&Options { limits, ..Options::host(MAC, 0, 0) }).err(), Some(Error::Invalid));
+    }
+}
+
+#[test]
+fn policies_are_chosen() {
+    let policies = Policies { timers: true, ..Default::default() };
+    for (policies, retrans_timer) in [(policies, 1_000), (Policies::default(), u32::MAX)] {
+        let mut node = Node::open(&Options { policies, draws: Draws::Word(0), ..Options::host(MAC, 0, 0) }).unwrap();
+        assert_eq!(node.receive(1_200, &bytes(RETRANS_TIMER_OF_49_DAYS)), Ok(Outcome::Done));
+        assert_eq!(node.parameters(1_200).unwrap().retrans_timer, retrans_timer);
     }
 }
 

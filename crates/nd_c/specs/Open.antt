@@ -2,7 +2,7 @@
 use Rattle.std.specs.Prelude.{◌≡◌, ◌⊎◌, ℕ, List, [], ℤ, Option, None, Some, IsSomeAnd}
 use Rattle.nd_chronicle.specs.History.{beginning}
 use Rattle.nd_chronicle.specs.Start.{Start}
-use Rattle.nd_node.specs.Node.{starting}
+use Rattle.nd_node.specs.Node.{starting, with_policies}
 use Rattle.nd_node.specs.NodeKept.{Stands}
 use Rattle.nd_random.specs.Source.{seeded, stream_of_source}
 use Rattle.nd_random.specs.declared.source.Source.{Source}
@@ -21,7 +21,7 @@ source_of (Word word) = Constant word
 
 -- how the node starts
 abbrev pub start_of : Opening → Start
-start_of o = starting o.start o.role o.mac o.transmits o.limits (stream_of_source (source_of o.draws))
+start_of o = with_policies o.policies (starting o.start o.role o.mac o.transmits o.limits (stream_of_source (source_of o.draws)))
 
 -- A session that has just been opened: its node stands for the beginning, and nothing is reported yet.
 pub record Begins (opening : Opening) (s : Session) : Type 0 where

@@ -54,6 +54,7 @@ fn start(alloc: Global, opening: &Opening) -> Result<Session, AllocError>
         opening.start,
         opening.transmits,
         opening.limits,
+        opening.policies,
         source_of(opening.draws),
     )
 }

@@ -1,9 +1,11 @@
 -- What a node is opened with, from C.
-use Rattle.std.specs.Prelude.{ℕ, ◌-◌, ◌^◌, ◌==◌, ◌&&◌, ◌||◌, nat_le, nat_lt, Bool, IsTrue, if◌then◌else◌, List, [], ◌∷◌, drop, slice_index}
+use Rattle.std.specs.Prelude.{ℕ, ◌-◌, ◌^◌, ◌==◌, ◌&&◌, ◌||◌, nat_le, nat_lt, bit_and, Bool, IsTrue, if◌then◌else◌, List, [], ◌∷◌, drop, slice_index}
 use Rattle.std.specs.List.{AllPass}
 use Rattle.byteorder.specs.Endian.{little_from}
 use Rattle.nd_addr.specs.declared.role.Role.{Role}
 use Rattle.nd_addr.specs.declared.role.Role.TheVariants as roles
+use Rattle.nd_decode.specs.Option.{is_set}
+use Rattle.nd_chronicle.specs.Start.{Policies}
 use Rattle.nd_c_types.specs.Limits.{limits_at, chosen, number_or, AreChosen}
 use Rattle.nd_c_types.specs.declared.options.Draws.{Draws}
 use Rattle.nd_c_types.specs.declared.options.Draws.TheVariants.{Seed, Word}
@@ -39,13 +41,21 @@ are_draws draws seed = (draws == 0) || ((draws == 1) && nat_le seed (2 ^ 32 - 1)
 abbrev pub draws_in : ℕ → ℕ → Draws
 draws_in draws seed = if draws == 0 then Seed seed else Word seed
 
+-- a sum of enum nd_policy
+abbrev pub are_policies : ℕ → Bool
+are_policies bits = bit_and bits (2 ^ 32 - 1 - 4 - 16) == 0
+
+-- the policies whose bits are set
+abbrev pub policies_in : ℕ → Policies
+policies_in bits = record { timers = is_set bits 4; unicast = is_set bits 16 }
+
 -- the role of 0 or 1
 abbrev pub role_in : ℕ → Role
 role_in number = if number == 0 then roles.Host else roles.Router
 
--- each field but the limits is within its range, and no policy is asked for: none is built
+-- each field but the limits is within its range
 abbrev pub is_well_formed : Options → Bool
-is_well_formed o = nat_le o.role 1 && nat_le o.transmits 8 && are_draws o.draws o.seed && (o.policies == 0) && nat_lt o.start (2 ^ 62)
+is_well_formed o = nat_le o.role 1 && nat_le o.transmits 8 && are_draws o.draws o.seed && are_policies o.policies && nat_lt o.start (2 ^ 62)
 
 -- and each limit is within its own
 pub record AreWellFormed (o : Options) : Type 0 where
@@ -60,6 +70,7 @@ opening_in o = record {
   start = o.start;
   transmits = number_or o.transmits 1;
   limits = chosen o.limits;
+  policies = policies_in o.policies;
   draws = draws_in o.draws o.seed;
 }
 

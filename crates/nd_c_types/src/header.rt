@@ -22,6 +22,12 @@ pub const DRAWS_SEED: u8 = 0;
 /// Each random word is `seed`.
 pub const DRAWS_WORD: u8 = 1;
 
+/// Numbers of an advertisement that are outside their ranges say nothing.
+pub const POLICY_TIMERS: u32 = 4;
+
+/// A router sends on only what came to its own address.
+pub const POLICY_UNICAST: u32 = 16;
+
 // What a node reports: `enum nd_kind`.
 pub const OUT_FRAME: u32 = 1;
 

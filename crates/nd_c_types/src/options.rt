@@ -4,15 +4,15 @@ ghost use Rattle.std.specs.Prelude.{◌≡◌, ◌<◌, ◌↔◌, ◌^◌, IfSo
 ghost use Rattle.std.specs.List.{AllPass};
 ghost use Rattle.std.specs.Option.{SomeIff};
 ghost use Rattle.nd_c_types.specs.Limits.{number_or};
-ghost use Rattle.nd_c_types.specs.Options.{are_draws, draws_in, is_well_formed, is_zero, opening_in, options_in, AreOptions, AreWellFormed, IsKnown};
+ghost use Rattle.nd_c_types.specs.Options.{are_draws, are_policies, draws_in, is_well_formed, is_zero, opening_in, policies_in, options_in, AreOptions, AreWellFormed, IsKnown};
 
 use crate::bytes::{byte_at, u32_at, u64_at};
-use crate::header::{DRAWS_SEED, DRAWS_WORD, MOMENT_LIMIT};
+use crate::header::{DRAWS_SEED, DRAWS_WORD, MOMENT_LIMIT, POLICY_TIMERS, POLICY_UNICAST};
 use crate::limits::Limits;
 use crate::role::role_of;
 use nd_addr::{Mac, Role};
 use nd_heard::header::ROLE_ROUTER;
-use nd_node::Limits as NodeLimits;
+use nd_node::{Limits as NodeLimits, Policies};
 use nd_slaac::Transmits;
 
 /// The number of bytes of the structure.
@@ -35,7 +35,7 @@ pub struct Options {
     pub transmits: u8,
     /// ND_DRAWS_SEED or ND_DRAWS_WORD.
     pub draws: u8,
-    /// The policies, a bit for each. None is built yet.
+    /// The policies: a sum of ND_POLICY_TIMERS and its like.
     pub policies: u32,
     /// The moment of the start, in milliseconds.
     pub start: u64,
@@ -62,6 +62,7 @@ pub struct Opening {
     pub start: u64,
     pub transmits: Transmits,
     pub limits: NodeLimits,
+    pub policies: Policies,
     pub draws: Draws,
 }
 
@@ -106,18 +107,19 @@ impl Options {
             start: self.start,
             transmits,
             limits,
+            policies: policies_of(self.policies),
             draws: draws_of(self.draws, self.seed),
         })
     }
 
-    /// Returns true if each field but the limits is within its range, and no policy is asked for.
+    /// Returns true if each field but the limits is within its range.
     fn is_well_formed(&self) -> bool
         ensures { result ≡ is_well_formed self.now }
     {
         self.role <= ROLE_ROUTER
             && self.transmits <= MOST_TRANSMITS
             && are_draws(self.draws, self.seed)
-            && self.policies == 0
+            && are_policies(self.policies)
             && self.start < MOMENT_LIMIT
     }
 }
@@ -166,6 +168,30 @@ fn are_draws(draws: u8, seed: u64) -> bool
     ensures { result ≡ are_draws draws seed }
 {
     draws == DRAWS_SEED || (draws == DRAWS_WORD && seed <= u64::from(u32::MAX))
+}
+
+/// Returns true if no bit is set but those of policies.
+fn are_policies(bits: u32) -> bool
+    ensures { result ≡ are_policies bits }
+{
+    bits & !(POLICY_TIMERS | POLICY_UNICAST) == 0
+}
+
+/// Returns the policies whose bits are set.
+fn policies_of(bits: u32) -> Policies
+    ensures { result ≡ policies_in bits }
+{
+    let none = Policies::none();
+    let timers = if bits & POLICY_TIMERS == 0 {
+        none
+    } else {
+        none.with_timers()
+    };
+    if bits & POLICY_UNICAST == 0 {
+        timers
+    } else {
+        timers.with_unicast()
+    }
 }
 
 /// Returns where the random words come from.
