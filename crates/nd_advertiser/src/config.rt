@@ -21,7 +21,7 @@ const MILLISECONDS_PER_SECOND: u64 = 1000;
 const GREATEST_LIFETIME: u16 = 9000;
 
 /// The greatest AdvReachableTime, in milliseconds: an hour (RFC 4861, section 6.2.1).
-const GREATEST_REACHABLE_TIME: u32 = 3_600_000;
+pub const GREATEST_REACHABLE_TIME: u32 = 3_600_000;
 
 /// The flags of a Router Advertisement, and its preference (RFC 4861, section 4.2; RFC 4191, section 2.2).
 #[derive(Clone, Copy, Debug, PartialEq, Eq)]

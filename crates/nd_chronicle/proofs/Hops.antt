@@ -3,6 +3,7 @@ use Rattle.std.proofs.Common.{◌≡◌, ℕ, List, refl, sym, ◌∙◌, ap, su
 use Rattle.std.specs.Prelude.{map}
 use Rattle.std.proofs.lemmas.Bool.Decides.{eqb_tells}
 use Rattle.nd_addr.specs.declared.addr.Addr.{Addr}
+use Rattle.nd_addr.specs.declared.mac.Mac.{Mac}
 use Rattle.nd_addr.specs.Number.{number_of}
 use Rattle.nd_addr.specs.Prefix.{PrefixValue}
 use Rattle.nd_decode.specs.declared.body.Body.{Body}
@@ -31,8 +32,8 @@ use Rattle.nd_chronicle.specs.Reading.{IsRead, read_outcome}
 use Rattle.nd_chronicle.specs.Hearing.{FromFirstHop, NotFromFirstHop, Verdict, Judges, IsDropped, IsTaken, IsStrange, IsMisdirected, IsPacket, IsPassing, IsStrangePacket, IsHeard}
 
 -- a frame is read in one way
-pub one_read : (frame : List ℕ) (policies : Policies) (role : Role) (a b : Outcome) → IsRead policies frame role a → IsRead policies frame role b → a ≡ b
-one_read frame policies role a b h k = h.as_read ∙ ap (λ (o : Outcome). read_outcome policies o) (hears_one frame role h.said k.said h.by_frame k.by_frame) ∙ sym k.as_read
+pub one_read : (frame : List ℕ) (policies : Policies) (mac : Mac) (role : Role) (a b : Outcome) → IsRead policies mac frame role a → IsRead policies mac frame role b → a ≡ b
+one_read frame policies mac role a b h k = h.as_read ∙ ap (λ (o : Outcome). read_outcome policies mac o) (hears_one frame role h.said k.said h.by_frame k.by_frame) ∙ sym k.as_read
 
 module _ (c : Chronicle) (now : ℕ) where
   pub one_router_list : (es fs : List (Lasting ℕ)) → Lists same (announcements (router_history c)) now es → Lists same (announcements (router_history c)) now fs → es ≡ fs
@@ -89,4 +90,4 @@ module _ (c : Chronicle) (now : ℕ) where
 
     pub one_heard : (frame : List ℕ) (a b : Verdict) → IsHeard start c now frame a → IsHeard start c now frame b → a ≡ b
     one_heard frame a b h k =
-        one_judged (subst (λ (o : Outcome). Judges start c now frame o a) (one_read frame start.policies start.role h.outcome k.outcome h.by_frame k.by_frame) h.by_node) k.by_node
+        one_judged (subst (λ (o : Outcome). Judges start c now frame o a) (one_read frame start.policies start.mac start.role h.outcome k.outcome h.by_frame k.by_frame) h.by_node) k.by_node

@@ -1,4 +1,5 @@
 pub mod Places
+pub mod Reading
 pub mod Hops
 pub mod Dues
 pub mod Events

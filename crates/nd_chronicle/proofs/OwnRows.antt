@@ -4,6 +4,7 @@ use Rattle.std.specs.Prelude.{MatchBool, bytes_eq, ◌||◌, ◌&&◌, ◌==◌,
 use Rattle.std.proofs.lemmas.Bool.{eq-eqb, true≢false}
 use Rattle.std.specs.Option.{option_map, option_to_list}
 use Rattle.nd_addr.specs.declared.addr.Addr.{Addr}
+use Rattle.nd_addr.specs.declared.mac.Mac.{Mac}
 use Rattle.nd_addr.specs.Kind.{multicast_prefix, unspecified_address}
 use Rattle.nd_addr.specs.Ip6.{PacketParts}
 use Rattle.nd_addr.specs.Number.{number_of, holds}
@@ -50,6 +51,7 @@ use Rattle.nd_chronicle.specs.Refused.{UnlessRefused, AtRouter}
 use Rattle.nd_chronicle.specs.Advertising.{advertising_by, planning, telling_end, wants_answer, full_of_offers, full_of_routes}
 use Rattle.nd_chronicle.specs.Forwarding.{Redirects, SendsOn, FateAdds, redirect_to}
 use Rattle.nd_chronicle.specs.Reading.{IsRead, read_outcome}
+use Rattle.nd_chronicle.proofs.Reading.{prefixes_as_said}
 use Rattle.nd_chronicle.specs.Hearing.{Verdict, hears, goes_up, goes_on, drops, IsForUs, Judges, IsTaken, takes_target, is_awake}
 use Rattle.nd_chronicle.specs.Message.{said, PlaceFor, sending_if_known, telling_if_known, releasing, leaving}
 use Rattle.nd_chronicle.specs.RouterAdvertisement.{forming, redrawing, with_delay, then_options, times_out, then_advertised}
@@ -191,11 +193,11 @@ prefixes_of (other packet) = []
 prefixes_of (dropped why) = []
 
 -- no policy reads other prefixes
-spelled_as : (frame : List ℕ) (role : Role) (policies : Policies) (source destination : Addr) (message : Parts) (said : Outcome) → Hears frame role said → valid source destination message ≡ read_outcome policies said
-    → IsSpelled frame message.options
-spelled_as frame role policies source destination message (valid s d m) h e = record { spelling = m; spelled = h.4; prefixes = ap prefixes_of e }
-spelled_as frame role policies source destination message (other packet) h e = let no : ⊥ = cc in absurd no
-spelled_as frame role policies source destination message (dropped why) h e = let no : ⊥ = cc in absurd no
+spelled_as : (frame : List ℕ) (role : Role) (policies : Policies) (mac : Mac) (source destination : Addr) (message : Parts) (said : Outcome) → Hears frame role said
+    → valid source destination message ≡ read_outcome policies mac said → IsSpelled frame message.options
+spelled_as frame role policies mac source destination message (valid s d m) h e = record { spelling = m; spelled = h.4; prefixes = ap prefixes_of e ∙ prefixes_as_said policies mac m.options }
+spelled_as frame role policies mac source destination message (other packet) h e = let no : ⊥ = cc in absurd no
+spelled_as frame role policies mac source destination message (dropped why) h e = let no : ⊥ = cc in absurd no
 
 differs : {a b : ℕ} → (a == b) ≡ false → a ≢ b
 differs {a = a} {b = b} e same = true≢false (sym (eq-eqb a b same) ∙ e)
@@ -287,9 +289,9 @@ module _ (start : Start) (now : ℕ) (event : Event) (c : Chronicle) where
       brings_message (bodies.Redirect r) takes awake d h = Nothing (ap address_history h.2 ∙ known_place h.0 h.1)
 
     -- what is heard is for this node, and the frame spells its prefixes
-    heard : {outcome : Outcome} (frame : List ℕ) → Judges start c now frame outcome (hears source destination message) → IsRead start.policies frame start.role outcome
+    heard : {outcome : Outcome} (frame : List ℕ) → Judges start c now frame outcome (hears source destination message) → IsRead start.policies start.mac frame start.role outcome
         → IsForUs start c source destination message × IsSpelled frame message.options
-    heard frame (IsTaken u first) says = (u, spelled_as frame start.role start.policies source destination message says.said says.by_frame says.as_read)
+    heard frame (IsTaken u first) says = (u, spelled_as frame start.role start.policies start.mac source destination message says.said says.by_frame says.as_read)
 
   -- ---- a packet goes
 
@@ -309,7 +311,7 @@ module _ (start : Start) (now : ℕ) (event : Event) (c : Chronicle) where
   brings_fate lost_hop_limit packet bytes d h = Nothing (ap address_history h)
   brings_fate (sent next) packet bytes d h = brings_sends_on (redirect_to start now packet c) packet bytes _ d h
 
-  brings_verdict : (frame : List ℕ) → event ≡ events.Receives frame → (outcome : Outcome) (v : Verdict) (d : Chronicle) → IsRead start.policies frame start.role outcome → Judges start c now frame outcome v
+  brings_verdict : (frame : List ℕ) → event ≡ events.Receives frame → (outcome : Outcome) (v : Verdict) (d : Chronicle) → IsRead start.policies start.mac frame start.role outcome → Judges start c now frame outcome v
       → VerdictAdds start now frame v c d → Brings start now event c d
   brings_verdict frame received outcome (drops why) d says j h = Nothing (ap address_history h)
   brings_verdict frame received outcome (goes_up packet) d says j h = Nothing (ap address_history h)

@@ -15,10 +15,11 @@ use Rattle.nd_compose.specs.Meaning.{IsUnicast, IsDetection, IsDefence}
 use Rattle.nd_compose.proofs.Meant.{detection_heard, defence_heard}
 use Rattle.nd_chronicle.specs.Start.{Start}
 use Rattle.nd_chronicle.specs.Happening.{Chronicle, Heard}
-use Rattle.nd_chronicle.specs.Hearing.{hears, is_awake, IsTaken}
+use Rattle.nd_chronicle.specs.Reading.{read_message}
+use Rattle.nd_chronicle.specs.Hearing.{hears, is_awake, is_foreign, IsTaken}
 use Rattle.nd_chronicle.specs.NeighborSolicitation.{then_tried}
 use Rattle.nd_chronicle.specs.NeighborAdvertisement.{then_neighbor_advertised}
-use Rattle.nd_chronicle.specs.OwnAddress.{is_own}
+use Rattle.nd_chronicle.specs.OwnAddress.{is_assigned, is_own}
 use Rattle.nd_chronicle.specs.Event.{FrameAdds}
 use Rattle.nd_chronicle.proofs.Events.{one_frame}
 
@@ -29,17 +30,20 @@ own_is_taken false true e = refl
 own_is_taken false false e = e
 
 module _ (start : Start) (c : Chronicle) (now : ℕ) (frame : List ℕ) (address : Addr) (bytes : AreBytes 16 address.0) where
+  abbrev as_read : Parts → Parts
+  as_read message = read_message start.policies start.mac message
+
   -- a solicitation from :: for an own address
   tried_by : (message : Parts) → message.body ≡ bodies.Ns (record { target = address }) → is_own c address.0 ≡ true → is_awake start c unspecified (bodies.Ns (record { target = address })) ≡ true
-      → Hears frame start.role (valid unspecified (solicited_node address) message)
-      → FrameAdds start now frame c (then_tried start now address ((now, Heard unspecified (solicited_node address) message) ∷ c))
-  tried_by message e own awake heard =
-      subst (λ (m : Parts). Hears frame start.role (valid unspecified (solicited_node address) m) → FrameAdds start now frame c (then_tried start now address ((now, Heard unspecified (solicited_node address) m) ∷ c)))
+      → is_foreign start (is_assigned c) unspecified ≡ true → Hears frame start.role (valid unspecified (solicited_node address) message)
+      → FrameAdds start now frame c (then_tried start now address ((now, Heard unspecified (solicited_node address) (as_read message)) ∷ c))
+  tried_by message e own awake foreign heard =
+      subst (λ (m : Parts). Hears frame start.role (valid unspecified (solicited_node address) m) → FrameAdds start now frame c (then_tried start now address ((now, Heard unspecified (solicited_node address) (as_read m)) ∷ c)))
       (sym (ap (λ (b : Body). let m : Parts = record { body = b; options = message.options } in m) e))
       (λ h. record {
-        verdict = hears unspecified (solicited_node address) (record { body = bodies.Ns (record { target = address }); options = message.options });
+        verdict = hears unspecified (solicited_node address) (as_read (record { body = bodies.Ns (record { target = address }); options = message.options }));
         heard = record {
-          outcome = valid unspecified (solicited_node address) (record { body = bodies.Ns (record { target = address }); options = message.options });
+          outcome = valid unspecified (solicited_node address) (as_read (record { body = bodies.Ns (record { target = address }); options = message.options }));
           by_frame = record { said = valid unspecified (solicited_node address) (record { body = bodies.Ns (record { target = address }); options = message.options }); by_frame = h; as_read = refl };
           by_node = IsTaken (record {
             destination_is = inr (inr (record {
@@ -49,34 +53,35 @@ module _ (start : Start) (c : Chronicle) (now : ℕ) (frame : List ℕ) (address
             }));
             target = own_is_taken _ _ own;
             awake = awake;
+            foreign = foreign;
           }) tt;
         };
         adds = (None, record { neighbours = true; placed = refl; first = refl }, refl);
       }) heard
 
   pub tried : (d : Chronicle) → IsUnicast address → (t : IsDetection frame address) → is_own c address.0 ≡ true → is_awake start c unspecified (bodies.Ns (record { target = address })) ≡ true
-      → FrameAdds start now frame c d → d ≡ then_tried start now address ((now, Heard unspecified (solicited_node address) t.message) ∷ c)
-  tried d unicast t own awake adds = one_frame start c now frame d _ adds (tried_by t.message t.body_is own awake (detection_heard frame address start.role unicast t))
+      → is_foreign start (is_assigned c) unspecified ≡ true → FrameAdds start now frame c d → d ≡ then_tried start now address ((now, Heard unspecified (solicited_node address) (as_read t.message)) ∷ c)
+  tried d unicast t own awake foreign adds = one_frame start c now frame d _ adds (tried_by t.message t.body_is own awake foreign (detection_heard frame address start.role unicast t))
 
   -- an advertisement of an address to all nodes
   held_by : (message : Parts) (router overrides : Bool) → message.body ≡ bodies.Na (record { router = router; solicited = false; override_flag = overrides; target = address })
       → is_awake start c address (bodies.Na (record { router = router; solicited = false; override_flag = overrides; target = address })) ≡ true
-      → Hears frame start.role (valid address all_nodes message)
-      → FrameAdds start now frame c (then_neighbor_advertised now address all_nodes address message c)
-  held_by message router overrides e awake heard =
-      subst (λ (m : Parts). Hears frame start.role (valid address all_nodes m) → FrameAdds start now frame c (then_neighbor_advertised now address all_nodes address m c))
+      → is_foreign start (is_assigned c) address ≡ true → Hears frame start.role (valid address all_nodes message)
+      → FrameAdds start now frame c (then_neighbor_advertised now address all_nodes address (as_read message) c)
+  held_by message router overrides e awake foreign heard =
+      subst (λ (m : Parts). Hears frame start.role (valid address all_nodes m) → FrameAdds start now frame c (then_neighbor_advertised now address all_nodes address (as_read m) c))
       (sym (ap (λ (b : Body). let m : Parts = record { body = b; options = message.options } in m) e))
       (λ h. record {
-        verdict = hears address all_nodes (record { body = bodies.Na (record { router = router; solicited = false; override_flag = overrides; target = address }); options = message.options });
+        verdict = hears address all_nodes (as_read (record { body = bodies.Na (record { router = router; solicited = false; override_flag = overrides; target = address }); options = message.options }));
         heard = record {
-          outcome = valid address all_nodes (record { body = bodies.Na (record { router = router; solicited = false; override_flag = overrides; target = address }); options = message.options });
+          outcome = valid address all_nodes (as_read (record { body = bodies.Na (record { router = router; solicited = false; override_flag = overrides; target = address }); options = message.options }));
           by_frame = record { said = valid address all_nodes (record { body = bodies.Na (record { router = router; solicited = false; override_flag = overrides; target = address }); options = message.options }); by_frame = h; as_read = refl };
-          by_node = IsTaken (record { destination_is = inl refl; target = refl; awake = awake }) tt;
+          by_node = IsTaken (record { destination_is = inl refl; target = refl; awake = awake; foreign = foreign }) tt;
         };
         adds = (None, record { neighbours = true; placed = λ enters full. (let no : ⊥ = cc in no); first = refl }, (c, record { pushed = None; place = refl; with_it = refl }, refl));
       }) heard
 
   pub told : (d : Chronicle) → IsUnicast address → (t : IsDefence frame address)
       → is_awake start c address (bodies.Na (record { router = t.router; solicited = false; override_flag = t.overrides; target = address })) ≡ true
-      → FrameAdds start now frame c d → d ≡ then_neighbor_advertised now address all_nodes address t.message c
-  told d unicast t awake adds = one_frame start c now frame d _ adds (held_by t.message t.router t.overrides t.body_is awake (defence_heard frame address start.role unicast t))
+      → is_foreign start (is_assigned c) address ≡ true → FrameAdds start now frame c d → d ≡ then_neighbor_advertised now address all_nodes address (as_read t.message) c
+  told d unicast t awake foreign adds = one_frame start c now frame d _ adds (held_by t.message t.router t.overrides t.body_is awake foreign (defence_heard frame address start.role unicast t))

@@ -54,11 +54,16 @@ abbrev pub is_awake : Start → Chronicle → Addr → Body → Bool
 is_awake start c source body =
     is_up start c || (is_tentative c (link_local start).0 && conflicts_with (link_local start).0 source body)
 
--- the message is for this node
+-- with the policy `self` what comes from one of the node's addresses that count is of no other node
+abbrev pub is_foreign : Start → (List ℕ → Bool) → Addr → Bool
+is_foreign start counts source = not (start.policies.own && counts source.0)
+
+-- the message is for this node. The source of a defender's advertisement is the address that is tentative here: only an assigned one is the node's own.
 pub record IsForUs (start : Start) (c : Chronicle) (source destination : Addr) (message : Parts) : Type 0 where
   pub destination_is : IsOurs start (is_own c) destination
   pub target : takes_target c source message.body ≡ true
   pub awake : is_awake start c source message.body ≡ true
+  pub foreign : is_foreign start (is_assigned c) source ≡ true
 
 -- the packet is for this node: for an address that is assigned
 pub record IsPacketForUs (start : Start) (c : Chronicle) (packet : PacketParts) : Type 0 where
@@ -78,6 +83,7 @@ pub record IsInTransit (start : Start) (c : Chronicle) (frame : List ℕ) (packe
   pub may : may_be_forwarded packet.header ≡ true
   pub up : is_up start c ≡ true
   pub came : came_to start frame ≡ true
+  pub foreign : is_foreign start (is_own c) packet.header.source ≡ true
 
 -- ---- the sender of a Redirect
 
@@ -118,5 +124,5 @@ pub data Judges (start : Start) (c : Chronicle) (now : ℕ) (frame : List ℕ) :
 -- this is made of the frame
 pub record IsHeard (start : Start) (c : Chronicle) (now : ℕ) (frame : List ℕ) (verdict : Verdict) : Type 0 where
   pub outcome : Outcome
-  pub by_frame : IsRead start.policies frame start.role outcome
+  pub by_frame : IsRead start.policies start.mac frame start.role outcome
   pub by_node : Judges start c now frame outcome verdict

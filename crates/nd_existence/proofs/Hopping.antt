@@ -30,7 +30,7 @@ use Rattle.nd_chronicle.specs.Histories.{router_history, prefix_history, redirec
 use Rattle.nd_chronicle.specs.NextHop.{candidate, IsNextHop, routed_hop, IsHopOf}
 use Rattle.nd_chronicle.specs.OwnAddress.{story_of, is_assigned, is_own, is_up}
 use Rattle.nd_chronicle.specs.Reading.{read_outcome}
-use Rattle.nd_chronicle.specs.Hearing.{came_to, IsCounted, IsOurs, takes_target, is_awake, IsForUs, IsPacketForUs, IsInTransit, FromFirstHop, NotFromFirstHop, Verdict, Judges, IsDropped, IsTaken, IsStrange, IsMisdirected, IsPacket, IsPassing, IsStrangePacket, IsHeard}
+use Rattle.nd_chronicle.specs.Hearing.{came_to, is_foreign, IsCounted, IsOurs, takes_target, is_awake, IsForUs, IsPacketForUs, IsInTransit, FromFirstHop, NotFromFirstHop, Verdict, Judges, IsDropped, IsTaken, IsStrange, IsMisdirected, IsPacket, IsPassing, IsStrangePacket, IsHeard}
 use Rattle.nd_existence.proofs.Deciding.{either_or, both_or, true_or, false_or, same_or, some_below}
 use Rattle.nd_existence.proofs.Tables.{address_bound, nothing_of_address}
 use Rattle.nd_existence.proofs.Listings.{listed}
@@ -119,9 +119,9 @@ module _ (c : Chronicle) (counts : List ℕ → Bool) (counted : Counts c counts
 module _ (start : Start) (c : Chronicle) where
   for_us_or : (source destination : Addr) (message : Parts) → IsForUs start c source destination message ⊎ (IsForUs start c source destination message → ⊥)
   for_us_or source destination message =
-      elim (both_or (ours_or c (is_own c) (own_counts c) destination start) (both_or (true_or (takes_target c source message.body)) (true_or (is_awake start c source message.body)))) [
-        | inl p ↦ inl (record { destination_is = p.0; target = p.1.0; awake = p.1.1 })
-        | inr none ↦ inr (λ is. none (is.destination_is, (is.target, is.awake)))
+      elim (both_or (ours_or c (is_own c) (own_counts c) destination start) (both_or (true_or (takes_target c source message.body)) (both_or (true_or (is_awake start c source message.body)) (true_or (is_foreign start (is_assigned c) source))))) [
+        | inl p ↦ inl (record { destination_is = p.0; target = p.1.0; awake = p.1.1.0; foreign = p.1.1.1 })
+        | inr none ↦ inr (λ is. none (is.destination_is, (is.target, (is.awake, is.foreign))))
       ]
 
   packet_for_us_or : (packet : PacketParts) → IsPacketForUs start c packet ⊎ (IsPacketForUs start c packet → ⊥)
@@ -133,9 +133,9 @@ module _ (start : Start) (c : Chronicle) where
 
   in_transit_or : (frame : List ℕ) (packet : PacketParts) → (IsPacketForUs start c packet → ⊥) → IsInTransit start c frame packet ⊎ (IsInTransit start c frame packet → ⊥)
   in_transit_or frame packet not_ours =
-      elim (both_or (router_or start.role) (both_or (false_or (is_own c packet.header.destination.0)) (both_or (true_or (may_be_forwarded packet.header)) (both_or (true_or (is_up start c)) (true_or (came_to start frame)))))) [
-        | inl p ↦ inl (record { role = p.0; not_ours = not_ours; not_own = p.1.0; may = p.1.1.0; up = p.1.1.1.0; came = p.1.1.1.1 })
-        | inr none ↦ inr (λ is. none (is.role, (is.not_own, (is.may, (is.up, is.came)))))
+      elim (both_or (router_or start.role) (both_or (false_or (is_own c packet.header.destination.0)) (both_or (true_or (may_be_forwarded packet.header)) (both_or (true_or (is_up start c)) (both_or (true_or (came_to start frame)) (true_or (is_foreign start (is_own c) packet.header.source))))))) [
+        | inl p ↦ inl (record { role = p.0; not_ours = not_ours; not_own = p.1.0; may = p.1.1.0; up = p.1.1.1.0; came = p.1.1.1.1.0; foreign = p.1.1.1.1.1 })
+        | inr none ↦ inr (λ is. none (is.role, (is.not_own, (is.may, (is.up, (is.came, is.foreign))))))
       ]
 
 -- ---- what is heard
@@ -168,5 +168,5 @@ module _ (start : Start) (c : Chronicle) (now : ℕ) where
   pub frame_heard : (frame : List ℕ) → (verdict : Verdict) × IsHeard start c now frame verdict
   frame_heard frame =
       let said = hearing_of frame start.role in
-      let j = judged frame (read_outcome start.policies said) in
-      (j.0, record { outcome = read_outcome start.policies said; by_frame = record { said = said; by_frame = hears frame start.role; as_read = refl }; by_node = j.1 })
+      let j = judged frame (read_outcome start.policies start.mac said) in
+      (j.0, record { outcome = read_outcome start.policies start.mac said; by_frame = record { said = said; by_frame = hears frame start.role; as_read = refl }; by_node = j.1 })

@@ -6,7 +6,7 @@ use Rattle.std.proofs.lemmas.Bool.Decides.{Decides-eqb}
 use Rattle.std.proofs.lemmas.List.Elements.{All-append, All-from_recursion}
 use Rattle.nd_addr.specs.Bytes.{AreBytes}
 use Rattle.nd_table.proofs.Tests.{by_false}
-use Rattle.nd_chronicle.specs.Start.{Start}
+use Rattle.nd_chronicle.specs.Start.{Start, no_policies}
 use Rattle.nd_chronicle.specs.Happening as chronicle
 use Rattle.nd_chronicle.specs.Happening.{Chronicle, Passed, TooLate}
 use Rattle.nd_chronicle.specs.Due.{What, Due, comes}
@@ -25,6 +25,7 @@ use Rattle.nd_link_log.proofs.Moments.{each_in, newest_moment}
 pub record Lives (Bytes : Type 0) (start : Start) (c : Chronicle) (last : ℕ) : Type 0 where
   pub mac : Bytes → AreBytes 6 start.mac.0
   pub transmits : Bytes → 0 < start.transmits
+  pub policies : start.policies ≡ no_policies
   pub events : List (ℕ × nodes.Event)
   pub bytes : Bytes → All (λ event. ComesAsBytes event.1) events
   pub runs : IsChronicle start events c
@@ -86,6 +87,7 @@ module _ (Bytes : Type 0) (start : Start) (c : Chronicle) (now : ℕ) (r : Reach
       let late = ap (nat_lt now) l.last_is ∙ r.in_time in record {
         mac = l.mac;
         transmits = l.transmits;
+        policies = l.policies;
         events = l.events ++ ((now, event) ∷ []);
         bytes = λ b. All-append each l.events ((now, event) ∷ []) (l.bytes b) (All-from_recursion each ((now, event) ∷ []) (bytes b, tt));
         runs = runs_further start l.events ((now, event) ∷ []) _ r.before d l.runs

@@ -161,7 +161,7 @@ module _ (i now : ℕ) (reached e : Log) where
   stays_there : i < nodes reached → Seen ⊥ now reached e → start_of i e ≡ start_of i reached
   stays_there lt (Nothing same) = ap (start_of i) same
   stays_there lt (Refused why moment same) = ap (start_of i) same
-  stays_there lt (Started start moment types same) =
+  stays_there lt (Started start moment policies types same) =
       ap (start_of i) same ∙ (start_with i (nodes reached) (beginning start) (Begins (nodes reached) start ∷ reached) ∙ begun_start start false (not_new lt (nodes reached == i) refl))
   stays_there lt (Came k start event rows bytes is gained same) = ap (start_of i) same ∙ start_with i k rows reached
   stays_there lt (Brought k number sender at frame start rows is_frame is gained same) = ap (start_of i) same ∙ start_with i k rows (Carries k now number ∷ reached)
@@ -173,7 +173,7 @@ module _ (i now : ℕ) (reached e : Log) where
   born rows none start is (Came k other event more bytes there gained same) = absurd (none_is_some start (start_of i reached) none (sym (ap (start_of i) same ∙ start_with i k more reached) ∙ is))
   born rows none start is (Brought k number sender at frame other more is_frame there gained same) =
       absurd (none_is_some start (start_of i reached) none (sym (ap (start_of i) same ∙ start_with i k more (Carries k now number ∷ reached)) ∙ is))
-  born rows none start is (Started new moment types same) = by (nodes reached == i) refl
+  born rows none start is (Started new moment policies types same) = by (nodes reached == i) refl
     where
       begun : Log
       begun = Begins (nodes reached) new ∷ reached

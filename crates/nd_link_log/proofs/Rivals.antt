@@ -1,6 +1,6 @@
 -- What comes of a frame that is carried: a row that is gained, and how the frames of detection are heard at a node.
 use Rattle.std.proofs.Common.{◌≡◌, inl, inr, ℕ, ◌-◌, ◌+◌, Bool, true, false, List, ◌∷◌, ◌++◌, drop, refl, sym, ◌∙◌, ap, subst}
-use Rattle.std.specs.Prelude.{◌≢◌, ◌⊎◌, ◌==◌, ◌||◌, ◌&&◌, bytes_eq, if◌then◌else◌}
+use Rattle.std.specs.Prelude.{◌≢◌, ◌⊎◌, ◌==◌, ◌||◌, ◌&&◌, not, bytes_eq, if◌then◌else◌}
 use Rattle.std.proofs.lemmas.Bool.Decides.{Decides-eqb}
 use Rattle.std.proofs.lemmas.Slice.Eq.{bytes_eq-Decides}
 use Rattle.std.proofs.lemmas.Bool.{cases_Bool}
@@ -11,6 +11,7 @@ use Rattle.nd_addr.specs.Places.{packet_in, payload_in}
 use Rattle.nd_addr.specs.declared.addr.Addr.{Addr}
 use Rattle.nd_addr.proofs.ByteLists.{IsBytes-drop, IsBytes-take}
 use Rattle.nd_addr.proofs.Numbered.{addr_back}
+use Rattle.nd_decode.specs.Message.{Parts}
 use Rattle.nd_decode.specs.declared.body.Body.{Body}
 use Rattle.nd_decode.specs.declared.body.Body.TheVariants as bodies
 use Rattle.nd_message.specs.Fitting.{FitsBody}
@@ -22,18 +23,20 @@ use Rattle.nd_compose.specs.Meaning.{IsDefence, IsDetection, IsUnicast}
 use Rattle.nd_slaac.specs.History.{Conflict, Story}
 use Rattle.nd_slaac.specs.State as states
 use Rattle.nd_slaac.proofs.Dues.{tentative_parts}
-use Rattle.nd_chronicle.specs.Start.{Start, link_local, link_local_key}
+use Rattle.nd_chronicle.specs.Start.{Policies, Start, link_local, link_local_key}
 use Rattle.nd_chronicle.specs.Happening.{Address, Chronicle, Heard, Sent}
 use Rattle.nd_chronicle.specs.Histories.{neighbour_history}
-use Rattle.nd_chronicle.specs.Hearing.{conflicts_with, is_awake}
+use Rattle.nd_chronicle.specs.Reading.{read_message}
+use Rattle.nd_chronicle.specs.Hearing.{conflicts_with, is_awake, is_foreign}
 use Rattle.nd_chronicle.specs.Message.{leaving, releasing, said}
-use Rattle.nd_chronicle.specs.NeighborAdvertisement.{conflicting, ends_in_list}
-use Rattle.nd_chronicle.specs.NeighborSolicitation.{is_router}
+use Rattle.nd_chronicle.specs.NeighborAdvertisement.{conflicting, ends_in_list, then_neighbor_advertised}
+use Rattle.nd_chronicle.specs.NeighborSolicitation.{is_router, then_tried}
 use Rattle.nd_chronicle.specs.OwnAddress.{is_assigned, is_own, is_tentative, is_up, story_of}
 use Rattle.nd_chronicle.specs.Event.{FrameAdds}
 use Rattle.nd_chronicle.proofs.Growth.{leaving_grows, releasing_grows, stays}
 use Rattle.nd_chronicle.proofs.Grounded.{own_behind, own_known}
 use Rattle.nd_chronicle.proofs.OwnKeys.{IsUsable, own_usable}
+use Rattle.nd_chronicle.proofs.Reading.{read_by_none}
 use Rattle.nd_chronicle.proofs.Rivals.{told, tried}
 use Rattle.nd_link_log.proofs.Lives.{Lives}
 
@@ -85,6 +88,13 @@ module _ (Bytes : Type 0) (b : Bytes) (start : Start) (c : Chronicle) (now : ℕ
           let other : number_of address.0 ≢ link_local_key start = λ key. let is = (Decides-eqb (number_of address.0) (link_local_key start)).1 key in let no : ⊥ = cc in no in
           ap (λ (u : Bool). u || (is_tentative c (link_local start).0 && conflicts_with (link_local start).0 source body)) (own_behind start l.events c (l.bytes b) l.runs c address.0 (past_self c) other own)
 
+  -- nodes of a link have no policies
+  foreign : (source : Addr) → is_foreign start (is_assigned c) source ≡ true
+  foreign source = ap (λ (p : Policies). not (p.own && is_assigned c source.0)) l.policies
+
+  as_said : (message : Parts) → read_message start.policies start.mac message ≡ message
+  as_said message = ap (λ (p : Policies). read_message p start.mac message) l.policies ∙ read_by_none start.mac message
+
   itself : address ≡ link_local start → bytes_eq address.0 (link_local start).0 ≡ true
   itself same = (bytes_eq-Decides address.0 (link_local start).0).1 (ap (λ (a : Addr). a.0) same)
 
@@ -93,7 +103,8 @@ module _ (Bytes : Type 0) (b : Bytes) (start : Start) (c : Chronicle) (now : ℕ
         → d ≡ (if assigned then (now, Sent (defence_frame (is_router start.role) start.mac address)) ∷ (now, Heard unspecified (solicited_node address) t.message) ∷ c
         else (now, Address (number_of address.0) Conflict) ∷ (now, Heard unspecified (solicited_node address) t.message) ∷ c)
     by_state t assigned e =
-        tried start c now frame address bytes d unicast t own (awake unspecified (bodies.Ns (record { target = address })) (λ same. ap (λ (k : Bool). k && true) (itself same))) adds
+        tried start c now frame address bytes d unicast t own (awake unspecified (bodies.Ns (record { target = address })) (λ same. ap (λ (k : Bool). k && true) (itself same))) (foreign unspecified) adds
+        ∙ ap (λ (m : Parts). then_tried start now address ((now, Heard unspecified (solicited_node address) m) ∷ c)) (as_said t.message)
         ∙ ap (λ (k : Bool). if k then (now, Sent (defence_frame (is_router start.role) start.mac address)) ∷ (now, Heard unspecified (solicited_node address) t.message) ∷ c
         else (now, Address (number_of address.0) Conflict) ∷ (now, Heard unspecified (solicited_node address) t.message) ∷ c) e
 
@@ -117,6 +128,7 @@ module _ (Bytes : Type 0) (b : Bytes) (start : Start) (c : Chronicle) (now : ℕ
         let g = leaving_grows now start (ends_in_list now c (said c address t.message)) (number_of address.0) _
         (releasing_grows now start (said c address t.message) (neighbour_history c) conflict (stays now conflict)) in (
           g.newer,
-          told start c now frame address bytes d unicast t (awake address (bodies.Na (record { router = t.router; solicited = false; override_flag = t.overrides; target = address })) itself) adds
+          told start c now frame address bytes d unicast t (awake address (bodies.Na (record { router = t.router; solicited = false; override_flag = t.overrides; target = address })) itself) (foreign address) adds
+              ∙ ap (λ (m : Parts). then_neighbor_advertised now address all_nodes address m c) (as_said t.message)
               ∙ ap (λ (t : Bool). more (conflicting now t (number_of address.0) heard)) trying ∙ g.all,
         )

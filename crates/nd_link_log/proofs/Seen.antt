@@ -19,7 +19,7 @@ pub data Seen (Bytes : Type 0) (now : ℕ) (before d : Log) : Type 0 where
   -- it is refused
   Refused : (why : Refusal) → last_moment (Refuses now why ∷ before) ≡ now → d ≡ Refuses now why ∷ before → Seen Bytes now before d
   -- a node starts
-  Started : (start : Start) → start.at ≡ now → (Bytes → AreBytes 6 start.mac.0 × (0 < start.transmits)) → d ≡ adding (nodes before) (beginning start) (Begins (nodes before) start ∷ before)
+  Started : (start : Start) → start.at ≡ now → start.policies ≡ no_policies → (Bytes → AreBytes 6 start.mac.0 × (0 < start.transmits)) → d ≡ adding (nodes before) (beginning start) (Begins (nodes before) start ∷ before)
       → Seen Bytes now before d
   -- an event comes to a node
   Came : (node : ℕ) (start : Start) (event : nodes.Event) (rows : Chronicle) → (Bytes → ComesAsBytes event) → start_of node before ≡ Some start
@@ -41,7 +41,7 @@ module _ (Bytes : Type 0) (limits : Limits) (now : ℕ) (before d : Log) where
   pub seen : (event : Event) → (Bytes → IsOfBytes event) → EventHappens limits now event before d → Seen Bytes now before d
   seen Passes bytes h = Nothing h
   seen (Starts role mac transmits stream) bytes h = by_either (nat_lt (nodes before) max_nodes)
-      (λ more. Started (record { at = now; role = role; mac = mac; transmits = transmits; stream = stream; limits = limits; policies = no_policies }) refl bytes more)
+      (λ more. Started (record { at = now; role = role; mac = mac; transmits = transmits; stream = stream; limits = limits; policies = no_policies }) refl refl bytes more)
       (λ full. Refused Full refl full) h
   seen (Comes node event) bytes h = by_either (nat_lt node (nodes before)) (came node event bytes) (λ none. Refused NoNode refl none) h
   seen (Delivers node number) bytes h = by_either (nat_lt node (nodes before))

@@ -7,7 +7,7 @@ use Rattle.std.proofs.lemmas.List.Elements.{All-from_recursion}
 use Rattle.nd_addr.specs.Bytes.{AreBytes, IsBytes}
 use Rattle.nd_table.specs.History.{Past}
 use Rattle.nd_table.proofs.Pasts.{past_self, past_then}
-use Rattle.nd_chronicle.specs.Start.{Start}
+use Rattle.nd_chronicle.specs.Start.{Start, no_policies}
 use Rattle.nd_chronicle.specs.Happening.{Chronicle}
 use Rattle.nd_chronicle.specs.Event as nodes
 use Rattle.nd_chronicle.specs.Event.{ComesAsBytes, EventAdds}
@@ -115,7 +115,7 @@ module _ (Bytes : Type 0) (now : ℕ) (log : Log) (r : Reaching Bytes log now) w
         by false e = subst (λ (c : Chronicle). Lives Bytes other c now) (sym (other_rows i at rows d e ∙ same_rows i)) (lives_still i other here)
 
   -- a node that starts
-  module _ (start : Start) (moment : start.at ≡ now) (types : Bytes → AreBytes 6 start.mac.0 × (0 < start.transmits)) where
+  module _ (start : Start) (moment : start.at ≡ now) (policies : start.policies ≡ no_policies) (types : Bytes → AreBytes 6 start.mac.0 × (0 < start.transmits)) where
     abbrev begun : Log
     begun = Begins (nodes log) start ∷ log
 
@@ -123,7 +123,7 @@ module _ (Bytes : Type 0) (now : ℕ) (log : Log) (r : Reaching Bytes log now) w
     fresh = no_rows (nodes log) log r.kept.there (none_there (nodes log) log r.kept.numbered (omega arith))
 
     first : Lives Bytes start (beginning start) now
-    first = record { mac = λ b. (types b).0; transmits = λ b. (types b).1; events = []; bytes = λ b. All-from_recursion _ [] tt; runs = refl; last_is = moment }
+    first = record { mac = λ b. (types b).0; transmits = λ b. (types b).1; policies = policies; events = []; bytes = λ b. All-from_recursion _ [] tt; runs = refl; last_is = moment }
 
     here_now : is_some (start_of (nodes log) begun) ≡ true
     here_now = by (nodes log == nodes log) ((Decides-eqb (nodes log) (nodes log)).1 refl)
@@ -161,7 +161,7 @@ module _ (Bytes : Type 0) (now : ℕ) (log : Log) (r : Reaching Bytes log now) w
   stands_seen d sends (Refused why moment same) =
       subst (Stands Bytes) (sym same)
       (stands_at Bytes (Refuses now why ∷ log) now moment (kept_entry (Refuses now why) moment (λ b. bring_entry (Refuses now why) log refl (r.kept.bring b)) r.kept.numbered r.kept.there) lives_still)
-  stands_seen d sends (Started start moment types same) = subst (Stands Bytes) (sym same) (stands_begun start moment types)
+  stands_seen d sends (Started start moment policies types same) = subst (Stands Bytes) (sym same) (stands_begun start moment policies types)
   stands_seen d sends (Came at start event rows bytes is gained same) =
       let each = rows_at at event start rows is gained in
       subst (Stands Bytes) (sym same)

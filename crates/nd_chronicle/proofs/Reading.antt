@@ -1,0 +1,105 @@
+-- What the policies leave as it is.
+use Rattle.std.proofs.Common.{◌≡◌, ℕ, List, [], ◌∷◌, Option, None, refl, sym, ◌∙◌, ap, inl, inr}
+use Rattle.std.specs.Prelude.{◌++◌}
+use Rattle.std.specs.Option.{option_to_list}
+use Rattle.std.proofs.lemmas.Bool.{cases_Bool}
+use Rattle.nd_addr.specs.declared.addr.Addr.{Addr}
+use Rattle.nd_addr.specs.declared.mac.Mac.{Mac}
+use Rattle.nd_addr.specs.Prefix.{PrefixValue}
+use Rattle.nd_decode.specs.Message.{Parts}
+use Rattle.nd_decode.specs.Option.{Said, slla, tlla, prefix, redirected, mtu, rdnss, dnssl, other}
+use Rattle.nd_decode.specs.declared.body.Body.{Body}
+use Rattle.nd_decode.specs.declared.body.Body.TheVariants as bodies
+use Rattle.nd_decode.specs.declared.prefix_info.PrefixInfo.{PrefixInfo}
+use Rattle.nd_params.specs.RouterAdvertisement.{first_mtu}
+use Rattle.nd_routers.specs.OnLinkPrefixes as prefixes
+use Rattle.nd_slaac.specs.PrefixOption as addresses
+use Rattle.nd_dns.specs.AnnouncedServers.{servers_of, servers_told}
+use Rattle.nd_dns.specs.AnnouncedNames.{names_of, names_told}
+use Rattle.nd_chronicle.specs.Start.{Policies, no_policies}
+use Rattle.nd_chronicle.specs.Reading.{is_passed_over, own_address, read_body, read_message, read_options, without}
+
+-- ---- without a policy a message is read as it is
+
+body_by_none : (body : Body) → read_body no_policies body ≡ body
+body_by_none bodies.Rs = refl
+body_by_none (bodies.Ra ra) = refl
+body_by_none (bodies.Ns ns) = refl
+body_by_none (bodies.Na na) = refl
+body_by_none (bodies.Redirect r) = refl
+
+without_none : (options : List Said) → without None options ≡ options
+without_none [] = refl
+without_none (slla mac ∷ options) = ap (λ (more : List Said). slla mac ∷ more) (without_none options)
+without_none (tlla mac ∷ options) = ap (λ (more : List Said). tlla mac ∷ more) (without_none options)
+without_none (prefix p ∷ options) = ap (λ (more : List Said). prefix p ∷ more) (without_none options)
+without_none (redirected packet ∷ options) = ap (λ (more : List Said). redirected packet ∷ more) (without_none options)
+without_none (mtu n ∷ options) = ap (λ (more : List Said). mtu n ∷ more) (without_none options)
+without_none (rdnss lifetime servers ∷ options) = ap (λ (more : List Said). rdnss lifetime servers ∷ more) (without_none options)
+without_none (dnssl lifetime names ∷ options) = ap (λ (more : List Said). dnssl lifetime names ∷ more) (without_none options)
+without_none (other kind rest ∷ options) = ap (λ (more : List Said). other kind rest ∷ more) (without_none options)
+
+pub read_by_none : (mac : Mac) (message : Parts) → read_message no_policies mac message ≡ message
+read_by_none mac message =
+    ap (λ (b : Body). let m : Parts = record { body = b; options = without None message.options } in m) (body_by_none message.body)
+    ∙ ap (λ (options : List Said). let m : Parts = record { body = message.body; options = options } in m) (without_none message.options)
+
+-- ---- what the options say but the link-layer addresses
+
+module _ {A : Type 0} (f : List Said → A) (keeps : (option : Said) (a b : List Said) → f a ≡ f b → f (option ∷ a) ≡ f (option ∷ b))
+    (no_slla : (mac : Mac) (options : List Said) → f (slla mac ∷ options) ≡ f options) (no_tlla : (mac : Mac) (options : List Said) → f (tlla mac ∷ options) ≡ f options) where
+  by_others : (own : Option Mac) (options : List Said) → f (without own options) ≡ f options
+  by_others own [] = refl
+  by_others own (slla mac ∷ options) = elim (cases_Bool (is_passed_over own mac)) [
+    | inl e ↦ rw e (by_others own options ∙ sym (no_slla mac options))
+    | inr e ↦ rw e (keeps (slla mac) _ _ (by_others own options))
+  ]
+  by_others own (tlla mac ∷ options) = elim (cases_Bool (is_passed_over own mac)) [
+    | inl e ↦ rw e (by_others own options ∙ sym (no_tlla mac options))
+    | inr e ↦ rw e (keeps (tlla mac) _ _ (by_others own options))
+  ]
+  by_others own (prefix p ∷ options) = keeps (prefix p) _ _ (by_others own options)
+  by_others own (redirected packet ∷ options) = keeps (redirected packet) _ _ (by_others own options)
+  by_others own (mtu n ∷ options) = keeps (mtu n) _ _ (by_others own options)
+  by_others own (rdnss lifetime servers ∷ options) = keeps (rdnss lifetime servers) _ _ (by_others own options)
+  by_others own (dnssl lifetime names ∷ options) = keeps (dnssl lifetime names) _ _ (by_others own options)
+  by_others own (other kind rest ∷ options) = keeps (other kind rest) _ _ (by_others own options)
+
+  as_said : (policies : Policies) (mac : Mac) (options : List Said) → f (read_options policies mac options) ≡ f options
+  as_said policies mac options = by_others (own_address policies mac) options
+
+mtu_kept : (option : Said) (a b : List Said) → first_mtu a ≡ first_mtu b → first_mtu (option ∷ a) ≡ first_mtu (option ∷ b)
+mtu_kept (slla _) a b e = e
+mtu_kept (tlla _) a b e = e
+mtu_kept (prefix _) a b e = e
+mtu_kept (redirected _) a b e = e
+mtu_kept (mtu n) a b e = refl
+mtu_kept (rdnss _ _) a b e = e
+mtu_kept (dnssl _ _) a b e = e
+mtu_kept (other _ _) a b e = e
+
+pub mtu_as_said : (policies : Policies) (mac : Mac) (options : List Said) → first_mtu (read_options policies mac options) ≡ first_mtu options
+mtu_as_said = as_said first_mtu mtu_kept (λ mac options. refl) (λ mac options. refl)
+
+pub links_as_said : (policies : Policies) (mac : Mac) (options : List Said) → prefixes.prefixes_in (read_options policies mac options) ≡ prefixes.prefixes_in options
+links_as_said =
+    as_said prefixes.prefixes_in (λ option a b e. ap (λ (more : List (PrefixValue × ℕ)). option_to_list (prefixes.on_link_of option) ++ more) e) (λ mac options. refl) (λ mac options. refl)
+
+prefixes_kept : (option : Said) (a b : List Said) → addresses.prefixes_in a ≡ addresses.prefixes_in b → addresses.prefixes_in (option ∷ a) ≡ addresses.prefixes_in (option ∷ b)
+prefixes_kept (slla _) a b e = e
+prefixes_kept (tlla _) a b e = e
+prefixes_kept (prefix info) a b e = ap (λ (more : List PrefixInfo). info ∷ more) e
+prefixes_kept (redirected _) a b e = e
+prefixes_kept (mtu _) a b e = e
+prefixes_kept (rdnss _ _) a b e = e
+prefixes_kept (dnssl _ _) a b e = e
+prefixes_kept (other _ _) a b e = e
+
+pub prefixes_as_said : (policies : Policies) (mac : Mac) (options : List Said) → addresses.prefixes_in (read_options policies mac options) ≡ addresses.prefixes_in options
+prefixes_as_said = as_said addresses.prefixes_in prefixes_kept (λ mac options. refl) (λ mac options. refl)
+
+pub servers_as_said : (policies : Policies) (mac : Mac) (options : List Said) → servers_told (read_options policies mac options) ≡ servers_told options
+servers_as_said = as_said servers_told (λ option a b e. ap (λ (more : List (Addr × ℕ)). servers_of option ++ more) e) (λ mac options. refl) (λ mac options. refl)
+
+pub names_as_said : (policies : Policies) (mac : Mac) (options : List Said) → names_told (read_options policies mac options) ≡ names_told options
+names_as_said = as_said names_told (λ option a b e. ap (λ (more : List (List ℕ × ℕ)). names_of option ++ more) e) (λ mac options. refl) (λ mac options. refl)
