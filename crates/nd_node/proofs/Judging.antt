@@ -4,6 +4,7 @@ use Rattle.std.specs.Prelude.{slice_range}
 use Rattle.std.proofs.lemmas.List.{length-take, length-drop, take_min}
 use Rattle.rand_core.specs.Stream.{Stream}
 use Rattle.nd_addr.specs.declared.addr.Addr.{Addr}
+use Rattle.nd_addr.specs.declared.mac.Mac.{Mac}
 use Rattle.nd_addr.specs.declared.role.Role.{Role}
 use Rattle.nd_addr.specs.declared.why.Why.{Why}
 use Rattle.nd_addr.specs.declared.why.Why.TheVariants.{NotForUs, NotFirstHop}
@@ -212,10 +213,10 @@ module _ {R A : Type 0} (stream : R → Stream) (old mid new : Node R A) (x y : 
 
 -- whether a packet is in transit is the same once time has passed
 pub in_transit_later : (start : Start) (c : Chronicle) (now : ℕ) (frame : List ℕ) (packet : PacketParts) → IsInTransit start c frame packet → IsInTransit start ((now, Passed) ∷ c) frame packet
-in_transit_later start c now frame packet t = record { role = t.role; not_ours = λ f. t.not_ours (record { destination_is = f.destination_is; up = f.up }); not_own = t.not_own; may = t.may; up = t.up; came = t.came }
+in_transit_later start c now frame packet t = record { role = t.role; not_ours = λ f. t.not_ours (record { destination_is = f.destination_is; up = f.up }); not_own = t.not_own; may = t.may; up = t.up; came = t.came; foreign = t.foreign }
 
 in_transit_before : (start : Start) (c : Chronicle) (now : ℕ) (frame : List ℕ) (packet : PacketParts) → IsInTransit start ((now, Passed) ∷ c) frame packet → IsInTransit start c frame packet
-in_transit_before start c now frame packet t = record { role = t.role; not_ours = λ f. t.not_ours (record { destination_is = f.destination_is; up = f.up }); not_own = t.not_own; may = t.may; up = t.up; came = t.came }
+in_transit_before start c now frame packet t = record { role = t.role; not_ours = λ f. t.not_ours (record { destination_is = f.destination_is; up = f.up }); not_own = t.not_own; may = t.may; up = t.up; came = t.came; foreign = t.foreign }
 
 pub is_not : (answer : Bool) (P : Type 0) → answer ≡ true ↔ P → answer ≡ false → P → ⊥
 is_not answer P says is p = let yes' = says.1 p in let never : ⊥ = cc in never
@@ -226,8 +227,13 @@ module _ {R A : Type 0} (stream : R → Stream) (old new : Node R A) (x y : List
   by_role start c outcome s h = subst (λ (r : Role). Hears frame r outcome) s.role h
 
   -- the same as it is read, which the policies of the node say
-  read_by_start : (start : Start) (c : Chronicle) (outcome : Outcome) → Stands stream start old c → IsRead old.policies frame old.role outcome → IsRead start.policies frame start.role outcome
-  read_by_start start c outcome s h = record { said = h.said; by_frame = by_role start c h.said s h.by_frame; as_read = h.as_read ∙ ap (λ (p : Policies). read_outcome p h.said) s.policies }
+  read_by_start : (start : Start) (c : Chronicle) (outcome : Outcome) → Stands stream start old c → IsRead old.policies old.mac frame old.role outcome
+      → IsRead start.policies start.mac frame start.role outcome
+  read_by_start start c outcome s h = record {
+    said = h.said;
+    by_frame = by_role start c h.said s h.by_frame;
+    as_read = h.as_read ∙ ap (λ (p : Policies). read_outcome p old.mac h.said) s.policies ∙ ap (λ (m : Mac). read_outcome start.policies m h.said) s.mac;
+  }
 
   -- it is dropped for what it says by itself
   pub dropped_by_frame : (why : Why) → Hears frame old.role (dropped why) → AddsAlone stream old new x y now (Dropped why) → AddsEvent stream old new x y now (events.Receives frame) Done
@@ -242,14 +248,14 @@ module _ {R A : Type 0} (stream : R → Stream) (old new : Node R A) (x y : List
         );
   }
 
-  module _ (source destination : Addr) (message : Parts) (h : IsRead old.policies frame old.role (valid source destination message)) (ours : Bool)
+  module _ (source destination : Addr) (message : Parts) (h : IsRead old.policies old.mac frame old.role (valid source destination message)) (ours : Bool)
       (says : (start : Start) (c : Chronicle) → Stands stream start old c → ours ≡ true ↔ IsForUs start c source destination message) (same : SameTarget now source message) where
     -- time that passed doesn't change for whom it is
     for_us_later : (start : Start) (c : Chronicle) → IsForUs start c source destination message → IsForUs start ((now, Passed) ∷ c) source destination message
-    for_us_later start c f = record { destination_is = f.destination_is; target = same c ∙ f.target; awake = f.awake }
+    for_us_later start c f = record { destination_is = f.destination_is; target = same c ∙ f.target; awake = f.awake; foreign = f.foreign }
 
     for_us_before : (start : Start) (c : Chronicle) → IsForUs start ((now, Passed) ∷ c) source destination message → IsForUs start c source destination message
-    for_us_before start c f = record { destination_is = f.destination_is; target = sym (same c) ∙ f.target; awake = f.awake }
+    for_us_before start c f = record { destination_is = f.destination_is; target = sym (same c) ∙ f.target; awake = f.awake; foreign = f.foreign }
 
     pub message_judged : {answer : Answer} → ours ≡ true → AddsJudged stream old new x y now source destination message answer → AddsEvent stream old new x y now (events.Receives frame) answer
     message_judged {answer} is adds = record {

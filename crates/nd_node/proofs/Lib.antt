@@ -18,6 +18,7 @@ pub mod Advertisements
 pub mod PlainMessages
 pub mod Judging
 pub mod Running
+pub mod AsRead
 pub mod Filling
 pub mod Advertised
 pub mod TakenOrRefused

@@ -4,6 +4,7 @@ use Rattle.std.specs.Prelude.{MatchBool, bytes_eq, if◌then◌else◌}
 use Rattle.std.specs.Option.{option_to_list}
 use Rattle.rand_core.specs.Stream.{Stream}
 use Rattle.nd_addr.specs.declared.addr.Addr.{Addr}
+use Rattle.nd_addr.specs.declared.mac.Mac.{Mac}
 use Rattle.nd_addr.specs.declared.role.Role.{Role}
 use Rattle.nd_addr.specs.Kind.{multicast_prefix, unspecified_address}
 use Rattle.nd_addr.specs.Number.{holds, number_of}
@@ -351,12 +352,12 @@ module _ (start : Start) (now : ℕ) (frame : List ℕ) (packet : PacketParts) (
 -- ---- a frame
 
 -- what is read in the frame is judged so
-pub judged_frame : (start : Start) (c : Chronicle) (now : ℕ) (frame : List ℕ) (role : Role) (policies : Policies) (said : Outcome) → role ≡ start.role → policies ≡ start.policies → ((o : Outcome) → Hears frame role o → said ≡ o)
-    → AddsRefusal now c (FrameAdds start now frame)
-    → (verdict : Verdict) × Judges start ((now, Passed) ∷ c) now frame (read_outcome policies said) verdict × AddsRefusal now c (VerdictAdds start now frame verdict)
-judged_frame start c now frame role policies said same asked only adds =
+pub judged_frame : (start : Start) (c : Chronicle) (now : ℕ) (frame : List ℕ) (role : Role) (policies : Policies) (mac : Mac) (said : Outcome) → role ≡ start.role → policies ≡ start.policies → mac ≡ start.mac
+    → ((o : Outcome) → Hears frame role o → said ≡ o) → AddsRefusal now c (FrameAdds start now frame)
+    → (verdict : Verdict) × Judges start ((now, Passed) ∷ c) now frame (read_outcome policies mac said) verdict × AddsRefusal now c (VerdictAdds start now frame verdict)
+judged_frame start c now frame role policies mac said same asked own only adds =
     let h = adds.1.heard in
-    let is = one_reading start frame role policies said h.outcome same asked only h.by_frame in
+    let is = one_reading start frame role policies mac said h.outcome same asked own only h.by_frame in
     (adds.1.verdict, subst (λ (o : Outcome). Judges start ((now, Passed) ∷ c) now frame o adds.1.verdict) (sym is) h.by_node, (adds.0, adds.1.adds))
 
 -- ---- a command

@@ -3,8 +3,13 @@ use Rattle.std.specs.Prelude.{◌≡◌, ℕ, true, false, List, [], ◌∷◌, 
 use Rattle.rand_core.specs.Stream.{Stream}
 use Rattle.nd_addr.specs.declared.addr.Addr.{Addr}
 use Rattle.nd_decode.specs.Message.{Parts}
+use Rattle.nd_decode.specs.Option.{Said}
+use Rattle.nd_decode.specs.Pieces.{options_left}
+use Rattle.nd_decode.specs.declared.message_ref.MessageRef.{MessageRef}
+use Rattle.nd_decode.specs.declared.options.Options.{Options}
 use Rattle.nd_chronicle.specs.Start.{Start}
 use Rattle.nd_chronicle.specs.Happening.{Chronicle, Passed, last_moment}
+use Rattle.nd_chronicle.specs.Reading.{read_options}
 use Rattle.nd_chronicle.specs.Hearing.{hears, takes_target}
 use Rattle.nd_chronicle.specs.Event.{VerdictAdds}
 use Rattle.nd_chronicle.specs.Answer.{Answer, answer_after}
@@ -12,6 +17,14 @@ use Rattle.nd_out.specs.declared.out.Out.{Out}
 use Rattle.nd_steps.specs.Outputs.{Tells}
 use Rattle.nd_node.specs.declared.node.Node.{Node}
 use Rattle.nd_node.specs.NodeKept.{Stands}
+
+-- the options of a message, as the node reads them by its policies
+abbrev pub options_read : {R A : Type 0} → Node R A → Options → List Said
+options_read node options = read_options node.policies node.mac (options_left options)
+
+-- a message whose body has been read, with its options as the node reads them
+abbrev pub parts_read : {R A : Type 0} → Node R A → MessageRef → Parts
+parts_read node message = record { body = message.body; options = options_read node message.options }
 
 -- From each chronicle of earlier moments that the node stood for, a message that is for it leads to one with what it adds, or with its
 -- refusal where a table would be full, that is reported, and it is answered.

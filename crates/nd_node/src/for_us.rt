@@ -26,7 +26,8 @@ fn is_to(frame: &[u8], mac: Mac) -> bool
 }
 
 impl<R: Rng + Drop, A: Allocator + Clone> Node<R, A> {
-    ghost use Rattle.nd_chronicle.specs.Hearing.{came_to, IsOurs, IsForUs, IsInTransit, IsPacketForUs};
+    ghost use Rattle.nd_chronicle.specs.Hearing.{came_to, is_foreign, IsOurs, IsForUs, IsInTransit, IsPacketForUs};
+    ghost use Rattle.nd_chronicle.specs.Reading.{own_address};
     ghost use Rattle.nd_chronicle.specs.OwnAddress.{is_up};
     ghost use Rattle.nd_steps.specs.OwnAddresses.{counting};
     ghost use Rattle.nd_node.specs.NodeKept.{Stands};
@@ -47,6 +48,24 @@ impl<R: Rng + Drop, A: Allocator + Clone> Node<R, A> {
         self.addresses.is_to(counted, destination)
     }
 
+    /// Returns false if `source` is one of the node's own addresses of the kind `counted`, and the policy `self` is asked for: what comes from it is of no
+    /// other node.
+    fn is_foreign(&self, counted: Counted, source: Addr) -> bool
+        ensures { (start : Start) (c : Chronicle) → Stands R.stream start self.now c → result ≡ is_foreign start (counting counted c) source }
+    {
+        if !self.policies.own() {
+            return true;
+        }
+        !self.addresses.counts(counted, source)
+    }
+
+    /// Returns the link-layer address whose options the node passes over: its own, with the policy `self`.
+    pub(crate) fn own_mac(&self) -> Option<Mac>
+        ensures { result ≡ own_address self.now.policies self.now.mac }
+    {
+        self.policies.own_address(self.mac)
+    }
+
     /// Returns true if a valid message is for this node.
     pub(crate) fn is_for_us(&self, source: Addr, destination: Addr, body: &Body) -> bool
         ensures { (start : Start) (c : Chronicle) (message : Parts) → Stands R.stream start self.now c → message.body ≡ body.now → result ≡ true ↔ IsForUs start c source destination message }
@@ -55,6 +74,9 @@ impl<R: Rng + Drop, A: Allocator + Clone> Node<R, A> {
             return false;
         }
         if !is_awake(&self.addresses, source, body) {
+            return false;
+        }
+        if !self.is_foreign(Counted::Assigned, source) {
             return false;
         }
         self.is_ours(Counted::Own, destination)
@@ -91,7 +113,7 @@ impl<R: Rng + Drop, A: Allocator + Clone> Node<R, A> {
 
     /// Returns true if a packet that isn't for this node is to be sent on: the node is a router whose link-local address is assigned, the
     /// destination is no address of its own that is tentative still, and neither it nor the source keeps the packet on its link (RFC 4291, section
-    /// 2.5.6).
+    /// 2.5.6). The policies `self` and `unicast` keep others from being sent on.
     pub(crate) fn is_in_transit(&self, frame: &[u8], header: &Ip6) -> bool
         ensures { (start : Start) (c : Chronicle) (packet : PacketParts) → Stands R.stream start self.now c → packet.header ≡ header.now → (IsPacketForUs start c packet → ⊥) → result ≡ true ↔ IsInTransit start c frame.now packet }
     {
@@ -99,6 +121,9 @@ impl<R: Rng + Drop, A: Allocator + Clone> Node<R, A> {
             return false;
         }
         if !self.came_to(frame) {
+            return false;
+        }
+        if !self.is_foreign(Counted::Own, header.source) {
             return false;
         }
         if !self.is_up() {

@@ -2,7 +2,6 @@
 
 ghost use Rattle.std.specs.Prelude.{◌≡◌, ◌∷◌, ◌-◌, ◌<◌, ◌≤◌, ℕ, List, IsOk, OnErr, OnOk, false, vec_len, vec_capacity, IfOk};
 ghost use Rattle.nd_addr.specs.Ip6.{packet_parts};
-ghost use Rattle.nd_decode.specs.Message.{parts};
 ghost use Rattle.nd_decode.specs.Pieces.{options_left};
 ghost use Rattle.nd_decode.specs.declared.body.Body.TheVariants as bodies;
 ghost use Rattle.nd_decode.specs.declared.router_advertisement.RouterAdvertisement.{RouterAdvertisement};
@@ -17,6 +16,7 @@ ghost use Rattle.nd_chronicle.specs.Event as events;
 ghost use Rattle.nd_chronicle.specs.Event.{EventAdds, VerdictAdds};
 ghost use Rattle.nd_node.specs.EventKept.{AddsEvent};
 ghost use Rattle.nd_node.specs.Frame.{AddsAlone, Stays};
+ghost use Rattle.nd_node.specs.Hearing.{parts_read};
 ghost use Rattle.nd_node.specs.Memory.{AddsNoName, AddsRefusal, AsksForNone};
 ghost use Rattle.nd_node.specs.Answer.{answer_of};
 
@@ -110,13 +110,13 @@ impl<R: Rng + Drop, A: Allocator + Clone> Node<R, A> {
     ) -> Result<Reception, AllocError>
         requires moment { IsMoment now }
         requires settled { now < next_of self.old }
-        ensures adds { IfOk result (λ reception. (frame : List ℕ) → IsRead self.old.policies frame self.old.role (valid heard.now.source heard.now.destination (parts heard.now.message)) → AddsEvent R.stream self.old self.new outs.old.items outs.new.items now (events.Receives frame) (answer_of reception.answer)) }
+        ensures adds { IfOk result (λ reception. (frame : List ℕ) → IsRead self.old.policies self.old.mac frame self.old.role (valid heard.now.source heard.now.destination (parts_read self.old heard.now.message)) → AddsEvent R.stream self.old self.new outs.old.items outs.new.items now (events.Receives frame) (answer_of reception.answer)) }
         ensures leaves { IfOk result (λ reception. reception.changes_tables ≡ false → self.new ≡ record self.old { last = now }) }
         ensures stays { OnErr result (Stays R.stream self.old self.new) }
         ensures told { OnErr result (outs.new.items ≡ outs.old.items) }
-        ensures refused { (frame : List ℕ) (verdict : Verdict) (start : Start) (c : Chronicle) → Stands R.stream start self.old c → last_moment start.at c ≤ now → Judges start ((now, Passed) ∷ c) now frame (valid heard.now.source heard.now.destination (parts heard.now.message)) verdict → AddsRefusal now c (VerdictAdds start now frame verdict) → vec_len outs.old < vec_capacity outs.old → IsOk result }
+        ensures refused { (frame : List ℕ) (verdict : Verdict) (start : Start) (c : Chronicle) → Stands R.stream start self.old c → last_moment start.at c ≤ now → Judges start ((now, Passed) ∷ c) now frame (valid heard.now.source heard.now.destination (parts_read self.old heard.now.message)) verdict → AddsRefusal now c (VerdictAdds start now frame verdict) → vec_len outs.old < vec_capacity outs.old → IsOk result }
         ensures quiet { (ra : RouterAdvertisement) → heard.now.message.body ≡ bodies.Ra ra → AddsNoName self.old now heard.now.source (options_left heard.now.message.options) (vec_capacity outs.old - vec_len outs.old) → IsOk result }
-        ensures dropped { (frame : List ℕ) (why : Why) (start : Start) (c : Chronicle) → Stands R.stream start self.old c → last_moment start.at c ≤ now → Judges start ((now, Passed) ∷ c) now frame (valid heard.now.source heard.now.destination (parts heard.now.message)) (drops why) → vec_len outs.old < vec_capacity outs.old → IsOk result }
+        ensures dropped { (frame : List ℕ) (why : Why) (start : Start) (c : Chronicle) → Stands R.stream start self.old c → last_moment start.at c ≤ now → Judges start ((now, Passed) ∷ c) now frame (valid heard.now.source heard.now.destination (parts_read self.old heard.now.message)) (drops why) → vec_len outs.old < vec_capacity outs.old → IsOk result }
     {
         if !self.is_for_us(heard.source, heard.destination, &heard.message.body) {
             return self.drop_unheard(now, Why::NotForUs, outs);

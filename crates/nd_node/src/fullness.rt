@@ -20,6 +20,7 @@ impl<R: Rng + Drop, A: Allocator + Clone> Node<R, A> {
     ghost use Rattle.nd_chronicle.specs.Happening.{Chronicle, last_moment};
     ghost use Rattle.nd_node.specs.NodeKept.{Stands};
     ghost use Rattle.nd_node.specs.Fullness.{HasRoom};
+    ghost use Rattle.nd_node.specs.Hearing.{options_read};
     ghost use Rattle.nd_node.specs.RouterAdvertisement.{advertised};
 
     /// Returns the first table, in the order of their limits, that has no room for a Router Advertisement received at `now`, in milliseconds, or
@@ -35,7 +36,7 @@ impl<R: Rng + Drop, A: Allocator + Clone> Node<R, A> {
         known: bool,
     ) -> Option<Limit>
         requires { known ≡ true → fits same_name self.now.dns.name_limit now (names_told (options_left options)) self.now.dns.names ≡ true }
-        ensures fills { let message = advertised ra.now (options_left options.entry) in (start : Start) (c : Chronicle) → Stands R.stream start self.now c → last_moment start.at c ≤ now
+        ensures fills { let message = advertised ra.now (options_read self.now options.entry) in (start : Start) (c : Chronicle) → Stands R.stream start self.now c → last_moment start.at c ≤ now
             → Placed start c now (needs c source message message.body) place → AdvertisementFills start c now source ra.now message (option_map limit_of result) }
         ensures room { result ≡ None → HasRoom self.now now source ra.now (options_left options.entry) place }
     {

@@ -11,9 +11,9 @@
 //!   and changes nothing.
 //! - **Random words**: a generator that the node owns from then on. It draws only the delays and times that the RFCs ask for at random (RFC
 //!   4861, sections 6.2.4, 6.2.6 and 6.3.2; RFC 4862, section 5.4.2).
-//! - **Frames** as they are received, from the Ethernet destination on. The node does not look at that destination: a caller whose interface
-//!   receives more than its own frames and multicast filters them. Nor does the node know its own frames if they are looped back: it takes
-//!   them for those of another node.
+//! - **Frames** as they are received, from the Ethernet destination on. The node looks at that destination only where the policy `unicast`
+//!   asks whether to send a packet on: a caller whose interface receives more than its own frames and multicast filters them. Nor does the node know
+//!   its own frames if they are looped back: it takes them for those of another node, unless the policy `self` drops them by their source.
 //! - **Time**: something may be due without an event. `next_due` returns when; the event `Passes` at that moment does it.
 //!
 //! # What each call does

@@ -1,7 +1,6 @@
 //! Handles a valid message for this node.
 
 ghost use Rattle.std.specs.Prelude.{◌≡◌, ◌+◌, ◌++◌, [], ◌∷◌, ◌-◌, ◌<◌, ◌≤◌, ℕ, List, IsOk, OnOk, OnErr, vec_len, vec_capacity, IfOk};
-ghost use Rattle.nd_decode.specs.Message.{parts};
 ghost use Rattle.nd_decode.specs.Pieces.{options_left};
 ghost use Rattle.nd_decode.specs.declared.body.Body.TheVariants as bodies;
 ghost use Rattle.nd_decode.specs.declared.router_advertisement.RouterAdvertisement.{RouterAdvertisement};
@@ -13,6 +12,7 @@ ghost use Rattle.nd_chronicle.specs.Happening.{Chronicle, Dropped, Passed, last_
 ghost use Rattle.nd_chronicle.specs.Hearing.{Judges, NotFromFirstHop, Verdict};
 ghost use Rattle.nd_out.specs.declared.out.Out.TheVariants as reports;
 ghost use Rattle.nd_node.specs.Frame.{AddsAlone, AddsJudged, Stays};
+ghost use Rattle.nd_node.specs.Hearing.{parts_read};
 ghost use Rattle.nd_node.specs.Memory.{AddsNoName, AddsRefusal};
 ghost use Rattle.nd_node.specs.Answer.{answer_of};
 
@@ -101,10 +101,10 @@ impl<R: Rng + Drop, A: Allocator + Clone> Node<R, A> {
     ) -> Result<Answer, AllocError>
         requires moment { IsMoment now }
         requires settled { now < next_of self.old }
-        ensures adds { IfOk result (λ answer. AddsJudged R.stream self.old self.new outs.old.items outs.new.items now heard.now.source heard.now.destination (parts heard.now.message) (answer_of answer)) }
+        ensures adds { IfOk result (λ answer. AddsJudged R.stream self.old self.new outs.old.items outs.new.items now heard.now.source heard.now.destination (parts_read self.old heard.now.message) (answer_of answer)) }
         ensures stays { OnErr result (Stays R.stream self.old self.new) }
         ensures told { OnErr result (outs.new.items ≡ outs.old.items) }
-        ensures refused { (frame : List ℕ) (verdict : Verdict) (start : Start) (c : Chronicle) → Stands R.stream start self.old c → last_moment start.at c ≤ now → Judges start ((now, Passed) ∷ c) now frame (valid heard.now.source heard.now.destination (parts heard.now.message)) verdict → AddsRefusal now c (VerdictAdds start now frame verdict) → vec_len outs.old < vec_capacity outs.old → IsOk result }
+        ensures refused { (frame : List ℕ) (verdict : Verdict) (start : Start) (c : Chronicle) → Stands R.stream start self.old c → last_moment start.at c ≤ now → Judges start ((now, Passed) ∷ c) now frame (valid heard.now.source heard.now.destination (parts_read self.old heard.now.message)) verdict → AddsRefusal now c (VerdictAdds start now frame verdict) → vec_len outs.old < vec_capacity outs.old → IsOk result }
         ensures quiet { (ra : RouterAdvertisement) → heard.now.message.body ≡ bodies.Ra ra → AddsNoName self.old now heard.now.source (options_left heard.now.message.options) (vec_capacity outs.old - vec_len outs.old) → IsOk result }
         ensures misdirected { (start : Start) (c : Chronicle) → Stands R.stream start self.old c → last_moment start.at c ≤ now → NotFromFirstHop start ((now, Passed) ∷ c) now heard.now.source heard.now.message.body → vec_len outs.old < vec_capacity outs.old → IsOk result }
     {

@@ -1,13 +1,12 @@
 //! Handles a Neighbor Advertisement (RFC 4861, section 7.2.5; RFC 4862, section 5.4.4).
 
 ghost use Rattle.std.specs.Prelude.{◌≡◌, ◌∷◌, ◌<◌, ◌≤◌, Some, IsOk, OnErr, vec_capacity, vec_len, IfOk};
-ghost use Rattle.nd_decode.specs.Pieces.{options_left};
 ghost use Rattle.nd_decode.specs.declared.body.Body.TheVariants as bodies;
 ghost use Rattle.nd_table.specs.Moment.{IsMoment};
 ghost use Rattle.nd_chronicle.specs.Full.{Fills};
 ghost use Rattle.nd_chronicle.specs.Happening.{Chronicle, Limit as Table, Passed, last_moment};
 ghost use Rattle.nd_chronicle.specs.Start.{Start};
-ghost use Rattle.nd_node.specs.Hearing.{AddsMessage};
+ghost use Rattle.nd_node.specs.Hearing.{AddsMessage, options_read};
 ghost use Rattle.nd_node.specs.Answer.{answer_of};
 
 use crate::answer::Answer;
@@ -38,15 +37,20 @@ impl<R: Rng + Drop, A: Allocator + Clone> Node<R, A> {
         requires moment { IsMoment now }
         requires settled { now < next_of self.old }
         requires body { heard.now.message.body ≡ bodies.Na na.now }
-        ensures adds { IfOk result (λ answer. AddsMessage R.stream self.old self.new outs.old.items outs.new.items now heard.now.source heard.now.destination (record { body = bodies.Na na.now; options = options_left heard.now.message.options }) (answer_of answer)) }
+        ensures adds { IfOk result (λ answer. AddsMessage R.stream self.old self.new outs.old.items outs.new.items now heard.now.source heard.now.destination (record { body = bodies.Na na.now; options = options_read self.old heard.now.message.options }) (answer_of answer)) }
         ensures keeps { OnErr result (self.new ≡ self.old) }
         ensures told { OnErr result (outs.new.items ≡ outs.old.items) }
-        ensures full { (limit : Table) (start : Start) (c : Chronicle) → Stands R.stream start self.old c → last_moment start.at c ≤ now → Fills start ((now, Passed) ∷ c) now heard.now.source (record { body = bodies.Na na.now; options = options_left heard.now.message.options }) (bodies.Na na.now) (Some limit) → vec_len outs.old < vec_capacity outs.old → IsOk result }
+        ensures full { (limit : Table) (start : Start) (c : Chronicle) → Stands R.stream start self.old c → last_moment start.at c ≤ now → Fills start ((now, Passed) ∷ c) now heard.now.source (record { body = bodies.Na na.now; options = options_read self.old heard.now.message.options }) (bodies.Na na.now) (Some limit) → vec_len outs.old < vec_capacity outs.old → IsOk result }
     {
         nd_neighbour::laws::none_overdue();
         nd_neighbour::laws::one_is_pushed_out();
         nd_slaac::laws::none_overdue();
-        let news = news_of(heard.source, &heard.message.body, heard.message.options);
+        let news = news_of(
+            heard.source,
+            &heard.message.body,
+            heard.message.options,
+            self.own_mac(),
+        );
         outs.reserve(MAX_WAITING + MOST_ROWS)?;
         self.report_heard(now, heard, outs);
         // RFC 4862, section 5.4.4: an advertisement for a tentative address shows that this address is not unique.

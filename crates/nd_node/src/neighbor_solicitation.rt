@@ -4,7 +4,6 @@ ghost use Rattle.std.specs.Prelude.{◌≡◌, ◌∷◌, ◌+◌, ◌<◌, ◌�
 ghost use Rattle.nd_addr.specs.Kind.{unspecified_address};
 ghost use Rattle.nd_addr.specs.Number.{number_of};
 ghost use Rattle.nd_decode.specs.Option.{Said};
-ghost use Rattle.nd_decode.specs.Pieces.{options_left};
 ghost use Rattle.nd_decode.specs.declared.body.Body.TheVariants as bodies;
 ghost use Rattle.nd_table.specs.Moment.{IsMoment};
 ghost use Rattle.nd_packet.specs.Waiting.{max_waiting};
@@ -13,7 +12,7 @@ ghost use Rattle.nd_chronicle.specs.NeighborSolicitation as solicited;
 ghost use Rattle.nd_chronicle.specs.Full.{Fills};
 ghost use Rattle.nd_chronicle.specs.Happening.{Chronicle, Limit as Table, Passed, last_moment};
 ghost use Rattle.nd_chronicle.specs.Start.{Start};
-ghost use Rattle.nd_node.specs.Hearing.{AddsMessage, Keeps};
+ghost use Rattle.nd_node.specs.Hearing.{AddsMessage, Keeps, options_read};
 ghost use Rattle.nd_node.specs.Answer.{answer_of};
 
 use crate::answer::Answer;
@@ -55,10 +54,10 @@ impl<R: Rng + Drop, A: Allocator + Clone> Node<R, A> {
         requires moment { IsMoment now }
         requires settled { now < next_of self.old }
         requires body { heard.now.message.body ≡ bodies.Ns ns.now }
-        ensures adds { IfOk result (λ answer. AddsMessage R.stream self.old self.new outs.old.items outs.new.items now heard.now.source heard.now.destination (record { body = bodies.Ns ns.now; options = options_left heard.now.message.options }) (answer_of answer)) }
+        ensures adds { IfOk result (λ answer. AddsMessage R.stream self.old self.new outs.old.items outs.new.items now heard.now.source heard.now.destination (record { body = bodies.Ns ns.now; options = options_read self.old heard.now.message.options }) (answer_of answer)) }
         ensures keeps { OnErr result (Keeps self.old self.new) }
         ensures told { OnErr result (outs.new.items ≡ outs.old.items) }
-        ensures full { (limit : Table) (start : Start) (c : Chronicle) → Stands R.stream start self.old c → last_moment start.at c ≤ now → Fills start ((now, Passed) ∷ c) now heard.now.source (record { body = bodies.Ns ns.now; options = options_left heard.now.message.options }) (bodies.Ns ns.now) (Some limit) → vec_len outs.old < vec_capacity outs.old → IsOk result }
+        ensures full { (limit : Table) (start : Start) (c : Chronicle) → Stands R.stream start self.old c → last_moment start.at c ≤ now → Fills start ((now, Passed) ∷ c) now heard.now.source (record { body = bodies.Ns ns.now; options = options_read self.old heard.now.message.options }) (bodies.Ns ns.now) (Some limit) → vec_len outs.old < vec_capacity outs.old → IsOk result }
     {
         if heard.source.is_unspecified() {
             return self.hear_detection(now, heard, ns, outs);
@@ -115,10 +114,10 @@ impl<R: Rng + Drop, A: Allocator + Clone> Node<R, A> {
         requires settled { now < next_of self.old }
         requires body { heard.now.message.body ≡ bodies.Ns ns.now }
         requires specified { bytes_eq heard.now.source.0 unspecified_address ≡ false }
-        ensures adds { IfOk result (λ answer. AddsMessage R.stream self.old self.new outs.old.items outs.new.items now heard.now.source heard.now.destination (record { body = bodies.Ns ns.now; options = options_left heard.now.message.options }) (answer_of answer)) }
+        ensures adds { IfOk result (λ answer. AddsMessage R.stream self.old self.new outs.old.items outs.new.items now heard.now.source heard.now.destination (record { body = bodies.Ns ns.now; options = options_read self.old heard.now.message.options }) (answer_of answer)) }
         ensures keeps { OnErr result (Keeps self.old self.new) }
         ensures told { OnErr result (outs.new.items ≡ outs.old.items) }
-        ensures full { (limit : Table) (start : Start) (c : Chronicle) → Stands R.stream start self.old c → last_moment start.at c ≤ now → Fills start ((now, Passed) ∷ c) now heard.now.source (record { body = bodies.Ns ns.now; options = options_left heard.now.message.options }) (bodies.Ns ns.now) (Some limit) → vec_len outs.old < vec_capacity outs.old → IsOk result }
+        ensures full { (limit : Table) (start : Start) (c : Chronicle) → Stands R.stream start self.old c → last_moment start.at c ≤ now → Fills start ((now, Passed) ∷ c) now heard.now.source (record { body = bodies.Ns ns.now; options = options_read self.old heard.now.message.options }) (bodies.Ns ns.now) (Some limit) → vec_len outs.old < vec_capacity outs.old → IsOk result }
     {
         nd_neighbour::laws::none_overdue();
         nd_neighbour::laws::one_is_pushed_out();
@@ -128,7 +127,12 @@ impl<R: Rng + Drop, A: Allocator + Clone> Node<R, A> {
         if !self.neighbours.room(now, asker, None) {
             return self.refuse(now, Refusal::Full(Limit::Neighbours), outs);
         }
-        let news = news_of(asker, &heard.message.body, heard.message.options);
+        let news = news_of(
+            asker,
+            &heard.message.body,
+            heard.message.options,
+            self.own_mac(),
+        );
         let room = make_room(&mut self.neighbours, asker, news, outs)?;
         self.report_heard(now, heard, outs);
         let times = times_in_force(&self.params);

@@ -1,9 +1,11 @@
 //! The policies of a node, chosen when it is made, and how it reads a message by them. The definition is in `specs/Reading.antt` of nd_chronicle.
 
 ghost use Rattle.std.specs.Prelude.{◌≡◌, true};
-ghost use Rattle.nd_chronicle.specs.Reading.{in_range, read_advertisement, read_body};
+ghost use Rattle.nd_chronicle.specs.Reading.{in_range, own_address, read_advertisement, read_body};
 ghost use Rattle.nd_chronicle.specs.Start.{no_policies};
 
+use nd_addr::Mac;
+use nd_advertiser::GREATEST_REACHABLE_TIME;
 use nd_decode::{Body, RouterAdvertisement};
 use std::marker::Model;
 
@@ -12,9 +14,6 @@ const MIN_HOP_LIMIT: u8 = 32;
 
 /// The least Reachable Time that the policy `timers` takes, in milliseconds (our choice).
 const MIN_REACHABLE_TIME: u32 = 1_000;
-
-/// The greatest Reachable Time that the policy `timers` takes, in milliseconds: the greatest that a router may advertise (RFC 4861, section 6.2.1).
-const MAX_REACHABLE_TIME: u32 = 3_600_000;
 
 /// The least Retrans Timer that the policy `timers` takes, in milliseconds (our choice).
 const MIN_RETRANS_TIMER: u32 = 100;
@@ -26,6 +25,7 @@ const MAX_RETRANS_TIMER: u32 = 30_000;
 #[derive(Clone, Copy, Debug, PartialEq, Eq)]
 pub struct Policies {
     timers: bool,
+    own: bool,
     unicast: bool,
 }
 
@@ -34,9 +34,9 @@ impl Model for Policies {
 
     ghost Value = { Policies };
 
-    ghost view = { λ p. record { timers = p.timers; unicast = p.unicast } };
+    ghost view = { λ p. record { timers = p.timers; own = p.own; unicast = p.unicast } };
 
-    ghost inverse = { λ v. record { timers = v.timers; unicast = v.unicast } };
+    ghost inverse = { λ v. record { timers = v.timers; own = v.own; unicast = v.unicast } };
 }
 
 impl Policies {
@@ -46,6 +46,7 @@ impl Policies {
     {
         Policies {
             timers: false,
+            own: false,
             unicast: false,
         }
     }
@@ -59,6 +60,15 @@ impl Policies {
             timers: true,
             ..self
         }
+    }
+
+    /// Returns these policies with `self`, that what claims to come from the node itself is of no other node: a message whose source is one of its assigned
+    /// addresses is dropped, and so is a packet in transit whose source is an address of its own; a Source or Target Link-Layer Address that is a group
+    /// address, zeros or the node's own is passed over, as if the option weren't there.
+    pub fn with_own(self) -> Policies
+        ensures { result ≡ record self { own = true } }
+    {
+        Policies { own: true, ..self }
     }
 
     /// Returns these policies with `unicast`: a router sends a packet on only if the Ethernet destination of its frame is the router's own address, and drops
@@ -79,11 +89,28 @@ impl Policies {
         self.timers
     }
 
+    /// Returns true if what claims to come from the node itself is judged by the policy `self`.
+    pub fn own(self) -> bool
+        ensures { result ≡ self.own }
+    {
+        self.own
+    }
+
     /// Returns true if packets are sent on by the policy `unicast`.
     pub fn unicast(self) -> bool
         ensures { result ≡ self.unicast }
     {
         self.unicast
+    }
+
+    /// Returns `mac`, the link-layer address of the node, if options that give it are passed over: with the policy `self`.
+    pub(crate) fn own_address(self, mac: Mac) -> Option<Mac>
+        ensures { result ≡ own_address self mac }
+    {
+        if self.own {
+            return Some(mac);
+        }
+        None
     }
 
     /// Reads the body of a message by these policies.
@@ -108,7 +135,11 @@ impl Policies {
         } else {
             ra.hop_limit
         };
-        ra.reachable_time = in_range(MIN_REACHABLE_TIME, MAX_REACHABLE_TIME, ra.reachable_time);
+        ra.reachable_time = in_range(
+            MIN_REACHABLE_TIME,
+            GREATEST_REACHABLE_TIME,
+            ra.reachable_time,
+        );
         ra.retrans_timer = in_range(MIN_RETRANS_TIMER, MAX_RETRANS_TIMER, ra.retrans_timer);
     }
 }

@@ -1,7 +1,6 @@
 //! A Redirect is received (RFC 4861, sections 8.1 and 8.3).
 
 ghost use Rattle.std.specs.Prelude.{◌≡◌, ◌∷◌, ◌<◌, ◌≤◌, Some, IsOk, OnErr, vec_capacity, vec_len, IfOk};
-ghost use Rattle.nd_decode.specs.Pieces.{options_left};
 ghost use Rattle.nd_decode.specs.declared.body.Body.TheVariants as bodies;
 ghost use Rattle.nd_table.specs.Moment.{IsMoment};
 ghost use Rattle.nd_chronicle.specs.Full.{Fills};
@@ -9,7 +8,7 @@ ghost use Rattle.nd_chronicle.specs.Happening.{Chronicle, Limit as Table, Passed
 ghost use Rattle.nd_chronicle.specs.Start.{Start};
 ghost use Rattle.nd_chronicle.specs.Hearing.{NotFromFirstHop};
 ghost use Rattle.nd_node.specs.Frame.{AddsJudged, Stays};
-ghost use Rattle.nd_node.specs.Hearing.{AddsMessage};
+ghost use Rattle.nd_node.specs.Hearing.{AddsMessage, options_read};
 ghost use Rattle.nd_node.specs.Answer.{answer_of};
 
 use crate::answer::Answer;
@@ -39,10 +38,10 @@ impl<R: Rng + Drop, A: Allocator + Clone> Node<R, A> {
         requires moment { IsMoment now }
         requires settled { now < next_of self.old }
         requires body { heard.now.message.body ≡ bodies.Redirect redirect.now }
-        ensures adds { IfOk result (λ answer. AddsJudged R.stream self.old self.new outs.old.items outs.new.items now heard.now.source heard.now.destination (record { body = bodies.Redirect redirect.now; options = options_left heard.now.message.options }) (answer_of answer)) }
+        ensures adds { IfOk result (λ answer. AddsJudged R.stream self.old self.new outs.old.items outs.new.items now heard.now.source heard.now.destination (record { body = bodies.Redirect redirect.now; options = options_read self.old heard.now.message.options }) (answer_of answer)) }
         ensures stays { OnErr result (Stays R.stream self.old self.new) }
         ensures told { OnErr result (outs.new.items ≡ outs.old.items) }
-        ensures full { (limit : Table) (start : Start) (c : Chronicle) → Stands R.stream start self.old c → last_moment start.at c ≤ now → Fills start ((now, Passed) ∷ c) now heard.now.source (record { body = bodies.Redirect redirect.now; options = options_left heard.now.message.options }) (bodies.Redirect redirect.now) (Some limit) → vec_len outs.old < vec_capacity outs.old → IsOk result }
+        ensures full { (limit : Table) (start : Start) (c : Chronicle) → Stands R.stream start self.old c → last_moment start.at c ≤ now → Fills start ((now, Passed) ∷ c) now heard.now.source (record { body = bodies.Redirect redirect.now; options = options_read self.old heard.now.message.options }) (bodies.Redirect redirect.now) (Some limit) → vec_len outs.old < vec_capacity outs.old → IsOk result }
         ensures misdirected { (start : Start) (c : Chronicle) → Stands R.stream start self.old c → last_moment start.at c ≤ now → NotFromFirstHop start ((now, Passed) ∷ c) now heard.now.source (bodies.Redirect redirect.now) → vec_len outs.old < vec_capacity outs.old → IsOk result }
     {
         // A Redirect that is taken forgets what is remembered.
@@ -66,14 +65,19 @@ impl<R: Rng + Drop, A: Allocator + Clone> Node<R, A> {
         requires moment { IsMoment now }
         requires settled { now < next_of self.old }
         requires body { heard.now.message.body ≡ bodies.Redirect redirect.now }
-        ensures adds { IfOk result (λ answer. AddsMessage R.stream self.old self.new outs.old.items outs.new.items now heard.now.source heard.now.destination (record { body = bodies.Redirect redirect.now; options = options_left heard.now.message.options }) (answer_of answer)) }
+        ensures adds { IfOk result (λ answer. AddsMessage R.stream self.old self.new outs.old.items outs.new.items now heard.now.source heard.now.destination (record { body = bodies.Redirect redirect.now; options = options_read self.old heard.now.message.options }) (answer_of answer)) }
         ensures keeps { OnErr result (self.new ≡ self.old) }
         ensures told { OnErr result (outs.new.items ≡ outs.old.items) }
-        ensures full { (limit : Table) (start : Start) (c : Chronicle) → Stands R.stream start self.old c → last_moment start.at c ≤ now → Fills start ((now, Passed) ∷ c) now heard.now.source (record { body = bodies.Redirect redirect.now; options = options_left heard.now.message.options }) (bodies.Redirect redirect.now) (Some limit) → vec_len outs.old < vec_capacity outs.old → IsOk result }
+        ensures full { (limit : Table) (start : Start) (c : Chronicle) → Stands R.stream start self.old c → last_moment start.at c ≤ now → Fills start ((now, Passed) ∷ c) now heard.now.source (record { body = bodies.Redirect redirect.now; options = options_read self.old heard.now.message.options }) (bodies.Redirect redirect.now) (Some limit) → vec_len outs.old < vec_capacity outs.old → IsOk result }
     {
         nd_neighbour::laws::none_overdue();
         nd_neighbour::laws::one_is_pushed_out();
-        let news = news_of(heard.source, &heard.message.body, heard.message.options);
+        let news = news_of(
+            heard.source,
+            &heard.message.body,
+            heard.message.options,
+            self.own_mac(),
+        );
         if !has_place(&self.neighbours, now, news) {
             return self.refuse(now, Refusal::Full(Limit::Neighbours), outs);
         }

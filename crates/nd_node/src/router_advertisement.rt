@@ -13,7 +13,7 @@ ghost use Rattle.nd_chronicle.specs.Happening.{Chronicle, Limit as Table, Passed
 ghost use Rattle.nd_chronicle.specs.Start.{Start};
 ghost use Rattle.nd_steps.specs.NeighbourCache.{said_by, HasPlace, told_for};
 ghost use Rattle.nd_node.specs.RouterAdvertisement.{TakesAdvertisement};
-ghost use Rattle.nd_node.specs.Hearing.{AddsMessage};
+ghost use Rattle.nd_node.specs.Hearing.{AddsMessage, options_read};
 ghost use Rattle.nd_node.specs.Memory.{AddsNoName};
 ghost use Rattle.nd_node.specs.Fullness.{HasRoom};
 ghost use Rattle.nd_node.specs.Answer.{answer_of};
@@ -54,10 +54,10 @@ impl<R: Rng + Drop, A: Allocator + Clone> Node<R, A> {
         requires settled { now < next_of self.old }
         requires room { HasRoom self.old now heard.now.source ra.now (options_left heard.now.message.options) true }
         requires place { HasPlace self.old.neighbours.limit now news self.old.neighbours.entries }
-        requires news { (times : Times) → option_map (said_by times) news ≡ said_of_neighbour heard.now.source (bodies.Ra ra.now) (options_left heard.now.message.options) times.reachable }
+        requires news { (times : Times) → option_map (said_by times) news ≡ said_of_neighbour heard.now.source (bodies.Ra ra.now) (options_read self.old heard.now.message.options) times.reachable }
         requires names { names ≡ new_names now (options_left heard.now.message.options) self.old.dns }
         requires space { vec_len outs.old + told_for news self.old.neighbours.entries + 1 ≤ vec_capacity outs.old }
-        ensures { TakesAdvertisement R.stream self.old self.new outs.old.items outs.new.items now heard.now.source heard.now.destination ra.now (options_left heard.now.message.options) }
+        ensures { TakesAdvertisement R.stream self.old self.new outs.old.items outs.new.items now heard.now.source heard.now.destination ra.now (options_read self.old heard.now.message.options) }
     {
         nd_neighbour::laws::one_is_pushed_out();
         nd_neighbour::laws::none_overdue();
@@ -134,16 +134,16 @@ impl<R: Rng + Drop, A: Allocator + Clone> Node<R, A> {
         requires moment { IsMoment now }
         requires settled { now < next_of self.old }
         requires body { heard.now.message.body ≡ bodies.Ra ra.now }
-        ensures adds { IfOk result (λ answer. AddsMessage R.stream self.old self.new outs.old.items outs.new.items now heard.now.source heard.now.destination (record { body = bodies.Ra ra.now; options = options_left heard.now.message.options }) (answer_of answer)) }
+        ensures adds { IfOk result (λ answer. AddsMessage R.stream self.old self.new outs.old.items outs.new.items now heard.now.source heard.now.destination (record { body = bodies.Ra ra.now; options = options_read self.old heard.now.message.options }) (answer_of answer)) }
         ensures keeps { OnErr result (self.new ≡ self.old) }
         ensures told { OnErr result (outs.new.items ≡ outs.old.items) }
-        ensures full { (limit : Table) (start : Start) (c : Chronicle) → Stands R.stream start self.old c → last_moment start.at c ≤ now → Fills start ((now, Passed) ∷ c) now heard.now.source (record { body = bodies.Ra ra.now; options = options_left heard.now.message.options }) (bodies.Ra ra.now) (Some limit) → vec_len outs.old < vec_capacity outs.old → IsOk result }
+        ensures full { (limit : Table) (start : Start) (c : Chronicle) → Stands R.stream start self.old c → last_moment start.at c ≤ now → Fills start ((now, Passed) ∷ c) now heard.now.source (record { body = bodies.Ra ra.now; options = options_read self.old heard.now.message.options }) (bodies.Ra ra.now) (Some limit) → vec_len outs.old < vec_capacity outs.old → IsOk result }
 
         // If it adds no search name it succeeds, even if no memory is left.
         ensures quiet { AddsNoName self.old now heard.now.source (options_left heard.now.message.options) (vec_capacity outs.old - vec_len outs.old) → IsOk result }
     {
         let options = heard.message.options;
-        let news = news_of(heard.source, &heard.message.body, options);
+        let news = news_of(heard.source, &heard.message.body, options, self.own_mac());
         let place = has_place(&self.neighbours, now, news);
         let known = self.dns.only_refreshes_names(now, options);
         if let Some(limit) = self.first_full(now, heard.source, ra, options, place, known) {

@@ -1,13 +1,12 @@
 //! Handles a Router Solicitation (RFC 4861, section 6.2.6).
 
 ghost use Rattle.std.specs.Prelude.{◌≡◌, ◌∷◌, ◌<◌, ◌≤◌, Some, IsOk, OnErr, vec_capacity, vec_len, IfOk};
-ghost use Rattle.nd_decode.specs.Pieces.{options_left};
 ghost use Rattle.nd_decode.specs.declared.body.Body.TheVariants as bodies;
 ghost use Rattle.nd_table.specs.Moment.{IsMoment};
 ghost use Rattle.nd_chronicle.specs.Full.{Fills};
 ghost use Rattle.nd_chronicle.specs.Happening.{Chronicle, Limit as Table, Passed, last_moment};
 ghost use Rattle.nd_chronicle.specs.Start.{Start};
-ghost use Rattle.nd_node.specs.Hearing.{AddsMessage};
+ghost use Rattle.nd_node.specs.Hearing.{AddsMessage, options_read};
 ghost use Rattle.nd_node.specs.Answer.{answer_of};
 
 use crate::answer::Answer;
@@ -35,14 +34,19 @@ impl<R: Rng + Drop, A: Allocator + Clone> Node<R, A> {
         requires moment { IsMoment now }
         requires settled { now < next_of self.old }
         requires body { heard.now.message.body ≡ bodies.Rs }
-        ensures adds { IfOk result (λ answer. AddsMessage R.stream self.old self.new outs.old.items outs.new.items now heard.now.source heard.now.destination (record { body = bodies.Rs; options = options_left heard.now.message.options }) (answer_of answer)) }
+        ensures adds { IfOk result (λ answer. AddsMessage R.stream self.old self.new outs.old.items outs.new.items now heard.now.source heard.now.destination (record { body = bodies.Rs; options = options_read self.old heard.now.message.options }) (answer_of answer)) }
         ensures keeps { OnErr result (self.new ≡ self.old) }
         ensures told { OnErr result (outs.new.items ≡ outs.old.items) }
-        ensures full { (limit : Table) (start : Start) (c : Chronicle) → Stands R.stream start self.old c → last_moment start.at c ≤ now → Fills start ((now, Passed) ∷ c) now heard.now.source (record { body = bodies.Rs; options = options_left heard.now.message.options }) (bodies.Rs) (Some limit) → vec_len outs.old < vec_capacity outs.old → IsOk result }
+        ensures full { (limit : Table) (start : Start) (c : Chronicle) → Stands R.stream start self.old c → last_moment start.at c ≤ now → Fills start ((now, Passed) ∷ c) now heard.now.source (record { body = bodies.Rs; options = options_read self.old heard.now.message.options }) (bodies.Rs) (Some limit) → vec_len outs.old < vec_capacity outs.old → IsOk result }
     {
         nd_neighbour::laws::none_overdue();
         nd_neighbour::laws::one_is_pushed_out();
-        let news = news_of(heard.source, &heard.message.body, heard.message.options);
+        let news = news_of(
+            heard.source,
+            &heard.message.body,
+            heard.message.options,
+            self.own_mac(),
+        );
         if !has_place(&self.neighbours, now, news) {
             return self.refuse(now, Refusal::Full(Limit::Neighbours), outs);
         }

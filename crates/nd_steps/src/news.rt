@@ -6,6 +6,7 @@ ghost use Rattle.nd_addr.specs.Number.{number_of};
 ghost use Rattle.nd_decode.specs.Pieces.{options_left};
 ghost use Rattle.nd_chronicle.specs.Histories.{given_or_marked, mark_of_target, said_of_neighbour, said_of_source};
 ghost use Rattle.nd_chronicle.specs.LinkLayerAddress.{first_slla, first_tlla};
+ghost use Rattle.nd_chronicle.specs.Reading.{is_passed_over, without};
 ghost use Rattle.nd_steps.specs.NeighbourCache.{said_by};
 
 use nd_addr::{Addr, Mac};
@@ -15,29 +16,47 @@ use nd_decode::{
 };
 use nd_neighbour::{Flags, News, Times};
 
-/// Returns the first Source Link-Layer Address (RFC 4861, section 4.6.1).
+/// The bit of the first byte of a link-layer address that says that it is a group's (RFC 7042, section 2.1).
+const GROUP: u8 = 1;
+
+/// Returns true if an option that gives `mac` is passed over: `own` is the node's own link-layer address, and no other node has `mac`, since it is a
+/// group's, with the lowest bit of its first byte set (RFC 7042, section 2.1), zeros, or `own`. Without `own` none is passed over.
+fn is_passed_over(mac: Mac, own: Option<Mac>) -> bool
+    ensures { result ≡ is_passed_over own mac }
+{
+    match own {
+        Some(own) => mac.0[0] & GROUP != 0 || mac.0 == [0; 6] || mac.0 == own.0,
+        None => false,
+    }
+}
+
+/// Returns the first Source Link-Layer Address that isn't passed over (RFC 4861, section 4.6.1).
 #[tactic(auto, using(crate::proofs::OfType::first_slla_from))]
-fn first_slla(options: Options<'_>) -> Option<Mac>
-    ensures { result ≡ first_slla (options_left options.entry) }
+fn first_slla(options: Options<'_>, own: Option<Mac>) -> Option<Mac>
+    ensures { result ≡ first_slla (without own (options_left options.entry)) }
 {
     let mut rest = options;
     while let Some(option) = rest.next_of_type(OPTION_SOURCE_LINK_LAYER_ADDRESS) {
         if let OptionRef::Slla(mac) = option {
-            return Some(mac);
+            if !is_passed_over(mac, own) {
+                return Some(mac);
+            }
         }
     }
     None
 }
 
-/// Returns the first Target Link-Layer Address (RFC 4861, section 4.6.1).
+/// Returns the first Target Link-Layer Address that isn't passed over (RFC 4861, section 4.6.1).
 #[tactic(auto, using(crate::proofs::OfType::first_tlla_from))]
-fn first_tlla(options: Options<'_>) -> Option<Mac>
-    ensures { result ≡ first_tlla (options_left options.entry) }
+fn first_tlla(options: Options<'_>, own: Option<Mac>) -> Option<Mac>
+    ensures { result ≡ first_tlla (without own (options_left options.entry)) }
 {
     let mut rest = options;
     while let Some(option) = rest.next_of_type(OPTION_TARGET_LINK_LAYER_ADDRESS) {
         if let OptionRef::Tlla(mac) = option {
-            return Some(mac);
+            if !is_passed_over(mac, own) {
+                return Some(mac);
+            }
         }
     }
     None
@@ -77,14 +96,15 @@ fn given_by_redirect(redirect: &Redirect, mac: Option<Mac>) -> Option<News>
     given_or_marked(redirect.target, mac, Some(true))
 }
 
-/// Returns what a message says of a neighbour, if it says anything (RFC 4861, sections 6.2.6, 6.3.4, 7.2.3, 7.2.5 and 8.3).
-pub fn news_of(source: Addr, body: &Body, options: Options<'_>) -> Option<News>
-    ensures { (times : Times) → option_map (said_by times) result ≡ said_of_neighbour source body.now (options_left options.entry) times.reachable }
+/// Returns what a message says of a neighbour, if it says anything (RFC 4861, sections 6.2.6, 6.3.4, 7.2.3, 7.2.5 and 8.3). With `own`, the node's own
+/// link-layer address, its options that give this address or one that no node has are passed over.
+pub fn news_of(source: Addr, body: &Body, options: Options<'_>, own: Option<Mac>) -> Option<News>
+    ensures { (times : Times) → option_map (said_by times) result ≡ said_of_neighbour source body.now (without own (options_left options.entry)) times.reachable }
 {
     match body {
-        Body::Rs => given_by_source(source, first_slla(options), Some(false)),
-        Body::Ra(_) => given_or_marked(source, first_slla(options), Some(true)),
-        Body::Ns(_) => given_by_source(source, first_slla(options), None),
+        Body::Rs => given_by_source(source, first_slla(options, own), Some(false)),
+        Body::Ra(_) => given_or_marked(source, first_slla(options, own), Some(true)),
+        Body::Ns(_) => given_by_source(source, first_slla(options, own), None),
         Body::Na(na) => Some(News::Advert {
             addr: na.target,
             flags: Flags {
@@ -92,8 +112,8 @@ pub fn news_of(source: Addr, body: &Body, options: Options<'_>) -> Option<News>
                 solicited: na.solicited,
                 overrides: na.override_flag,
             },
-            mac: first_tlla(options),
+            mac: first_tlla(options, own),
         }),
-        Body::Redirect(redirect) => given_by_redirect(redirect, first_tlla(options)),
+        Body::Redirect(redirect) => given_by_redirect(redirect, first_tlla(options, own)),
     }
 }

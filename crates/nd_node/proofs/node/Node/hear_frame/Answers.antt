@@ -2,7 +2,7 @@ use Rattle.std.proofs.Common.{◌≡◌, ◌∷◌, false, ⊎_elim, sym, ◌∙
 use Rattle.std.proofs.lemmas.Result.{IfOk-weaker}
 use Rattle.nd_addr.specs.Ip6.{packet_parts}
 use Rattle.nd_decode.specs.Message.{parts}
-use Rattle.nd_decode.specs.Pieces.{options_left}
+use Rattle.nd_node.specs.Hearing.{options_read}
 use Rattle.nd_decode.specs.declared.body.Body.{Body}
 use Rattle.nd_validity.specs.Hearing.{Outcome, Hears, outcome, other, valid}
 use Rattle.nd_validity.specs.declared.hearing.Hearing.{Hearing}
@@ -25,8 +25,9 @@ pub returns-in-Valid-clause-adds : goal.returns-in-Valid-clause-adds
 returns-in-Valid-clause-adds g c =
     let h = subst (λ (r : Hearing). Hears c.args.frame.now c.args.self.now.role (outcome r)) c.in-Valid.is c.hear.ensures.heard in
     let heard = c.in-Valid.heard in
-    let said = λ (b : Body). valid heard.source heard.destination (record { body = b; options = options_left heard.message.options }) in
-    IfOk-weaker c.judge_message.result _ _ (λ r adds. adds c.args.frame.now (record { said = said heard.message.body; by_frame = h; as_read = ap said c.read_body.ensures })) c.judge_message.ensures.adds
+    let said = valid heard.source heard.destination (parts heard.message) in
+    let read = λ (b : Body). valid heard.source heard.destination (record { body = b; options = options_read c.args.self.now heard.message.options }) in
+    IfOk-weaker c.judge_message.result _ _ (λ r adds. adds c.args.frame.now (record { said = said; by_frame = h; as_read = ap read c.read_body.ensures })) c.judge_message.ensures.adds
 
 pub returns-in-Drop-clause-quiet : goal.returns-in-Drop-clause-quiet
 returns-in-Drop-clause-quiet g c = λ start c' s le asks.
@@ -37,7 +38,7 @@ returns-in-Other-clause-quiet g c = λ start c' s le asks.
     let packet = c.in-Other.packet in
     let only = subst (λ (r : Hearing). (o : Outcome) → Hears c.args.frame.now c.args.self.now.role o → outcome r ≡ o) c.in-Other.is c.hear.ensures.only in
     ⊎_elim
-    (λ d. c.hear_packet.ensures.quiet d.why start c' s le (judged_by_frame start ((c.args.now, Passed) ∷ c') c.args.now c.args.frame.now c.args.self.now.role c.args.self.now.policies (other (packet_parts packet)) d.why s.role s.policies only d.heard) (omega (arith, d.told)))
+    (λ d. c.hear_packet.ensures.quiet d.why start c' s le (judged_by_frame start ((c.args.now, Passed) ∷ c') c.args.now c.args.frame.now c.args.self.now.role c.args.self.now.policies c.args.self.now.mac (other (packet_parts packet)) d.why s.role s.policies s.mac only d.heard) (omega (arith, d.told)))
     (λ n. absurd (no_other c.args.self.now c.args.now c.args.frame.now _ (packet_parts packet) only n))
     asks
 
@@ -45,12 +46,13 @@ pub returns-in-Valid-clause-quiet : goal.returns-in-Valid-clause-quiet
 returns-in-Valid-clause-quiet g c = λ start c' s le asks.
     let heard = c.in-Valid.heard in
     let policies = c.args.self.now.policies in
-    let said = λ (b : Body). valid heard.source heard.destination (record { body = b; options = options_left heard.message.options }) in
+    let said = valid heard.source heard.destination (parts heard.message) in
+    let read = λ (b : Body). valid heard.source heard.destination (record { body = b; options = options_read c.args.self.now heard.message.options }) in
     let only = subst (λ (r : Hearing). (o : Outcome) → Hears c.args.frame.now c.args.self.now.role o → outcome r ≡ o) c.in-Valid.is c.hear.ensures.only in
     ⊎_elim
     (λ d. c.judge_message.ensures.dropped c.args.frame.now d.why start c' s le
-    (subst (λ (b : Body). Judges start ((c.args.now, Passed) ∷ c') c.args.now c.args.frame.now (said b) (drops d.why)) (sym c.read_body.ensures)
-    (judged_by_frame start ((c.args.now, Passed) ∷ c') c.args.now c.args.frame.now c.args.self.now.role policies (said heard.message.body) d.why s.role s.policies only d.heard)) (omega (arith, d.told)))
+    (subst (λ (b : Body). Judges start ((c.args.now, Passed) ∷ c') c.args.now c.args.frame.now (read b) (drops d.why)) (sym c.read_body.ensures)
+    (judged_by_frame start ((c.args.now, Passed) ∷ c') c.args.now c.args.frame.now c.args.self.now.role policies c.args.self.now.mac said d.why s.role s.policies s.mac only d.heard)) (omega (arith, d.told)))
     (λ n. (let such = nameless c.args.self.now c.args.now c.args.frame.now _ heard.source heard.destination (parts heard.message) only n in
     c.judge_message.ensures.quiet (read_advertisement policies such.ra) (c.read_body.ensures ∙ ap (read_body policies) such.body) such.adds))
     asks
@@ -58,13 +60,14 @@ returns-in-Valid-clause-quiet g c = λ start c' s le asks.
 pub returns-in-Other-clause-refused : goal.returns-in-Other-clause-refused
 returns-in-Other-clause-refused g c = λ start c' s le adds place.
     let only = subst (λ (r : Hearing). (o : Outcome) → Hears c.args.frame.now c.args.self.now.role o → outcome r ≡ o) c.in-Other.is c.hear.ensures.only in
-    let j = judged_frame start c' c.args.now c.args.frame.now c.args.self.now.role c.args.self.now.policies (other (packet_parts c.in-Other.packet)) s.role s.policies only adds in
+    let j = judged_frame start c' c.args.now c.args.frame.now c.args.self.now.role c.args.self.now.policies c.args.self.now.mac (other (packet_parts c.in-Other.packet)) s.role s.policies s.mac only adds in
     c.hear_packet.ensures.refused j.0 start c' s le j.1 j.2 place
 
 pub returns-in-Valid-clause-refused : goal.returns-in-Valid-clause-refused
 returns-in-Valid-clause-refused g c = λ start c' s le adds place.
     let heard = c.in-Valid.heard in
-    let said = λ (b : Body). valid heard.source heard.destination (record { body = b; options = options_left heard.message.options }) in
+    let said = valid heard.source heard.destination (parts heard.message) in
+    let read = λ (b : Body). valid heard.source heard.destination (record { body = b; options = options_read c.args.self.now heard.message.options }) in
     let only = subst (λ (r : Hearing). (o : Outcome) → Hears c.args.frame.now c.args.self.now.role o → outcome r ≡ o) c.in-Valid.is c.hear.ensures.only in
-    let j = judged_frame start c' c.args.now c.args.frame.now c.args.self.now.role c.args.self.now.policies (said heard.message.body) s.role s.policies only adds in
-    c.judge_message.ensures.refused c.args.frame.now j.0 start c' s le (subst (λ (b : Body). Judges start ((c.args.now, Passed) ∷ c') c.args.now c.args.frame.now (said b) j.0) (sym c.read_body.ensures) j.1) j.2 place
+    let j = judged_frame start c' c.args.now c.args.frame.now c.args.self.now.role c.args.self.now.policies c.args.self.now.mac said s.role s.policies s.mac only adds in
+    c.judge_message.ensures.refused c.args.frame.now j.0 start c' s le (subst (λ (b : Body). Judges start ((c.args.now, Passed) ∷ c') c.args.now c.args.frame.now (read b) j.0) (sym c.read_body.ensures) j.1) j.2 place

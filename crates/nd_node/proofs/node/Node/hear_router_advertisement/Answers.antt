@@ -2,7 +2,7 @@ use Rattle.std.proofs.Common.{refl, ap, subst, arith, ◌∷◌}
 use Rattle.std.specs.Prelude.{Option}
 use Rattle.std.specs.Option.{option_map}
 use Rattle.nd_addr.specs.Number.{number_of}
-use Rattle.nd_decode.specs.Pieces.{options_left}
+use Rattle.nd_node.specs.Hearing.{options_read}
 use Rattle.nd_out.specs.Out.{limit_of}
 use Rattle.nd_chronicle.specs.Happening.{Limit, Passed}
 use Rattle.nd_chronicle.specs.LinkLayerAddress.{first_slla}
@@ -19,31 +19,31 @@ use Rattle.nd_node.proofs.node.Node.hear_router_advertisement.Goals as goal
 pub returns-in-Some-clause-adds : goal.returns-in-Some-clause-adds
 returns-in-Some-clause-adds g c =
     let stream = g.R.Rng.stream in
-    let options = options_left c.args.heard.now.message.options in
+    let options = options_read c.args.self.now c.args.heard.now.message.options in
     answered c.refuse.result (Refused (Full c.in-Some.limit)) _ (refuses stream c.args.now c.args.heard.now.source c.args.heard.now.destination c.args.ra.now options c.args.self.now c.refuse.new.self c.args.outs.now.items c.refuse.new.outs.items (limit_of c.in-Some.limit)
     (λ start c' s le. subst (λ (limit : Option Limit). AdvertisementFills start c' c.args.now c.args.heard.now.source c.args.ra.now (advertised c.args.ra.now options) limit) (ap (option_map limit_of) c.in-Some.is)
-    (c.first_full.ensures.fills start c' s le (sender_placed stream c.args.now c.args.heard.now.source c.args.heard.now.destination c.args.ra.now options c.args.self.now c.news_of-news.result c.has_place-place.result (λ times. rw c.requires.body at (c.news_of-news.ensures times)) c.has_place-place.ensures.placed start c' s)))) c.refuse.ensures.adds c.refuse.ensures.answer
+    (c.first_full.ensures.fills start c' s le (sender_placed stream c.args.now c.args.heard.now.source c.args.heard.now.destination c.args.ra.now options c.args.self.now c.news_of-news.result c.has_place-place.result (λ times. rw (c.own_mac.ensures, c.requires.body) at (c.news_of-news.ensures times)) c.has_place-place.ensures.placed start c' s)))) c.refuse.ensures.adds c.refuse.ensures.answer
 
 pub take_router_advertisement-requires-clause-place : goal.take_router_advertisement-requires-clause-place
 take_router_advertisement-requires-clause-place g c = c.has_place-place.ensures.room (c.first_full.ensures.room c.in_default.is).neighbours
 
 pub take_router_advertisement-requires-clause-news : goal.take_router_advertisement-requires-clause-news
-take_router_advertisement-requires-clause-news g c = λ times. rw c.requires.body at (c.news_of-news.ensures times)
+take_router_advertisement-requires-clause-news g c = λ times. rw (c.own_mac.ensures, c.requires.body) at (c.news_of-news.ensures times)
 
 pub returns-clause-adds : goal.returns-clause-adds
 returns-clause-adds g c =
     let stream = g.R.Rng.stream in
-    let options = options_left c.args.heard.now.message.options in
+    let options = options_read c.args.self.now c.args.heard.now.message.options in
     takes stream c.args.now c.args.heard.now.source c.args.heard.now.destination c.args.ra.now options c.args.self.now _ c.args.outs.now.items c.reserve.new.self.items c.push_heard.new.outs.items c.take_router_advertisement.new.outs.items _ refl
     (λ start c' s le. subst (λ (limit : Option Limit). AdvertisementFills start c' c.args.now c.args.heard.now.source c.args.ra.now (advertised c.args.ra.now options) limit) (ap (option_map limit_of) c.in_default.is)
-    (c.first_full.ensures.fills start c' s le (sender_placed stream c.args.now c.args.heard.now.source c.args.heard.now.destination c.args.ra.now options c.args.self.now c.news_of-news.result c.has_place-place.result (λ times. rw c.requires.body at (c.news_of-news.ensures times)) c.has_place-place.ensures.placed start c' s)))
+    (c.first_full.ensures.fills start c' s le (sender_placed stream c.args.now c.args.heard.now.source c.args.heard.now.destination c.args.ra.now options c.args.self.now c.news_of-news.result c.has_place-place.result (λ times. rw (c.own_mac.ensures, c.requires.body) at (c.news_of-news.ensures times)) c.has_place-place.ensures.placed start c' s)))
     c.in_ok-reserve.ensures.items (rw c.requires.body at c.push_heard.ensures.items)
     c.take_router_advertisement.ensures
 
 pub returns-in_err-reserve-clause-quiet : goal.returns-in_err-reserve-clause-quiet
 returns-in_err-reserve-clause-quiet g c = λ adds.
-    let options = options_left c.args.heard.now.message.options in
-    let waits = told_of_sender (record { retrans = 0; reachable = 0 }) (number_of c.args.heard.now.source.0) (first_slla options) c.news_of-news.result c.args.self.now.neighbours.entries (rw c.requires.body at (c.news_of-news.ensures (record { retrans = 0; reachable = 0 }))) in
+    let options = options_read c.args.self.now c.args.heard.now.message.options in
+    let waits = told_of_sender (record { retrans = 0; reachable = 0 }) (number_of c.args.heard.now.source.0) (first_slla options) c.news_of-news.result c.args.self.now.neighbours.entries (rw (c.own_mac.ensures, c.requires.body) at (c.news_of-news.ensures (record { retrans = 0; reachable = 0 }))) in
     absurd (omega (arith, adds.told, waits, c.told_for-told.ensures.value, c.in_err-reserve.ensures.full))
 
 pub returns-in_err-names-clause-quiet : goal.returns-in_err-names-clause-quiet
@@ -51,14 +51,14 @@ returns-in_err-names-clause-quiet g c = λ adds. let refused = c.in_err-names.en
 
 pub returns-in_err-names-clause-full : goal.returns-in_err-names-clause-full
 returns-in_err-names-clause-full g c = λ limit start c' s le fills place.
-    let options = options_left c.args.heard.now.message.options in
+    let options = options_read c.args.self.now c.args.heard.now.message.options in
     let none = subst (λ (limit' : Option Limit). AdvertisementFills start c' c.args.now c.args.heard.now.source c.args.ra.now (advertised c.args.ra.now options) limit') (ap (option_map limit_of) c.in_default.is)
-    (c.first_full.ensures.fills start c' s le (sender_placed g.R.Rng.stream c.args.now c.args.heard.now.source c.args.heard.now.destination c.args.ra.now options c.args.self.now c.news_of-news.result c.has_place-place.result (λ times. rw c.requires.body at (c.news_of-news.ensures times)) c.has_place-place.ensures.placed start c' s)) in
+    (c.first_full.ensures.fills start c' s le (sender_placed g.R.Rng.stream c.args.now c.args.heard.now.source c.args.heard.now.destination c.args.ra.now options c.args.self.now c.news_of-news.result c.has_place-place.result (λ times. rw (c.own_mac.ensures, c.requires.body) at (c.news_of-news.ensures times)) c.has_place-place.ensures.placed start c' s)) in
     absurd (router_advertisement_left start c.args.now c.args.heard.now.source options ((c.args.now, Passed) ∷ c') limit c.args.ra.now c' refl none fills)
 
 pub returns-in_err-reserve-clause-full : goal.returns-in_err-reserve-clause-full
 returns-in_err-reserve-clause-full g c = λ limit start c' s le fills place.
-    let options = options_left c.args.heard.now.message.options in
+    let options = options_read c.args.self.now c.args.heard.now.message.options in
     let none = subst (λ (limit' : Option Limit). AdvertisementFills start c' c.args.now c.args.heard.now.source c.args.ra.now (advertised c.args.ra.now options) limit') (ap (option_map limit_of) c.in_default.is)
-    (c.first_full.ensures.fills start c' s le (sender_placed g.R.Rng.stream c.args.now c.args.heard.now.source c.args.heard.now.destination c.args.ra.now options c.args.self.now c.news_of-news.result c.has_place-place.result (λ times. rw c.requires.body at (c.news_of-news.ensures times)) c.has_place-place.ensures.placed start c' s)) in
+    (c.first_full.ensures.fills start c' s le (sender_placed g.R.Rng.stream c.args.now c.args.heard.now.source c.args.heard.now.destination c.args.ra.now options c.args.self.now c.news_of-news.result c.has_place-place.result (λ times. rw (c.own_mac.ensures, c.requires.body) at (c.news_of-news.ensures times)) c.has_place-place.ensures.placed start c' s)) in
     absurd (router_advertisement_left start c.args.now c.args.heard.now.source options ((c.args.now, Passed) ∷ c') limit c.args.ra.now c' refl none fills)

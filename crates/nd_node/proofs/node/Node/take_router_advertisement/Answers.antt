@@ -3,13 +3,20 @@ use Rattle.std.specs.Prelude.{Option, ℕ}
 use Rattle.nd_neighbour.specs.History.{RowKind}
 use Rattle.nd_decode.specs.Pieces.{options_left}
 use Rattle.nd_steps.specs.NeighbourCache.{HearsOf}
+use Rattle.nd_chronicle.proofs.Reading.{mtu_as_said}
+use Rattle.nd_node.specs.Hearing.{options_read}
+use Rattle.nd_node.proofs.AsRead.{dns_stands, forms_as_read, hears_as_read, links_stand, none_formed_as_read}
 use Rattle.nd_node.proofs.Recalling.{may_redirects, redirects_stand, room_kept, room_then}
 use Rattle.nd_node.proofs.Advertised.{takes_advertisement}
 use Rattle.nd_node.proofs.node.Node.take_router_advertisement.Goals as goal
 
 pub returns : goal.returns
 returns g c =
-    rw c.advance_to.ensures (takes_advertisement g.R.Rng.stream c.args.self.now _ c.args.outs.now.items _ c.args.now c.args.heard.now.source c.args.heard.now.destination c.args.ra.now (options_left c.args.heard.now.message.options)
+    let said = options_left c.args.heard.now.message.options in
+    let policies = c.args.self.now.policies in
+    let mac = c.args.self.now.mac in
+    let stream = g.R.Rng.stream in
+    rw c.advance_to.ensures (takes_advertisement g.R.Rng.stream c.args.self.now _ c.args.outs.now.items _ c.args.now c.args.heard.now.source c.args.heard.now.destination c.args.ra.now (options_read c.args.self.now c.args.heard.now.message.options)
     (record {
       one_goes = c.one_is_pushed_out.ensures;
       neighbours_overdue = c.none_overdue.ensures.table;
@@ -25,7 +32,7 @@ returns g c =
       policies = refl;
       last = refl;
       left = _;
-      params = c.hear_parameters.ensures;
+      params = hears_as_read c.args.self.now.params c.hear_parameters.new.params (stream c.args.self.now.generator) (stream c.hear_parameters.new.generator) c.args.now c.args.ra.now said (options_read c.args.self.now c.args.heard.now.message.options) (mtu_as_said policies mac said) c.hear_parameters.ensures;
       router = refl;
       solicitations = c.heard_router.ensures;
       between = _;
@@ -48,7 +55,7 @@ returns g c =
       redirects_third = c.hear_prefixes.ensures.redirects;
       redirects_then = c.keep_until_a_prefix_ends.ensures.redirects;
       own = c.hear_prefix_options-none_formed.result;
-      own_is = c.hear_prefix_options-none_formed.ensures.none;
+      own_is = none_formed_as_read policies mac said _ _ c.hear_prefix_options-none_formed.result c.hear_prefix_options-none_formed.ensures.none;
       hops = c.keep_until_a_prefix_ends.ensures.hops;
       until = c.keep_until_a_prefix_ends.ensures.until;
       routers_settled = c.hear_router-times_out.ensures.settled;
@@ -59,11 +66,11 @@ returns g c =
       room = room_then _ _ _ (room_kept _ _ (may_redirects c.args.self.now.choice c.hear_of_neighbour.new.choice c.args.self.now.neighbours.entries c.hear_of_neighbour.new.neighbours.entries c.hear_of_neighbour.ensures.remembers))
           (room_then _ _ _ c.hear_router-times_out.ensures.limits (room_kept c.hear_router-times_out.new.choice c.keep_until_a_prefix_ends.new.choice (c.keep_until_a_prefix_ends.ensures.redirects ∙ c.hear_prefixes.ensures.redirects)));
       left_is_told = c.tell_left.ensures;
-      prefixes = c.hear_prefixes.ensures.stands;
+      prefixes = λ history le s. links_stand policies mac said c.args.now c.hear_prefixes.new.prefixes.entries history (c.hear_prefixes.ensures.stands history le s);
       retrans = _;
       in_force = c.retrans_timer-retrans.ensures.value;
       to_all = _;
       goes_to_all = c.is_multicast.ensures.exactly;
-      forms = c.hear_prefix_options-none_formed.ensures.forms;
-      dns = c.hear_dns.ensures.stands;
+      forms = λ start c' f. forms_as_read policies mac said start c.hear_prefix_options-none_formed.new.addresses (stream c.hear_prefix_options-none_formed.new.generator) _ c.args.now _ c' (c.hear_prefix_options-none_formed.ensures.forms start c' f);
+      dns = λ servers names le le' s. dns_stands policies mac said c.args.now c.hear_dns.new.dns servers names (c.hear_dns.ensures.stands servers names le le' s);
     }))
