@@ -25,6 +25,9 @@ pub const DRAWS_WORD: u8 = 1;
 /// Numbers of an advertisement that are outside their ranges say nothing.
 pub const POLICY_TIMERS: u32 = 4;
 
+/// What claims to come from the node itself is of no other node.
+pub const POLICY_SELF: u32 = 8;
+
 /// A router sends on only what came to its own address.
 pub const POLICY_UNICAST: u32 = 16;
 

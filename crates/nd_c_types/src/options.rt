@@ -7,7 +7,9 @@ ghost use Rattle.nd_c_types.specs.Limits.{number_or};
 ghost use Rattle.nd_c_types.specs.Options.{are_draws, are_policies, draws_in, is_well_formed, is_zero, opening_in, policies_in, options_in, AreOptions, AreWellFormed, IsKnown};
 
 use crate::bytes::{byte_at, u32_at, u64_at};
-use crate::header::{DRAWS_SEED, DRAWS_WORD, MOMENT_LIMIT, POLICY_TIMERS, POLICY_UNICAST};
+use crate::header::{
+    DRAWS_SEED, DRAWS_WORD, MOMENT_LIMIT, POLICY_SELF, POLICY_TIMERS, POLICY_UNICAST,
+};
 use crate::limits::Limits;
 use crate::role::role_of;
 use nd_addr::{Mac, Role};
@@ -174,7 +176,7 @@ fn are_draws(draws: u8, seed: u64) -> bool
 fn are_policies(bits: u32) -> bool
     ensures { result ≡ are_policies bits }
 {
-    bits & !(POLICY_TIMERS | POLICY_UNICAST) == 0
+    bits & !(POLICY_TIMERS | POLICY_SELF | POLICY_UNICAST) == 0
 }
 
 /// Returns the policies whose bits are set.
@@ -187,10 +189,15 @@ fn policies_of(bits: u32) -> Policies
     } else {
         none.with_timers()
     };
-    if bits & POLICY_UNICAST == 0 {
+    let own = if bits & POLICY_SELF == 0 {
         timers
     } else {
-        timers.with_unicast()
+        timers.with_own()
+    };
+    if bits & POLICY_UNICAST == 0 {
+        own
+    } else {
+        own.with_unicast()
     }
 }
 

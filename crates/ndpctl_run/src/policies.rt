@@ -11,6 +11,7 @@ fn with_named(word: &str, policies: Policies) -> Option<Policies>
 {
     match word {
         "timers" if !policies.timers() => Some(policies.with_timers()),
+        "self" if !policies.own() => Some(policies.with_own()),
         "unicast" if !policies.unicast() => Some(policies.with_unicast()),
         _ => None,
     }

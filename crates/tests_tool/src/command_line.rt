@@ -205,14 +205,13 @@ fn expect_limit(rt: &(impl Abort + AllocGlobal), place: usize, option: &str, num
     assert!(rt; Some(read.limits) == wanted);
 }
 
-/// Each number is read up to the ends of its range.
 /// Words that are parted by commas, each at most once, in any order.
 #[test]
 fn policies_are_named_once(rt: HostRuntime) {
-    let both = Policies::none().with_timers().with_unicast();
-    for value in ["timers,unicast", "unicast,timers"] {
+    let all = Policies::none().with_timers().with_own().with_unicast();
+    for value in ["timers,self,unicast", "unicast,timers,self"] {
         let read = options(&rt, &run_with("--policy", value));
-        assert!(rt; read.policies == both);
+        assert!(rt; read.policies == all);
     }
     for value in [
         "",
@@ -221,12 +220,13 @@ fn policies_are_named_once(rt: HostRuntime) {
         ",timers",
         "timers,timers",
         "timers unicast",
-        "unicast,timers,unicast",
+        "unicast,self,unicast",
     ] {
         assert_eq!(rt; refused(&rt, &run_with("--policy", value)), "policy");
     }
 }
 
+/// Each number is read up to the ends of its range.
 #[test]
 fn numbers_have_ranges(rt: HostRuntime) {
     for (value, transmits) in [("1", 1), ("8", 8)] {
