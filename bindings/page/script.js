@@ -12,7 +12,7 @@ const STATES = ['', 'tentative', 'preferred', 'deprecated', 'duplicate'];
 const PREFERENCES = ['medium', 'high', 'low'];
 const CLEARABLES = ['', 'neighbours', 'routers', 'prefixes', 'redirects', 'dns'];
 const REASONS = @REASONS@;
-const POLICIES = { timers: 4, unicast: 16 };
+const POLICIES = { timers: 4, self: 8, unicast: 16 };
 const FOREVER = 2n ** 64n - 1n, MOMENT_LIMIT = 2n ** 62n;
 
 // What is wrong with a line.

@@ -598,12 +598,20 @@ static bool read_limit(const char *name, const char *value)
     return false;
 }
 
+static const struct {
+    const char *name;
+    uint32_t bit;
+} policies[] = {{"timers", ND_POLICY_TIMERS}, {"self", ND_POLICY_SELF}, {"unicast", ND_POLICY_UNICAST}};
+
 /* Reads the words of policies, parted by commas. */
 static void read_policies(char *words)
 {
     for (char *word = strtok(words, ","); word != NULL; word = strtok(NULL, ",")) {
-        require(strcmp(word, "timers") == 0 || strcmp(word, "unicast") == 0, "--policy");
-        options.policies |= strcmp(word, "timers") == 0 ? ND_POLICY_TIMERS : ND_POLICY_UNICAST;
+        size_t i = 0;
+        while (i < sizeof policies / sizeof policies[0] && strcmp(word, policies[i].name) != 0)
+            i++;
+        require(i < sizeof policies / sizeof policies[0], "--policy");
+        options.policies |= policies[i].bit;
     }
 }
 

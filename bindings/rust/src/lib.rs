@@ -81,6 +81,9 @@ pub struct Policies {
     /// Of a Router Advertisement, a Cur Hop Limit below 32, a Reachable Time outside 1,000 to 3,600,000 ms and a Retrans Timer outside 100 to 30,000 ms are
     /// read as 0, unspecified (RFC 4861, 4.2).
     pub timers: bool,
+    /// `self`: a message whose source is one of the node's assigned addresses is dropped, and so is a packet in transit whose source is an address of its
+    /// own. A Source or Target Link-Layer Address that is a group's, zeros or the node's own is passed over, as if the option weren't there.
+    pub own: bool,
     /// A router sends on only packets whose frame has its own address as the Ethernet destination, and drops others that aren't for it. At a host it has no
     /// effect.
     pub unicast: bool,
@@ -88,7 +91,7 @@ pub struct Policies {
 
 impl Policies {
     fn bits(self) -> u32 {
-        u32::from(self.timers) << 2 | u32::from(self.unicast) << 4
+        u32::from(self.timers) << 2 | u32::from(self.own) << 3 | u32::from(self.unicast) << 4
     }
 }
 

@@ -10,6 +10,10 @@ const ROUTER_MAC: [u8; 6] = [2, 0, 0, 0, 0, 1];
 const RETRANS_TIMER_OF_49_DAYS: &str = "33330000000102666666666686dd6000000000103afffe80000000000000006666fffe666666ff020000000000000000000000000001\
     86006ffd4000000000000000ffffffff";
 
+/// An advertisement of the host's own link-local address, as the host sends it itself.
+const OWN_ANSWER_TO_ALL_NODES: &str = "3333000000013456789abcde86dd6000000000203afffe80000000000000365678fffe9abcdeff020000000000000000000000000001\
+    88001a3020000000fe80000000000000365678fffe9abcde02013456789abcde";
+
 fn address(text: &str) -> Ipv6Addr {
     text.parse().unwrap()
 }
@@ -312,6 +316,17 @@ fn policies_are_chosen() {
         let mut node = Node::open(&Options { policies, draws: Draws::Word(0), ..Options::host(MAC, 0, 0) }).unwrap();
         assert_eq!(node.receive(1_200, &bytes(RETRANS_TIMER_OF_49_DAYS)), Ok(Outcome::Done));
         assert_eq!(node.parameters(1_200).unwrap().retrans_timer, retrans_timer);
+    }
+}
+
+#[test]
+fn what_comes_from_the_node_itself_is_dropped() {
+    for own in [true, false] {
+        let policies = Policies { own, ..Default::default() };
+        let mut node = Node::open(&Options { policies, draws: Draws::Word(0), ..Options::host(MAC, 0, 0) }).unwrap();
+        assert_eq!(node.receive(1_200, &bytes(OWN_ANSWER_TO_ALL_NODES)), Ok(Outcome::Done));
+        let last = node.poll().last().unwrap().output;
+        assert_eq!(last == Output::Dropped(Why::NotForUs), own);
     }
 }
 
