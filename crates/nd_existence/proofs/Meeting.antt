@@ -12,6 +12,7 @@ use Rattle.nd_addr.specs.declared.addr.Addr.{Addr}
 use Rattle.nd_addr.specs.declared.mac.Mac.{Mac}
 use Rattle.nd_addr.specs.declared.role.Role.TheVariants.{Router}
 use Rattle.nd_addr.proofs.Numbered.{sixteen}
+use Rattle.nd_decode.specs.Message.{Parts}
 use Rattle.nd_table.proofs.Pasts.{past_self}
 use Rattle.nd_table.proofs.Tests.{by_false, by_true}
 use Rattle.nd_compose.specs.Frames.{defence_frame, detection_frame, solicited_node, unspecified}
@@ -23,10 +24,12 @@ use Rattle.nd_slaac.specs.State as states
 use Rattle.nd_chronicle.specs.Start.{Limits, Start, no_policies}
 use Rattle.nd_chronicle.specs.Happening.{Address, Chronicle, Heard, Passed, Sent}
 use Rattle.nd_chronicle.specs.History.{beginning, first_delay}
+use Rattle.nd_chronicle.specs.NeighborSolicitation.{then_tried}
 use Rattle.nd_chronicle.specs.OwnAddress.{is_assigned, story_of}
 use Rattle.nd_chronicle.specs.Event as nodes
 use Rattle.nd_chronicle.specs.Event.{ComesAsBytes, EventAdds}
 use Rattle.nd_chronicle.proofs.OwnKeys.{IsUsable, own_usable}
+use Rattle.nd_chronicle.proofs.Reading.{read_by_none}
 use Rattle.nd_chronicle.proofs.Rivals.{tried}
 use Rattle.nd_existence.proofs.Adding.{event_adds}
 use Rattle.nd_link_log.specs.Log.{Log, Begins, Carries, Reaches, adding, chronicle_of, last_moment, nodes as count, sent, start_of}
@@ -262,7 +265,8 @@ module _ (limits : Limits) (mac : Mac) (m : AreBytes 6 mac.0) (transmits : ℕ) 
 
   pub heard_is : heard.0 ≡ rows ++ c
   heard_is =
-      tried first c late frame address (sixteen key) heard.0 usable.unicast tries (or_right _ _ assigned) (or_left _ _ held2) heard.1
+      tried first c late frame address (sixteen key) heard.0 usable.unicast tries (or_right _ _ assigned) (or_left _ _ held2) refl heard.1
+      ∙ ap (λ (said : Parts). then_tried first late address ((late, Heard unspecified (solicited_node address) said) ∷ c)) (read_by_none mac tries.message)
       ∙ ap (λ (b : Bool). if b then (late, Sent (defence_frame true mac address)) ∷ hearing else (late, Address (number_of address.0) Conflict) ∷ hearing) assigned
 
   abbrev pub log3 : Log
