@@ -1,0 +1,88 @@
+"""How the library is found, compiled and called."""
+from __future__ import annotations
+
+import os
+import stat
+import subprocess
+import sys
+import tempfile
+import threading
+import time
+import unittest
+from pathlib import Path
+from unittest import mock
+
+import nd
+from nd import library
+
+from .paths import PYTHON
+
+USE = "import nd; print(nd.version())"
+
+
+def run(code: str, **environment: str) -> subprocess.CompletedProcess[str]:
+    """Runs a program in another process, with the folder of the module on its path."""
+    return subprocess.run([sys.executable, "-c", code], env={**os.environ, "PYTHONPATH": str(PYTHON), **environment}, capture_output=True, text=True,
+                          check=False)
+
+
+class Finding(unittest.TestCase):
+    def test_nd_lib_names_a_library(self) -> None:
+        with tempfile.TemporaryDirectory() as room:
+            said = run(USE, ND_LIB=str(library.compile_library()), CC="no-such-compiler", XDG_CACHE_HOME=room)
+            self.assertEqual((said.stdout, list(Path(room).iterdir())), ("(0, 1, 0)\n", []), said.stderr)
+
+    def test_a_missing_library_is_an_error(self) -> None:
+        said = run(USE, ND_LIB="/no/such/library.so")
+        self.assertRegex(said.stderr, r"nd\.errors\.LibraryError: the library /no/such/library.so cannot be loaded")
+
+    def test_without_a_compiler_the_error_says_what_to_do(self) -> None:
+        with tempfile.TemporaryDirectory() as room:
+            said = run(USE, ND_LIB="", CC="no-such-compiler", XDG_CACHE_HOME=room)
+            self.assertRegex(said.stderr, "no C compiler: .*'no-such-compiler' is not on the path. Install gcc or clang, .* CC, .* ND_LIB")
+
+    def test_a_compiler_that_fails_leaves_no_file(self) -> None:
+        with tempfile.TemporaryDirectory() as room:
+            compiler = Path(room) / "compiler"
+            compiler.write_text("#!/bin/sh\necho out of luck >&2\nexit 1\n", encoding="utf-8")
+            compiler.chmod(stat.S_IRWXU)
+            said = run(USE, ND_LIB="", CC=str(compiler), XDG_CACHE_HOME=room)
+            self.assertRegex(said.stderr, "(?s)LibraryError: the C compiler failed: .*nd.c.*\nout of luck")
+            self.assertEqual(list((Path(room) / "jondasik").iterdir()), [])
+
+    def test_a_cache_that_cannot_be_made_is_an_error(self) -> None:
+        with tempfile.NamedTemporaryFile() as file:
+            said = run(USE, ND_LIB="", XDG_CACHE_HOME=file.name)
+            self.assertRegex(said.stderr, "LibraryError: nd.c cannot be compiled into .*jondasik")
+
+    def test_another_command_has_another_file(self) -> None:
+        paths = {run("from nd import library; print(library.compiled_path())", CC=name, XDG_CACHE_HOME="/kept").stdout for name in ("cc", "gcc", "cc ")}
+        self.assertEqual(len(paths), 2)
+        self.assertTrue(all(path.startswith("/kept/jondasik/nd-") for path in paths), paths)
+
+
+class Overlap:
+    """A library whose calls take a while, and that counts those that run at a time."""
+
+    def __init__(self) -> None:
+        self.running = 0
+        self.most = 0
+
+    def nd_version(self) -> int:
+        self.running += 1
+        self.most = max(self.most, self.running)
+        time.sleep(0.002)
+        self.running -= 1
+        return 0
+
+
+class Threads(unittest.TestCase):
+    def test_one_call_runs_at_a_time(self) -> None:
+        loaded = Overlap()
+        with mock.patch.object(library, "_loaded", loaded):
+            threads = [threading.Thread(target=nd.version) for _ in range(8)]
+            for thread in threads:
+                thread.start()
+            for thread in threads:
+                thread.join()
+        self.assertEqual(loaded.most, 1)

@@ -1,0 +1,211 @@
+"""A node: the examples of nd.h, and what its calls return for mistakes."""
+from __future__ import annotations
+
+import unittest
+from ipaddress import IPv6Address, IPv6Network
+from typing import Iterator, List
+
+import nd
+from nd.raw import FOREVER
+
+from .paths import example, example_events, example_frames
+
+HOST_MAC, ROUTER_MAC = "34:56:78:9a:bc:de", "02:00:00:00:00:01"
+LINK_LOCAL = IPv6Address("fe80::3656:78ff:fe9a:bcde")
+
+
+class Packet:
+    """What `bytes()` takes, as a packet of Scapy is."""
+
+    def __init__(self, content: bytes) -> None:
+        self.content = content
+
+    def __bytes__(self) -> bytes:
+        return self.content
+
+
+def opened(role: nd.Role, mac: str, **options: object) -> nd.Node:
+    return nd.Node(nd.Options(role, mac, draws=nd.Word(0), **options))  # type: ignore[arg-type]
+
+
+def host_line(record: nd.Record) -> str:
+    """Returns the line that examples/c/host.c prints of a record: the words of `ndpctl run`, but numbers of nd.h for words that follow."""
+    kinds = {nd.Assigned: "assigned", nd.Duplicate: "duplicate", nd.EndedAddress: "ended address"}
+    if isinstance(record, nd.Frame):
+        said = f"tx {record.frame.hex()}"
+    elif isinstance(record, nd.Heard):
+        said = f"heard {record.message_type}"
+    elif isinstance(record, nd.Dropped):
+        said = f"drop {int(record.why)}"
+    elif isinstance(record, nd.Up):
+        said = f"up {record.packet.hex()}"
+    else:
+        said = f"{kinds[type(record)]} {record.address}"  # type: ignore[index,union-attr]
+    return f"{record.moment} {said}"
+
+
+def host_lines(node: nd.Node, name: str) -> Iterator[str]:
+    """Passes the events of an example to a node, and returns the lines of its records."""
+    for moment, frame in example_events(name):
+        node.turn(moment) if frame is None else node.receive(moment, frame)
+        yield from map(host_line, node.poll())
+
+
+def left_text(left: object) -> str:
+    return str(FOREVER if left is None else left)
+
+
+def address_line(row: nd.Address) -> str:
+    return f"address {row.address} {int(row.state)} {left_text(row.preferred_left)} {left_text(row.valid_left)}"
+
+
+class Examples(unittest.TestCase):
+    def test_a_host(self) -> None:
+        with opened(nd.Role.HOST, HOST_MAC) as node:
+            lines = list(host_lines(node, "host.hex"))
+            now = node.last_moment()
+            lines += map(address_line, node.addresses(now))
+            lines += [f"router {row.address} {row.left} {int(row.preference)}" for row in node.routers(now)]
+        self.assertEqual(lines, example("host.txt").splitlines())
+
+    def test_a_router(self) -> None:
+        """The events before the frames are those of examples/c/router.c."""
+        with opened(nd.Role.ROUTER, ROUTER_MAC) as node:
+            node.offer(0, nd.Offer(IPv6Network("2001:db8::/64")))
+            node.route(0, nd.Route(IPv6Network("2001:db8::/64")))
+            node.route(0, nd.Route(IPv6Network("2001:db8:1::/64"), IPv6Address("fe80::2")))
+            node.advertise(0, nd.Advertising(200, 600, 1800, hop_limit=64))
+            records: List[nd.Record] = list(node.poll())
+            for moment, frame in example_events("router.hex"):
+                node.turn(moment) if frame is None else node.receive(moment, frame)
+                records += node.poll()
+            node.stop(node.last_moment())
+            records += node.poll()
+        self.assertEqual([host_line(record) for record in records if isinstance(record, nd.Frame)], example("router.txt").splitlines())
+
+
+class Frames(unittest.TestCase):
+    def test_what_bytes_takes_is_a_frame(self) -> None:
+        frame = example_frames("link.hex")[0]
+        for taken in (frame, bytearray(frame), memoryview(frame), Packet(frame)):
+            self.assertEqual(nd.hear(taken, nd.Role.ROUTER), nd.hear(frame, nd.Role.ROUTER))
+            with opened(nd.Role.ROUTER, ROUTER_MAC) as node:
+                node.receive(1000, taken)
+                self.assertIn(nd.Heard(1000, IPv6Address("fe80::ff:fe00:99"), 133), list(node.poll()))
+
+    def test_numbers_and_texts_are_no_frames(self) -> None:
+        for wrong in (60, "3333"):
+            with self.assertRaises(TypeError):
+                nd.hear(wrong, nd.Role.HOST)  # type: ignore[arg-type]
+
+    def test_a_frame_longer_than_the_usual_buffer_is_reported_whole(self) -> None:
+        packet = bytes.fromhex("6000000000001140") + IPv6Address("fe80::9").packed + IPv6Address("ff02::1").packed + bytes(4000)
+        packet = packet[:4] + (4000).to_bytes(2, "big") + packet[6:]
+        with opened(nd.Role.HOST, HOST_MAC) as node:
+            node.turn(1000)
+            list(node.poll())
+            node.receive(1000, bytes.fromhex("333300000001" "020000000009" "86dd") + packet)
+            self.assertEqual(list(node.poll()), [nd.Up(1000, packet)])
+
+    def test_what_a_frame_is(self) -> None:
+        """Fields that the RFCs' layouts give for frames of examples/link.hex, whose lines are in examples/link.txt."""
+        frames = example_frames("link.hex")
+        advertised = nd.hear(frames[7], nd.Role.HOST)
+        self.assertEqual((advertised.hearing, advertised.message_type, advertised.source), (nd.Hearing.VALID, 134, IPv6Address("fe80::1")))
+        self.assertEqual((advertised.hop_limit, advertised.managed, advertised.other, advertised.preference), (64, True, True, nd.Preference.HIGH))
+        self.assertEqual((advertised.router_lifetime, advertised.reachable_time, advertised.retrans_timer), (1800, 30000, 1000))
+        self.assertEqual(advertised.options, frames[7][70:])
+        answered = nd.hear(frames[11], nd.Role.HOST)
+        self.assertEqual((answered.router, answered.solicited, answered.override), (False, True, True))
+        self.assertEqual(answered.target, IPv6Address("2001:db8::ff:fe00:99"))
+        redirected = nd.hear(frames[12], nd.Role.HOST)
+        self.assertEqual((redirected.target, redirected.redirected), (IPv6Address("fe80::ff:fe00:2"), IPv6Address("2001:db8:77::1")))
+        dropped = nd.hear(frames[7], nd.Role.ROUTER)
+        self.assertEqual((dropped.hearing, dropped.why), (nd.Hearing.DROP, nd.Why.NOT_FOR_US))
+
+
+class Errors(unittest.TestCase):
+    def test_a_moment_before_the_last_one(self) -> None:
+        with opened(nd.Role.HOST, HOST_MAC, start=500) as node:
+            self.assertEqual(node.last_moment(), 500)
+            for call in (node.turn, node.parameters):
+                with self.assertRaises(nd.Past):
+                    call(499)
+
+    def test_numbers_out_of_range_are_not_cut(self) -> None:
+        with opened(nd.Role.HOST, HOST_MAC) as node:
+            wrong = [lambda: node.turn(-1), lambda: node.turn(1 << 62), lambda: node.turn((1 << 64) + 5), lambda: node.clear(0, (1 << 32) + 1),
+                     lambda: node.send(0, "::1", "::2", 256), lambda: node.confirm_to(0, "::1", 1 << 64), lambda: node.add_address(0, "::5", 1 << 32),
+                     lambda: nd.hear(b"", 1 << 32), lambda: node.resolve(0, "1.2.3.4"), lambda: nd.Mac("02:00:00:00:00"),
+                     lambda: nd.Mac(b"12345"), lambda: nd.Node(nd.Options(nd.Role.HOST, HOST_MAC, transmits=256)),
+                     lambda: nd.Node(nd.Options(nd.Role.HOST, HOST_MAC, transmits=9)), lambda: nd.Node(nd.Options(nd.Role.HOST, HOST_MAC, start=1 << 62)),
+                     lambda: nd.Node(nd.Options(nd.Role.HOST, HOST_MAC, limits=nd.Limits(neighbours=2049))), lambda: nd.pool_bytes(longest=-1)]
+            for number, call in enumerate(wrong):
+                with self.subTest(number), self.assertRaises(nd.Invalid):
+                    call()
+
+    def test_a_closed_node(self) -> None:
+        node = opened(nd.Role.HOST, HOST_MAC)
+        node.close()
+        node.close()
+        with self.assertRaises(nd.Closed):
+            node.turn(0)
+        with self.assertRaises(nd.Closed):
+            list(node.poll())
+        self.assertEqual(node.last_moment(), FOREVER)
+
+    def test_memory_is_given_back(self) -> None:
+        """All nodes of the process share 64 MiB, and one takes 151,008 bytes for its tables: 1,000 nodes fit only one after another."""
+        tables = nd.node_bytes()
+        self.assertIsNotNone(tables)
+        self.assertGreater(1000 * (tables or 0), 1 << 26)
+        for _ in range(1000):
+            opened(nd.Role.HOST, HOST_MAC)
+
+    def test_more_nodes_than_memory(self) -> None:
+        nodes: List[nd.Node] = []
+        with self.assertRaises(nd.NoMemory):
+            while len(nodes) < 1000:
+                nodes.append(opened(nd.Role.HOST, HOST_MAC))
+        self.assertGreater(len(nodes), 100)
+
+    def test_a_host_refuses_what_a_router_does(self) -> None:
+        with opened(nd.Role.HOST, HOST_MAC) as node:
+            self.assertIs(node.stop(5), nd.Outcome.REFUSED)
+            self.assertEqual(list(node.poll())[-1], nd.Refused(5, nd.Refusal.WRONG_ROLE))
+            self.assertIs(node.send(5, "2001:db8::1", "fe80::9", 17), nd.Outcome.REFUSED)
+            self.assertEqual(list(node.poll()), [nd.Refused(5, nd.Refusal.NOT_OURS, source=IPv6Address("2001:db8::1"))])
+            self.assertEqual(node.resolve(5, "fe80::9"), nd.NotResolved(nd.Refusal.TENTATIVE))
+
+    def test_a_full_table_is_named(self) -> None:
+        with opened(nd.Role.HOST, HOST_MAC, limits=nd.Limits(addresses=1)) as node:
+            node.turn(1000)
+            self.assertIs(node.add_address(1000, "2001:db8::5"), nd.Outcome.REFUSED)
+            self.assertEqual(list(node.poll())[-1], nd.Refused(1000, nd.Refusal.FULL, limit=nd.Limit.ADDRESSES))
+            self.assertEqual(node.counts(1000).limits.addresses, 1)
+
+
+class Paths(unittest.TestCase):
+    """A stack that keeps its packets: it asks, waits, and sends in the lease (RFC 4861, 7.2.2)."""
+
+    def test_a_neighbour_is_resolved(self) -> None:
+        neighbour, mac = IPv6Address("fe80::ff:fe00:1"), nd.Mac("02:00:00:00:00:01")
+        answer = bytes.fromhex("3456789abcde02000000000186dd6000000000203afffe80000000000000000000fffe000001fe80000000000000365678fffe9abcde"
+                               "88002f4ee0000000fe80000000000000000000fffe0000010201020000000001")
+        with opened(nd.Role.HOST, HOST_MAC) as node:
+            node.turn(1000)
+            list(node.poll())
+            waiting = node.resolve(1000, neighbour)
+            self.assertIsInstance(waiting, nd.Path)
+            self.assertEqual((waiting.mac, waiting.state), (None, nd.Reachability.INCOMPLETE))  # type: ignore[union-attr]
+            list(node.poll())
+            node.receive(1500, answer)
+            self.assertIn(nd.Resolved(1500, neighbour, mac), list(node.poll()))
+            path = node.resolve(1500, neighbour)
+            self.assertEqual((path.next_hop, path.hop, path.mac), (neighbour, nd.Hop.DIRECT, mac))  # type: ignore[union-attr]
+            self.assertEqual((path.state, path.version), (nd.Reachability.REACHABLE, node.lease_version()))  # type: ignore[union-attr]
+            self.assertEqual(node.next_hop(1500, neighbour), nd.NextHop(neighbour, nd.Hop.DIRECT))
+            self.assertEqual(node.neighbour(1500, neighbour), next(node.neighbours(1500)))
+            self.assertIsNone(node.neighbour(1500, LINK_LOCAL))
+            self.assertIsNone(node.next_hop(1500, "2001:db8::1"))
+            self.assertEqual(node.resolve(1500, "2001:db8::1"), nd.NotResolved())
