@@ -1,0 +1,89 @@
+"""`python3 -m ndbench`: the command line. The exit status is 0, 1 if `compare` finds a difference, and 2 for bad input or a bad command line."""
+from __future__ import annotations
+
+import argparse
+import os
+import sys
+from contextlib import contextmanager
+from typing import Iterator, List, Optional
+
+import nd
+from nd import library
+
+from . import judge
+from .capture import CaptureError, Packet, read_capture
+from .progress import Progress
+
+DONE, BAD_INPUT = 0, 2
+
+
+class BadInput(Exception):
+    """An input that cannot be read. The text is for the user."""
+
+
+@contextmanager
+def opened(path: str, is_quiet: bool) -> Iterator[Iterator[Packet]]:
+    """Opens a capture, and shows how much of it is read."""
+    try:
+        with open(path, "rb") as file:
+            progress = Progress(os.fstat(file.fileno()).st_size, is_quiet)
+            try:
+                yield _watched(read_capture(file), progress)
+            finally:
+                progress.end()
+    except CaptureError as error:
+        raise BadInput(f"{path}: {error}") from error
+    except OSError as error:
+        raise BadInput(f"{path}: {error.strerror}") from error
+
+
+def _watched(packets: Iterator[Packet], progress: Progress) -> Iterator[Packet]:
+    for packet in packets:
+        progress.show(packet.position)
+        yield packet
+
+
+def do_judge(arguments: argparse.Namespace) -> int:
+    """Prints what each frame is."""
+    counts, begin = judge.Counts(), None
+    with opened(arguments.capture, arguments.quiet) as packets:
+        for judgement in judge.judge(packets):
+            begin = judgement.packet.time if begin is None else begin
+            counts.add(judgement)
+            print(judge.json_of(judgement) if arguments.json else judge.text_of(judgement, begin))
+    if not arguments.quiet:
+        print(counts.text(), file=sys.stderr)
+    return DONE
+
+
+def parser() -> argparse.ArgumentParser:
+    """Returns the parser of the command line."""
+    made = argparse.ArgumentParser(prog="ndbench", description="A test bench for captures of IPv6 Neighbor Discovery (pcap and pcapng).")
+    commands = made.add_subparsers(dest="command", required=True)
+    shared = argparse.ArgumentParser(add_help=False)
+    shared.add_argument("capture", help="a file of Ethernet frames, pcap or pcapng")
+    shared.add_argument("--quiet", action="store_true", help="no progress bar, and no counts")
+    command = commands.add_parser("judge", parents=[shared], help="what each frame is, and what is odd in it")
+    command.add_argument("--json", action="store_true", help="a line of JSON for each frame")
+    command.set_defaults(run=do_judge)
+    return made
+
+
+def main(words: Optional[List[str]] = None) -> int:
+    """Runs a command, and returns the exit status."""
+    arguments = parser().parse_args(words)
+    try:
+        if not library.is_ready() and not arguments.quiet:
+            print("ndbench: compiling nd.c, which takes half a minute and is done once", file=sys.stderr)
+        return arguments.run(arguments)
+    except (BadInput, nd.LibraryError) as error:
+        sys.stdout.flush()
+        print(f"ndbench: {error}", file=sys.stderr)
+        return BAD_INPUT
+    except BrokenPipeError:
+        os.dup2(os.open(os.devnull, os.O_WRONLY), sys.stdout.fileno())
+        return DONE
+
+
+if __name__ == "__main__":
+    sys.exit(main())
