@@ -10,11 +10,14 @@ from typing import Iterator, List, Optional
 import nd
 from nd import library
 
-from . import judge
+from . import judge, replay
 from .capture import CaptureError, Packet, read_capture
+from .pcapng import write_capture
 from .progress import Progress
+from .setup import add_arguments, setup_of
 
 DONE, BAD_INPUT = 0, 2
+LONGEST_MILLISECONDS = 1 << 40  # 34 years: an idle node takes a minute for them
 
 
 class BadInput(Exception):
@@ -34,7 +37,7 @@ def opened(path: str, is_quiet: bool) -> Iterator[Iterator[Packet]]:
     except CaptureError as error:
         raise BadInput(f"{path}: {error}") from error
     except OSError as error:
-        raise BadInput(f"{path}: {error.strerror}") from error
+        raise BadInput(f"{error.filename or path}: {error.strerror}") from error
 
 
 def _watched(packets: Iterator[Packet], progress: Progress) -> Iterator[Packet]:
@@ -56,6 +59,30 @@ def do_judge(arguments: argparse.Namespace) -> int:
     return DONE
 
 
+def do_replay(arguments: argparse.Namespace) -> int:
+    """Prints, or writes, what a node sends and reports that hears the capture."""
+    made = replay.Replay(setup_of(arguments), arguments.before, arguments.after)
+    with opened(arguments.capture, arguments.quiet) as packets:
+        events = made.events(packets)
+        if arguments.write:
+            with open(arguments.write, "wb") as file:
+                write_capture(file, replay.capture_of(made, events))
+            return DONE
+        for event in events:
+            print(replay.json_of(event) if arguments.json else replay.text_of(event))
+    if arguments.tables:
+        for row in made.rows():
+            print(row)
+    return DONE
+
+
+def milliseconds(text: str) -> int:
+    """Reads a duration, in milliseconds."""
+    if not text.isdecimal() or int(text) > LONGEST_MILLISECONDS:
+        raise argparse.ArgumentTypeError(f"{text!r} is no number of milliseconds up to {LONGEST_MILLISECONDS}")
+    return int(text)
+
+
 def parser() -> argparse.ArgumentParser:
     """Returns the parser of the command line."""
     made = argparse.ArgumentParser(prog="ndbench", description="A test bench for captures of IPv6 Neighbor Discovery (pcap and pcapng).")
@@ -66,6 +93,15 @@ def parser() -> argparse.ArgumentParser:
     command = commands.add_parser("judge", parents=[shared], help="what each frame is, and what is odd in it")
     command.add_argument("--json", action="store_true", help="a line of JSON for each frame")
     command.set_defaults(run=do_judge)
+    command = commands.add_parser("replay", parents=[shared], help="what a node sends and reports that hears the capture")
+    add_arguments(command)
+    command.add_argument("--before", default=0, type=milliseconds, metavar="MS", help="the node starts so long before the first packet (0)")
+    command.add_argument("--after", default=0, type=milliseconds, metavar="MS", help="it goes on so long after the last packet (0)")
+    form = command.add_mutually_exclusive_group()
+    form.add_argument("--json", action="store_true", help="a line of JSON for each event")
+    form.add_argument("--write", metavar="FILE", help="write what it hears and sends as pcapng, with what it reports as comments")
+    form.add_argument("--tables", action="store_true", help="print its tables at the end")
+    command.set_defaults(run=do_replay)
     return made
 
 

@@ -2,10 +2,11 @@
 from __future__ import annotations
 
 from ipaddress import IPv6Address, IPv6Network
-from typing import Callable, Dict, Iterator, List, Optional
+from typing import Iterator, List
 
 import nd
-from ndbench.texts import address_text, flags_text, prefix_text, record_text, refusal_text, word_of
+from ndbench.tables import TABLES
+from ndbench.texts import address_text, record_text, refusal_text
 
 LIMITS = ("neighbours", "routers", "prefixes", "addresses", "servers", "names", "redirects", "destinations", "offers", "routes", "waiting")
 
@@ -28,14 +29,6 @@ def number_or(word: str, other: int) -> int:
 
 def payload_of(word: str) -> bytes:
     return b"" if word == "-" else bytes.fromhex(word)
-
-
-def left_text(left: Optional[int]) -> str:
-    return "inf" if left is None else str(left)
-
-
-def network_text(network: IPv6Network) -> str:
-    return prefix_text(network.network_address, network.prefixlen)
 
 
 class Runner:
@@ -61,7 +54,8 @@ class Runner:
             return
         yield from (f"{record.moment} {record_text(record)}" for record in self.node.poll())
         if verb == "show":
-            rows = [f"{now} {row}" for row in self.show(now, words[0])]
+            show = TABLES[self.options.role].get(words[0])
+            rows = [f"{now} {row}" for row in show(self.node, now)] if show else []
             yield from [*rows, f"{now} end {len(rows)}"]
         if verb == "resolve":
             yield f"{now} {self.path_text(words[0], said)}"
@@ -123,55 +117,3 @@ class Runner:
         if isinstance(path, nd.NotResolved) and path.refusal is not None:
             return refusal_text(nd.Refused(0, path.refusal, limit=path.limit))
         return f"path {address_text(IPv6Address(destination))} no-route"
-
-    # ---- tables
-
-    def show(self, now: int, table: str) -> Iterator[str]:
-        """Returns the rows of a table."""
-        shown: Dict[str, Callable[[int], Iterator[str]]] = {
-            "neighbours": self.neighbours, "routers": self.routers, "prefixes": self.prefixes, "addresses": self.addresses, "dns": self.dns,
-            "redirects": self.redirects, "params": self.params, "advertise": self.advertise, "routes": self.routes}
-        return shown[table](now)
-
-    def neighbours(self, now: int) -> Iterator[str]:
-        for row in self.node.neighbours(now):
-            yield f"neighbour {address_text(row.address)} {row.mac or '-'} {word_of(row.state)} {'router' if row.is_router else 'host'}"
-
-    def routers(self, now: int) -> Iterator[str]:
-        for row in self.node.routers(now):
-            yield f"router {address_text(row.address)} {row.left} {word_of(row.preference)}"
-
-    def prefixes(self, now: int) -> Iterator[str]:
-        for row in self.node.prefixes(now):
-            yield f"prefix {network_text(row.prefix)} {left_text(row.left)}"
-
-    def addresses(self, now: int) -> Iterator[str]:
-        for row in self.node.addresses(now):
-            yield f"address {address_text(row.address)} {word_of(row.state)} {left_text(row.preferred_left)} {left_text(row.valid_left)}"
-
-    def dns(self, now: int) -> Iterator[str]:
-        for server in self.node.servers(now):
-            yield f"server {address_text(server.address)} {left_text(server.left)}"
-        for name in self.node.names(now):
-            yield f"search {name.text} {left_text(name.left)}"
-
-    def redirects(self, now: int) -> Iterator[str]:
-        for row in self.node.redirects(now):
-            yield f"redirect {address_text(row.destination)} {address_text(row.target)}"
-
-    def params(self, now: int) -> Iterator[str]:
-        row = self.node.parameters(now)
-        yield (f"params hop {row.hop_limit} mtu {row.mtu} reachable {row.base_reachable_time} {row.reachable_time} retrans {row.retrans_timer} "
-               f"managed {int(row.managed)} other {int(row.other)}")
-
-    def advertise(self, now: int) -> Iterator[str]:
-        if self.options.role is nd.Role.HOST:
-            return
-        yield f"advertise {'on' if self.node.advertising(now) else 'off'}"
-        for row in self.node.offers(now):
-            flags = flags_text(l=row.on_link, a=row.autonomous)
-            yield f"offer {network_text(row.prefix)} {row.valid_lifetime} {row.preferred_lifetime} {flags}"
-
-    def routes(self, now: int) -> Iterator[str]:
-        for row in self.node.routes(now):
-            yield f"route {network_text(row.prefix)} {'direct' if row.router is None else address_text(row.router)}"

@@ -1,0 +1,103 @@
+"""The node of a command line: its options, and what a router is configured to advertise."""
+from __future__ import annotations
+
+import argparse
+from dataclasses import dataclass
+from ipaddress import IPv6Network
+from typing import Tuple, Union
+
+import nd
+
+from .texts import message_type
+
+# What a router of the command line advertises (RFC 4861, 6.2.1): the usual values, and CurHopLimit of the assigned numbers.
+USUAL = nd.Advertising(min_interval=200, max_interval=600, lifetime=1800, hop_limit=64)
+
+
+@dataclass(frozen=True)
+class Setup:
+    """How a node is opened, and the prefixes that it advertises if it is a router."""
+    options: nd.Options
+    offers: Tuple[IPv6Network, ...] = ()
+
+    @property
+    def mac(self) -> nd.Mac:
+        """The node's own Ethernet address."""
+        return nd.Mac(self.options.mac)
+
+    def opened(self) -> nd.Node:
+        """Returns the node, open at its start. A router with offers advertises them, and has a route to each on the link."""
+        node = nd.Node(self.options)
+        for prefix in self.offers:
+            node.offer(self.options.start, nd.Offer(prefix))
+            node.route(self.options.start, nd.Route(prefix))
+        if self.offers:
+            node.advertise(self.options.start, USUAL)
+        return node
+
+    def is_own(self, frame: bytes) -> bool:
+        """Returns true if the interface itself sent the frame."""
+        return frame[6:12] == self.mac
+
+    def hears(self, frame: bytes) -> bool:
+        """Returns true if the interface passes the frame to the node (nd.h, FRAMES IN): to its own address or to a group, and not from itself; to a
+        router, of those to a group only messages of Neighbor Discovery."""
+        destination = frame[:6]
+        if len(destination) < 6 or self.is_own(frame):
+            return False
+        is_group = bool(destination[0] & 1)
+        if is_group and self.options.role is nd.Role.ROUTER:
+            return message_type(frame) is not None
+        return is_group or destination == self.mac
+
+
+def add_arguments(command: argparse.ArgumentParser) -> None:
+    """Adds the arguments of a node to a command. They are those of `ndpctl run`, but for --offer."""
+    command.add_argument("--role", choices=("host", "router"), default="host", help="what the node is (host)")
+    command.add_argument("--mac", required=True, type=mac_argument, help="its Ethernet address")
+    command.add_argument("--draws", default="seed:0", type=draws_argument, metavar="SOURCE", help="its random words: seed:N or word:N (seed:0)")
+    command.add_argument("--transmits", default=1, type=int, choices=range(1, 9), metavar="N", help="solicitations for each of its addresses, 1 to 8 (1)")
+    command.add_argument("--policy", default=nd.Policy(0), type=policy_argument, metavar="WORDS", help="timers, self and unicast, parted by commas")
+    command.add_argument("--offer", default=[], action="append", type=prefix_argument, metavar="PREFIX", help="a router advertises this prefix")
+
+
+def setup_of(arguments: argparse.Namespace) -> Setup:
+    """Returns the node that the arguments ask for."""
+    options = nd.Options(nd.Role[arguments.role.upper()], arguments.mac, 0, arguments.draws, arguments.transmits, policies=arguments.policy)
+    return Setup(options, tuple(arguments.offer))
+
+
+def mac_argument(text: str) -> nd.Mac:
+    """Reads an Ethernet address."""
+    try:
+        return nd.Mac(text)
+    except nd.Invalid as error:
+        raise argparse.ArgumentTypeError(str(error)) from error
+
+
+def draws_argument(text: str) -> Union[nd.Seed, nd.Word]:
+    """Reads the source of random words."""
+    kind, _, number = text.partition(":")
+    if kind == "seed" and number.isdecimal() and int(number) < 1 << 64:
+        return nd.Seed(int(number))
+    if kind == "word" and number.isdecimal() and int(number) < 1 << 32:
+        return nd.Word(int(number))
+    raise argparse.ArgumentTypeError(f"{text!r} is neither seed:N nor word:N")
+
+
+def policy_argument(text: str) -> nd.Policy:
+    """Reads the words of policies."""
+    found = nd.Policy(0)
+    for word in text.split(","):
+        if word not in ("timers", "self", "unicast"):
+            raise argparse.ArgumentTypeError(f"{word!r} is no policy: timers, self or unicast")
+        found |= nd.Policy[word.upper()]
+    return found
+
+
+def prefix_argument(text: str) -> IPv6Network:
+    """Reads a prefix with its length."""
+    try:
+        return IPv6Network(text, strict=False)
+    except ValueError as error:
+        raise argparse.ArgumentTypeError(f"{text!r} is no prefix") from error

@@ -1,0 +1,141 @@
+"""`replay`: the frames of examples/host.hex at their moments, and examples/host.txt; other forms of the output have the same events."""
+from __future__ import annotations
+
+import io
+import json
+import struct
+import tempfile
+import unittest
+from ipaddress import IPv6Network
+from pathlib import Path
+from typing import Dict, List
+
+import nd
+from ndbench.capture import read_capture
+from ndbench.pcapng import Written, write_capture
+from ndbench.setup import Setup
+
+from .captures import BEGIN, advertisement, events_pcap, pcap
+from .paths import example, example_events, example_frames
+from .test_judge import run
+
+HOST = ["--role", "host", "--mac", "34:56:78:9a:bc:de", "--draws", "word:0"]
+# host.txt has numbers of nd.h where `ndpctl run` has words.
+TYPES = {"rs": "133", "ra": "134", "ns": "135", "na": "136", "redirect": "137"}
+STATES = {"tentative": "1", "preferred": "2", "deprecated": "3", "duplicate": "4"}
+PREFERENCES = {"medium": "0", "high": "1", "low": "2"}
+
+
+def replayed(*words: str) -> str:
+    """Returns what is printed of the example of a host, which starts 1,200 ms before its first frame."""
+    status, out, err = run(events_pcap(list(example_events("host.hex"))), "replay", *HOST, "--before", "1200", *words)
+    assert (status, err) == (0, ""), (status, err)
+    return out
+
+
+def numbered(line: str) -> str:
+    """Returns a line of `ndpctl run` as host.txt has it."""
+    words = line.split(" ")
+    if words[1] == "heard":
+        return f"{words[0]} heard {TYPES[words[2]]}"
+    return " ".join(words[:3]) if words[1] == "drop" else line
+
+
+def row_of(line: str) -> str:
+    """Returns a row of a table as host.txt has it."""
+    _, table, address, *rest = line.split(" ")
+    if table == "address":
+        return f"address {address} {STATES[rest[0]]} {' '.join(rest[1:]).replace('inf', str(nd.FOREVER))}"
+    return f"router {address} {rest[0]} {PREFERENCES[rest[1]]}"
+
+
+class Text(unittest.TestCase):
+    def test_the_example_of_a_host(self) -> None:
+        lines = [line for line in replayed("--tables").splitlines() if line[0] != "#"]
+        records = [numbered(line) for line in lines if line.split(" ")[1] in ("tx", "heard", "drop", "up", "assigned", "duplicate", "ended")]
+        rows = sorted(row_of(line) for line in lines if line.split(" ")[1] in ("address", "router") and len(line.split(" ")) > 3)
+        wanted = example("host.txt").splitlines()
+        self.assertEqual(records, wanted[:8])
+        self.assertEqual(rows, sorted(wanted[8:]))
+
+    def test_packets_and_frames_are_explained(self) -> None:
+        lines = replayed().splitlines()
+        self.assertIn("# packet 1: drop 8 OptionZero", lines)
+        self.assertEqual(lines[1], "# sends: ns :: ff02::1:ff9a:bcde target fe80::3656:78ff:fe9a:bcde")
+
+    def test_time_goes_on_after_the_last_packet(self) -> None:
+        """The last packet is at 2300 ms, when fe80::2 has 1,800 s left; the other router has its 1,800 s from 1200 ms on."""
+        lines = [line for line in replayed("--after", "1800000").splitlines() if "ended" in line]
+        self.assertEqual(lines, ["1801200 ended router fe80::ff:fe00:1", "1802300 ended router fe80::2"])
+
+    def test_a_packet_of_the_past_is_heard_at_the_last_moment(self) -> None:
+        frames = [(2_000_000_000, advertisement()), (1_000_000_000, advertisement(lifetime=0))]
+        out = run(pcap(frames), "replay", *HOST, "--before", "1500")[1]
+        self.assertEqual([line for line in out.splitlines() if "heard" in line], ["1500 heard ra", "1500 heard ra"])
+        self.assertIn("1500 ended router fe80::1", out)
+
+    def test_bad_input(self) -> None:
+        content = events_pcap(list(example_events("host.hex")))
+        status, out, err = run(content[:-1], "replay", *HOST, "--before", "1200")
+        self.assertEqual((status, err), (2, "ndbench: capture: packet 3: the file ends within it\n"))
+        self.assertIn("1200 drop 8 OptionZero\n", out)
+        self.assertEqual(run(content, "replay", *HOST, "--write", "/no/such/folder/file")[0], 2)
+
+
+class Json(unittest.TestCase):
+    def test_it_has_the_same_events(self) -> None:
+        rows: List[Dict[str, object]] = [json.loads(line) for line in replayed("--json").splitlines()]
+        texts = [f"{row['moment']} {row['text'] if 'text' in row else 'tx ' + str(row['frame'])}" for row in rows if row["kind"] != "Packet"]
+        self.assertEqual([numbered(text) for text in texts], example("host.txt").splitlines()[:8])
+        self.assertEqual([row["number"] for row in rows if row["kind"] == "Packet"], [1, 2, 3])
+        dropped = next(row for row in rows if row["kind"] == "Dropped")
+        self.assertEqual((dropped["moment"], dropped["why"]), (1200, "OPTION_ZERO"))
+        assigned = next(row for row in rows if row["kind"] == "Assigned")
+        self.assertEqual(assigned["address"], "fe80::3656:78ff:fe9a:bcde")
+
+
+class Capture(unittest.TestCase):
+    def test_it_has_the_frames_of_both_sides(self) -> None:
+        with tempfile.TemporaryDirectory() as room:
+            path = Path(room) / "written"
+            self.assertEqual(replayed("--write", str(path)), "")
+            content = path.read_bytes()
+        packets = list(read_capture(io.BytesIO(content)))
+        sent = [(int(words[0]), bytes.fromhex(words[2])) for words in map(str.split, example("host.txt").splitlines()) if words[1] == "tx"]
+        heard = [(moment, frame) for moment, frame in example_events("host.hex") if frame is not None]
+        found = [((packet.time // 10 ** 6) - BEGIN * 1000, packet.frame) for packet in packets]
+        self.assertEqual(sorted(found), sorted(sent + heard))
+        self.assertEqual([moment for moment, _ in found], sorted(moment for moment, _ in found))
+        for comment in (b"at 1000 ms: assigned fe80::3656:78ff:fe9a:bcde", b"at 1200 ms: drop 8 OptionZero [RFC 4861, 4.6]",
+                        b"at 0 ms the node sends ns :: ff02::1:ff9a:bcde target fe80::3656:78ff:fe9a:bcde", b"at 2300 ms: heard ra"):
+            self.assertIn(comment, content)
+
+    def test_the_layout(self) -> None:
+        """A block of a packet by the draft: its options are flags (2) and a comment (1), each padded to 4 bytes."""
+        file = io.BytesIO()
+        write_capture(file, [Written(5, b"\2" * 62, True, "a note")])
+        block = file.getvalue()[28 + 32:]
+        head = struct.pack("<IIIIIII", 6, 120, 0, 0, 5, 62, 62)
+        options = struct.pack("<HHI", 2, 4, 2) + struct.pack("<HH8s", 1, 6, b"a note") + bytes(4)
+        self.assertEqual(block, head + b"\2" * 62 + bytes(2) + options + struct.pack("<I", 120))
+
+
+class Interfaces(unittest.TestCase):
+    """Which frames an interface passes to its node (nd.h, FRAMES IN)."""
+
+    def test_frames_of_a_host_and_of_a_router(self) -> None:
+        host, router = (Setup(nd.Options(role, "02:00:00:00:00:99")) for role in (nd.Role.HOST, nd.Role.ROUTER))
+        solicitation, listener_report = example_frames("link.hex")[8], example_frames("link.hex")[13]
+        self.assertEqual((host.hears(solicitation), router.hears(solicitation)), (True, True))
+        self.assertEqual((host.hears(listener_report), router.hears(listener_report)), (True, False))
+        self.assertFalse(host.hears(example_frames("link.hex")[0]), "it is from the interface itself")
+        self.assertFalse(host.hears(example_frames("link.hex")[10]), "it is for another interface")
+        self.assertFalse(host.hears(b""))
+
+    def test_a_router_advertises_its_offers(self) -> None:
+        """The router of examples/router.hex, but for its second route: its first advertisement is due when its address is assigned."""
+        setup = Setup(nd.Options(nd.Role.ROUTER, "02:00:00:00:00:01", draws=nd.Word(0)), (IPv6Network("2001:db8::/64"),))
+        with setup.opened() as node:
+            node.turn(1000)
+            sent = [record.frame.hex() for record in node.poll() if isinstance(record, nd.Frame)]
+        self.assertEqual(sent, [line.split(" ")[2] for line in example("router.txt").splitlines()[:2]])
