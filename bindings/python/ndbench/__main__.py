@@ -10,13 +10,13 @@ from typing import Iterator, List, Optional
 import nd
 from nd import library
 
-from . import judge, replay
+from . import compare, judge, replay
 from .capture import CaptureError, Packet, read_capture
 from .pcapng import write_capture
 from .progress import Progress
 from .setup import add_arguments, setup_of
 
-DONE, BAD_INPUT = 0, 2
+DONE, DIFFERENT, BAD_INPUT = 0, 1, 2
 LONGEST_MILLISECONDS = 1 << 40  # 34 years: an idle node takes a minute for them
 
 
@@ -76,6 +76,22 @@ def do_replay(arguments: argparse.Namespace) -> int:
     return DONE
 
 
+def do_compare(arguments: argparse.Namespace) -> int:
+    """Prints the first difference between another stack and the node, or all of them."""
+    made = compare.Comparison(setup_of(arguments), arguments.tolerance, arguments.before)
+    with opened(arguments.capture, arguments.quiet) as packets:
+        for packet in packets:
+            made.take(packet)
+    if not made.stack_messages:
+        raise BadInput(f"{arguments.capture}: {arguments.mac} sends no message of Neighbor Discovery")
+    found = made.differences()
+    for difference in found if arguments.all else found[:1]:
+        print(compare.json_of(difference) if arguments.json else "\n".join(compare.text_of(difference)))
+    if not arguments.quiet:
+        print(f"{len(made.stack_messages)} messages of the other stack, {len(found)} differences", file=sys.stderr)
+    return DIFFERENT if found else DONE
+
+
 def milliseconds(text: str) -> int:
     """Reads a duration, in milliseconds."""
     if not text.isdecimal() or int(text) > LONGEST_MILLISECONDS:
@@ -102,6 +118,13 @@ def parser() -> argparse.ArgumentParser:
     form.add_argument("--write", metavar="FILE", help="write what it hears and sends as pcapng, with what it reports as comments")
     form.add_argument("--tables", action="store_true", help="print its tables at the end")
     command.set_defaults(run=do_replay)
+    command = commands.add_parser("compare", parents=[shared], help="what another host sent, against what the node sends")
+    add_arguments(command, is_host=True)
+    command.add_argument("--before", default=0, type=milliseconds, metavar="MS", help="the node starts so long before the stack's first message (0)")
+    command.add_argument("--tolerance", default=1500, type=milliseconds, metavar="MS", help="what may lie between both (1500)")
+    command.add_argument("--all", action="store_true", help="all differences, and not the first one alone")
+    command.add_argument("--json", action="store_true", help="a line of JSON for each difference")
+    command.set_defaults(run=do_compare)
     return made
 
 

@@ -3,7 +3,7 @@ from __future__ import annotations
 
 from enum import IntEnum
 from ipaddress import IPv6Address
-from typing import Optional
+from typing import List, Optional
 
 import nd
 
@@ -71,8 +71,13 @@ def frame_text(heard: nd.HeardFrame) -> str:
         return f"drop {int(heard.why)} {reason_text(heard.why)}"
     if heard.hearing is not nd.Hearing.VALID:
         return f"other {heard.next_header}"
+    return message_text(heard, options_of(heard.options))
+
+
+def message_text(heard: nd.HeardFrame, options: List[Option]) -> str:
+    """Returns the line of a valid message with these options."""
     said = f"{MESSAGES[heard.message_type]} {address_text(heard.source)} {address_text(heard.destination)}{fields_text(heard)}"
-    return " ".join([said, *map(option_text, options_of(heard.options))])
+    return " ".join([said, *map(option_text, options)])
 
 
 def fields_text(heard: nd.HeardFrame) -> str:

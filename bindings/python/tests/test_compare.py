@@ -1,0 +1,108 @@
+"""`compare`: the frames of examples/scripts/host.output, which were worked out by hand, as those of another stack; and mistakes in them."""
+from __future__ import annotations
+
+import json
+import unittest
+from typing import List, Tuple
+
+from .captures import message_frame, pcap
+from .paths import example
+from .test_judge import run
+
+HOST = ["--mac", "34:56:78:9a:bc:de", "--draws", "word:0"]
+OWN = bytes.fromhex("3456789abcde")
+Sent = List[Tuple[int, bytes]]  # milliseconds, and a frame
+
+
+def frames_of(name: str, verb: str) -> Sent:
+    """Returns the frames of the lines with this verb."""
+    found = []
+    for line in example(name).splitlines():
+        moment, word, *rest = line.split(" ")
+        if word == verb:
+            found.append((int(moment), bytes.fromhex(rest[0])))
+    return found
+
+
+def captured(script: str, change: object = None) -> bytes:
+    """Returns the capture of a run of an example: what the host heard and what it sent, which `change` may change."""
+    sent = frames_of(f"scripts/{script}.output", "tx")
+    sent = change(sent) if callable(change) else sent
+    heard = frames_of(f"scripts/{script}.script", "rx")
+    return pcap([(moment * 10 ** 6, frame) for moment, frame in sorted(sent + heard, key=lambda timed: timed[0])])
+
+
+def compared(content: bytes, *words: str) -> Tuple[int, List[str], str]:
+    status, out, err = run(content, "compare", *HOST, *words)
+    return status, out.splitlines(), err
+
+
+class Same(unittest.TestCase):
+    def test_the_examples_of_hosts(self) -> None:
+        for script, count in (("host", 3), ("failover", 6)):
+            with self.subTest(script):
+                messages = [frame for _, frame in frames_of(f"scripts/{script}.output", "tx") if frame[20] == 58]
+                status, out, err = compared(captured(script))
+                self.assertEqual((status, out), (0, []))
+                self.assertEqual(err, f"{len(messages)} messages of the other stack, 0 differences\n")
+                self.assertGreaterEqual(len(messages), count)
+
+    def test_options_that_are_passed_over_are_not_compared(self) -> None:
+        """A nonce in a detection (RFC 7527) is no difference."""
+        def with_nonce(sent: Sent) -> Sent:
+            message = sent[0][1][54:] + bytes.fromhex("0e01ccdd89fd7fab")
+            frame = message_frame(message[:2] + bytes(2) + message[4:], "::", "ff02::1:ff9a:bcde", sent[0][1][:12].hex())
+            return [(sent[0][0], frame), *sent[1:]]
+        self.assertEqual(compared(captured("host", with_nonce))[:2], (0, []))
+
+
+class Differences(unittest.TestCase):
+    def first(self, change: object, *words: str) -> List[str]:
+        status, out, _ = compared(captured("failover", change), *words)
+        self.assertEqual(status, 1)
+        return out
+
+    def test_a_message_is_missing(self) -> None:
+        """The second frame is the Router Solicitation at 1000 ms."""
+        out = self.first(lambda sent: [sent[0], *sent[2:]])
+        self.assertEqual(out, ["at 1000 ms: only the node sends it [RFC 4861, 6.3.7]", "    other stack: nothing",
+                               "    node: at 1000 ms: rs fe80::3656:78ff:fe9a:bcde ff02::2 slla 34:56:78:9a:bc:de"])
+
+    def test_a_message_too_many(self) -> None:
+        """A second detection of the link-local address: DupAddrDetectTransmits is 1."""
+        out = self.first(lambda sent: [sent[0], (900, sent[0][1]), *sent[1:]])
+        self.assertEqual(out, ["at 900 ms: only the other stack sends it [RFC 4862, 5.4.2]",
+                               "    other stack: packet 2, at 900 ms: ns :: ff02::1:ff9a:bcde target fe80::3656:78ff:fe9a:bcde", "    node: nothing"])
+
+    def test_other_contents(self) -> None:
+        """A Router Solicitation without the link-layer address of its sender."""
+        def changed(sent: Sent) -> Sent:
+            bare = message_frame(b"\x85" + bytes(7), "fe80::3656:78ff:fe9a:bcde", "ff02::2", "333300000002" + OWN.hex())
+            return [sent[0], (sent[1][0], bare), *sent[2:]]
+        out = self.first(changed)
+        self.assertEqual(out[0], "at 1000 ms: the contents are different [RFC 4861, 6.3.7]")
+        self.assertEqual(out[1], "    other stack: packet 2, at 1000 ms: rs fe80::3656:78ff:fe9a:bcde ff02::2")
+
+    def test_probes_that_the_stack_does_not_send(self) -> None:
+        """Its upper layers may have confirmed the router (RFC 4861, 7.3.1)."""
+        self.assertEqual(compared(captured("failover", lambda sent: sent[:4]))[:2], (0, []))
+
+    def test_too_late(self) -> None:
+        out = self.first(lambda sent: [sent[0], (1101, sent[1][1]), *sent[2:]], "--tolerance", "100")
+        self.assertEqual(out[0], "at 1000 ms: 101 ms lie between both [RFC 4861, 6.3.7]")
+
+    def test_what_each_receiver_drops(self) -> None:
+        def changed(sent: Sent) -> Sent:
+            return [sent[0], (sent[1][0], sent[1][1][:-1] + b"\xff"), *sent[2:]]
+        out = self.first(changed, "--all")
+        self.assertEqual(out[0], "at 1000 ms: each receiver drops it [RFC 4443, 2.3]")
+        self.assertEqual(out[1], "    other stack: packet 2, at 1000 ms: drop 11 Sum")
+        self.assertIn("at 1000 ms: only the node sends it [RFC 4861, 6.3.7]", out)
+
+    def test_json(self) -> None:
+        said = json.loads(self.first(lambda sent: [sent[0], *sent[2:]], "--json")[0])
+        self.assertEqual((said["moment"], said["what"], said["section"], "stack" in said), (1000, "only the node sends it", "RFC 4861, 6.3.7", False))
+
+    def test_a_stack_that_is_not_there(self) -> None:
+        status, out, err = run(captured("host"), "compare", "--mac", "02:00:00:00:00:77")
+        self.assertEqual((status, out, err), (2, "", "ndbench: capture: 02:00:00:00:00:77 sends no message of Neighbor Discovery\n"))
