@@ -10,7 +10,7 @@ from typing import Iterator, List, Optional
 import nd
 from nd import library
 
-from . import compare, judge, replay
+from . import compare, judge, picture, replay
 from .capture import CaptureError, Packet, read_capture
 from .pcapng import write_capture
 from .progress import Progress
@@ -92,11 +92,36 @@ def do_compare(arguments: argparse.Namespace) -> int:
     return DIFFERENT if found else DONE
 
 
+def do_picture(arguments: argparse.Namespace) -> int:
+    """Writes the picture of a capture, with a node that hears it if its address is given."""
+    with opened(arguments.capture, arguments.quiet) as packets:
+        if arguments.mac is None:
+            made = picture.picture_of(packets)
+        else:
+            made = picture.picture_with_node(packets, setup_of(arguments), arguments.before, arguments.after)
+    text = picture.Drawing(made).text()
+    if arguments.write is None:
+        print(text, end="")
+        return DONE
+    try:
+        with open(arguments.write, "w", encoding="utf-8") as file:
+            file.write(text)
+    except OSError as error:
+        raise BadInput(f"{arguments.write}: {error.strerror}") from error
+    return DONE
+
+
 def milliseconds(text: str) -> int:
     """Reads a duration, in milliseconds."""
     if not text.isdecimal() or int(text) > LONGEST_MILLISECONDS:
         raise argparse.ArgumentTypeError(f"{text!r} is no number of milliseconds up to {LONGEST_MILLISECONDS}")
     return int(text)
+
+
+def add_times(command: argparse.ArgumentParser) -> None:
+    """Adds the arguments for the time before and after a capture."""
+    command.add_argument("--before", default=0, type=milliseconds, metavar="MS", help="the node starts so long before the first packet (0)")
+    command.add_argument("--after", default=0, type=milliseconds, metavar="MS", help="it goes on so long after the last packet (0)")
 
 
 def parser() -> argparse.ArgumentParser:
@@ -106,26 +131,46 @@ def parser() -> argparse.ArgumentParser:
     shared = argparse.ArgumentParser(add_help=False)
     shared.add_argument("capture", help="a file of Ethernet frames, pcap or pcapng")
     shared.add_argument("--quiet", action="store_true", help="no progress bar, and no counts")
-    command = commands.add_parser("judge", parents=[shared], help="what each frame is, and what is odd in it")
+    add_judge(commands.add_parser("judge", parents=[shared], help="what each frame is, and what is odd in it"))
+    add_replay(commands.add_parser("replay", parents=[shared], help="what a node sends and reports that hears the capture"))
+    add_compare(commands.add_parser("compare", parents=[shared], help="what another host sent, against what the node sends"))
+    add_picture(commands.add_parser("picture", parents=[shared], help="an SVG of arrows over time"))
+    return made
+
+
+def add_judge(command: argparse.ArgumentParser) -> None:
+    """Adds the arguments of `judge`."""
     command.add_argument("--json", action="store_true", help="a line of JSON for each frame")
     command.set_defaults(run=do_judge)
-    command = commands.add_parser("replay", parents=[shared], help="what a node sends and reports that hears the capture")
+
+
+def add_replay(command: argparse.ArgumentParser) -> None:
+    """Adds the arguments of `replay`."""
     add_arguments(command)
-    command.add_argument("--before", default=0, type=milliseconds, metavar="MS", help="the node starts so long before the first packet (0)")
-    command.add_argument("--after", default=0, type=milliseconds, metavar="MS", help="it goes on so long after the last packet (0)")
+    add_times(command)
     form = command.add_mutually_exclusive_group()
     form.add_argument("--json", action="store_true", help="a line of JSON for each event")
     form.add_argument("--write", metavar="FILE", help="write what it hears and sends as pcapng, with what it reports as comments")
     form.add_argument("--tables", action="store_true", help="print its tables at the end")
     command.set_defaults(run=do_replay)
-    command = commands.add_parser("compare", parents=[shared], help="what another host sent, against what the node sends")
+
+
+def add_compare(command: argparse.ArgumentParser) -> None:
+    """Adds the arguments of `compare`."""
     add_arguments(command, is_host=True)
     command.add_argument("--before", default=0, type=milliseconds, metavar="MS", help="the node starts so long before the stack's first message (0)")
     command.add_argument("--tolerance", default=1500, type=milliseconds, metavar="MS", help="what may lie between both (1500)")
     command.add_argument("--all", action="store_true", help="all differences, and not the first one alone")
     command.add_argument("--json", action="store_true", help="a line of JSON for each difference")
     command.set_defaults(run=do_compare)
-    return made
+
+
+def add_picture(command: argparse.ArgumentParser) -> None:
+    """Adds the arguments of `picture`."""
+    add_arguments(command, needs_mac=False)
+    add_times(command)
+    command.add_argument("--write", metavar="FILE", help="write the SVG to a file")
+    command.set_defaults(run=do_picture)
 
 
 def main(words: Optional[List[str]] = None) -> int:

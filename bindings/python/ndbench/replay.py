@@ -8,7 +8,7 @@ import json
 from dataclasses import dataclass, field
 from enum import IntEnum
 from ipaddress import IPv6Address
-from typing import Any, Dict, Iterable, Iterator, List, Union
+from typing import Any, Dict, Iterable, Iterator, List, Optional, Union
 
 import nd
 
@@ -40,6 +40,7 @@ class Replay:
         self.setup, self.before, self.after = setup, before, after
         self.node = setup.opened()
         self.begin = 0
+        self.heard: Optional[Passed] = None
 
     def events(self, packets: Iterable[Packet]) -> Iterator[Event]:
         """Returns what the node hears, sends and reports, in order."""
@@ -56,7 +57,8 @@ class Replay:
         yield from self.pass_time(moment)
         if packet.skipped or not self.setup.hears(packet.frame):
             return
-        yield Passed(moment, packet)
+        self.heard = Passed(moment, packet)
+        yield self.heard
         self.node.receive(moment, packet.frame)
         yield from self.node.poll()
 
@@ -75,8 +77,9 @@ class Replay:
             yield from (f"{now} {row}" for row in show(self.node, now))
 
     def time_of(self, moment: int) -> int:
-        """Returns a moment as a time of the capture, in nanoseconds since 1970."""
-        return self.begin + moment * MILLISECOND
+        """Returns a moment as a time of the capture, in nanoseconds since 1970. It is not before the packet that was heard last at that moment."""
+        time = self.begin + moment * MILLISECOND
+        return max(time, self.heard.packet.time) if self.heard is not None and self.heard.moment == moment else time
 
 
 def line_of(frame: bytes) -> str:
@@ -125,7 +128,7 @@ class _Commented:
 
 def capture_of(replay: Replay, events: Iterable[Event]) -> Iterator[Written]:
     """Returns the frames that the node hears and sends, with comments: what it reports after a frame, up to the next one."""
-    current: Union[_Commented, None] = None
+    current: Optional[_Commented] = None
     early: List[str] = []
     for event in events:
         if isinstance(event, (Passed, nd.Frame)):
@@ -146,7 +149,7 @@ def _frame_of(replay: Replay, event: Union[Passed, nd.Frame]) -> _Commented:
     return _Commented(replay.time_of(event.moment), event.frame, True, [f"at {event.moment} ms the node sends {line_of(event.frame)}"])
 
 
-def _comment_of(record: nd.Record, current: Union[_Commented, None]) -> str:
+def _comment_of(record: nd.Record, current: Optional[_Commented]) -> str:
     section = ""
     if isinstance(record, nd.Dropped) and current is not None:
         section = f" [{section_of_drop(record.why, current.frame)}]"

@@ -1,0 +1,134 @@
+"""`picture`: where the arrows and bars of an SVG are."""
+from __future__ import annotations
+
+import unittest
+import xml.etree.ElementTree as ElementTree
+from typing import Dict, List, Tuple
+
+from ndbench import picture
+
+from .captures import advertisement, message_frame, pcap
+from .paths import example_events
+from .test_compare import captured
+from .test_judge import run
+
+SVG = "{http://www.w3.org/2000/svg}"
+HOST = ["--mac", "34:56:78:9a:bc:de", "--draws", "word:0"]
+LINK_LOCAL = "fe80::3656:78ff:fe9a:bcde"
+
+
+def drawn(content: bytes, *words: str) -> ElementTree.Element:
+    status, out, err = run(content, "picture", *words)
+    assert (status, err) == (0, ""), (status, err)
+    return ElementTree.fromstring(out)
+
+
+def texts(root: ElementTree.Element) -> List[str]:
+    return [element.text or "" for element in root.iter(f"{SVG}text")]
+
+
+def lines(root: ElementTree.Element) -> List[Tuple[float, float, float, str]]:
+    """Returns the arrows: where they begin and end from the left, how far down, and the colour."""
+    found = [element.attrib for element in root.iter(f"{SVG}line")]
+    return [(float(line["x1"]), float(line["x2"]), float(line["y1"]), line["stroke"]) for line in found if line["y1"] == line["y2"]]
+
+
+def bars(root: ElementTree.Element) -> List[Tuple[str, float, float]]:
+    """Returns the states of neighbours, with where they begin and end."""
+    found = []
+    for element in root.iter(f"{SVG}rect"):
+        title = element.find(f"{SVG}title")
+        if title is not None:
+            top = float(element.attrib["y"])
+            found.append((title.text or "", top, top + float(element.attrib["height"])))
+    return found
+
+
+def height_of(root: ElementTree.Element, label: str) -> float:
+    """Returns how far down the arrow with this label is."""
+    return next(float(element.attrib["y"]) - 4 for element in root.iter(f"{SVG}text") if element.text == label)
+
+
+class Arrows(unittest.TestCase):
+    def test_lanes_and_labels(self) -> None:
+        root = drawn(captured("failover"))
+        said = texts(root)
+        for text in ("34:56:78:9a:bc:de", "02:00:00:00:00:01", "02:00:00:00:00:02", "0.000", "11.000",
+                     "1 ns :: ff02::1:ff9a:bcde target fe80::3656:78ff:fe9a:bcde", "6 other 17"):
+            self.assertIn(text, said)
+        self.assertNotIn("the node", said)
+        heights = [line[2] for line in lines(root)]
+        self.assertEqual(heights, sorted(heights))
+
+    def test_a_group_is_reached_at_all_lanes(self) -> None:
+        """Of ten frames five go to a group, to the two other addresses each, and five to one address."""
+        root = drawn(captured("failover"))
+        self.assertEqual(len(lines(root)), 5 * 2 + 5)
+        x = {element.text: float(element.attrib["x"]) for element in root.iter(f"{SVG}text")}
+        router = height_of(root, "6 other 17")
+        self.assertEqual([line[:2] for line in lines(root) if line[2] == router], [(x["34:56:78:9a:bc:de"], x["02:00:00:00:00:01"])])
+
+    def test_rows_are_as_far_apart_as_their_times_within_bounds(self) -> None:
+        frame = advertisement()
+        root = drawn(pcap([(0, frame), (0, frame), (1_000_000_000, frame), (3_600_000_000_000, frame)]))
+        heights = [height_of(root, text) for text in (f"{number} {texts(root)[-1][2:]}" for number in (1, 2, 3, 4))]
+        self.assertEqual([later - earlier for earlier, later in zip(heights, heights[1:])], [picture.ROW, 50, picture.LONGEST_GAP])
+
+    def test_a_frame_that_is_dropped_is_marked(self) -> None:
+        root = drawn(pcap([(0, advertisement()[:-1] + b"\1"), (0, message_frame(b"\x85" + bytes(7), macs="020000000001020000000002"))]))
+        self.assertEqual([line[3] for line in lines(root)], [picture.DROPPED, picture.INK])
+
+    def test_texts_are_cut_and_whole_in_their_titles(self) -> None:
+        heard = [(moment * 10 ** 6, frame) for moment, frame in example_events("host.hex") if frame]
+        root = drawn(pcap(heard))
+        label = next(element for element in root.iter(f"{SVG}text") if (element.text or "").startswith("2 ra"))
+        self.assertEqual(len(label.text or ""), picture.LABEL_CHARACTERS)
+        self.assertTrue((label.find(f"{SVG}title").text or "").endswith("prefix 2001:db8::/64 la 2592000 604800"))  # type: ignore[union-attr]
+
+    def test_what_is_above_the_most_is_counted(self) -> None:
+        root = drawn(pcap([(0, advertisement())] * (picture.MOST_ROWS + 3)))
+        self.assertIn("3 later frames are left out", texts(root))
+
+    def test_an_empty_capture(self) -> None:
+        self.assertEqual(texts(drawn(pcap([]))), ["seconds"])
+
+
+class Bars(unittest.TestCase):
+    """The states of RFC 4861, 7.3.3, with the constants of section 10."""
+
+    def solicitation(self) -> bytes:
+        """A neighbour's solicitation for the node's link-local address, with the neighbour's link-layer address."""
+        target = bytes.fromhex("fe80000000000000365678fffe9abcde")
+        return message_frame(b"\x87" + bytes(7) + target + bytes.fromhex("0101020000000001"), "fe80::ff:fe00:1", "ff02::1:ff9a:bcde",
+                             "3333ff9abcde020000000001")
+
+    def test_a_neighbour_that_does_not_answer(self) -> None:
+        """The node's answer uses the neighbour: DELAY for 5 s, then three probes, a second apart, and no entry."""
+        root = drawn(pcap([(0, self.solicitation())]), *HOST, "--before", "2000", "--after", "10000")
+        probes = [element for element in root.iter(f"{SVG}text") if (element.text or "").startswith(f"ns {LINK_LOCAL} fe80::ff:fe00:1")]
+        heights = [float(probe.attrib["y"]) - 4 for probe in probes]
+        seconds = [element.text for probe in probes for element in root.iter(f"{SVG}text")
+                   if element.get("y") == probe.attrib["y"] and element.get("text-anchor") == "end"]
+        self.assertEqual((len(probes), seconds), (3, ["5.000", "6.000", "7.000"]))
+        answered = next(float(element.attrib["y"]) - 4 for element in root.iter(f"{SVG}text") if (element.text or "").startswith("na "))
+        self.assertEqual([bar[0] for bar in bars(root)], ["DELAY", "PROBE"])
+        self.assertEqual(bars(root)[0][1:], (answered, heights[0]))
+        self.assertEqual(bars(root)[1][1], heights[0])
+        self.assertGreater(bars(root)[1][2], heights[2])
+        self.assertIn("the node", texts(root))
+
+    def test_a_neighbour_that_answers(self) -> None:
+        """Its answer to the second probe makes it REACHABLE for ReachableTime, 15 s with these draws, and then it is STALE."""
+        answer = message_frame(b"\x88\0\0\0\x60\0\0\0" + bytes.fromhex("fe80000000000000000000fffe000001"), "fe80::ff:fe00:1", LINK_LOCAL,
+                               "3456789abcde020000000001")
+        later = advertisement()
+        packets = [(0, self.solicitation()), (6_500_000_000, answer), (11_500_000_000, later), (31_500_000_000, later)]
+        root = drawn(pcap(packets), *HOST, "--before", "2000")
+        shown: Dict[str, Tuple[float, float]] = {name: (begin, end) for name, begin, end in bars(root)}
+        self.assertEqual([bar[0] for bar in bars(root)], ["DELAY", "PROBE", "REACHABLE", "STALE"])
+        labels = {text.split(" ")[0]: text for text in texts(root)}
+        heights = [height_of(root, labels[number]) for number in ("2", "3", "4")]
+        self.assertEqual(shown["REACHABLE"][0], heights[0])
+        # It ends 10 of 20 seconds after the third packet.
+        self.assertAlmostEqual(shown["REACHABLE"][1], (heights[1] + heights[2]) / 2, places=1)
+        self.assertEqual(shown["STALE"], (shown["REACHABLE"][1], heights[2]))
