@@ -1,5 +1,5 @@
-"""The backend of `pip install .` (PEP 517), of Python's standard library alone: puts the packages and the node in C, of the repository's `dist`, into a
-wheel. The node is compiled on first use, and not here."""
+"""The backend of `pip install .` (PEP 517), of Python's standard library alone: puts the packages and the node in C, of the repository's `dist`,
+into a wheel. The node is compiled on first use, and not here."""
 from __future__ import annotations
 
 import base64

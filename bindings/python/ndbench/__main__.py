@@ -1,4 +1,5 @@
-"""`python3 -m ndbench`: the command line. The exit status is 0, 1 if `compare` finds a difference, and 2 for bad input or a bad command line."""
+"""`python3 -m ndbench`: the command line. The exit status is 0, 1 if `compare` finds a difference, 2 for bad input or a bad command line, and 130
+if it is interrupted."""
 from __future__ import annotations
 
 import argparse
@@ -16,7 +17,7 @@ from .pcapng import write_capture
 from .progress import Progress
 from .setup import add_arguments, setup_of
 
-DONE, DIFFERENT, BAD_INPUT = 0, 1, 2
+DONE, DIFFERENT, BAD_INPUT, INTERRUPTED = 0, 1, 2, 130
 LONGEST_MILLISECONDS = 1 << 40  # 34 years: an idle node takes a minute for them
 
 
@@ -36,6 +37,8 @@ def opened(path: str, is_quiet: bool) -> Iterator[Iterator[Packet]]:
                 progress.end()
     except CaptureError as error:
         raise BadInput(f"{path}: {error}") from error
+    except BrokenPipeError:
+        raise
     except OSError as error:
         raise BadInput(f"{error.filename or path}: {error.strerror}") from error
 
@@ -184,9 +187,11 @@ def main(words: Optional[List[str]] = None) -> int:
         sys.stdout.flush()
         print(f"ndbench: {error}", file=sys.stderr)
         return BAD_INPUT
-    except BrokenPipeError:
+    except BrokenPipeError:  # the reader of the output has ended
         os.dup2(os.open(os.devnull, os.O_WRONLY), sys.stdout.fileno())
         return DONE
+    except KeyboardInterrupt:
+        return INTERRUPTED
 
 
 if __name__ == "__main__":

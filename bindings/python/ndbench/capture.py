@@ -24,8 +24,8 @@ class CaptureError(Exception):
 
 @dataclass(frozen=True)
 class Packet:
-    """A packet of a capture. `number` counts from 1; `time` is in nanoseconds since 1970; `position` is the number of bytes of the file up to its end.
-    `skipped` says why its bytes are no whole Ethernet frame without a VLAN tag; it is empty if they are."""
+    """A packet of a capture. `number` counts from 1; `time` is in nanoseconds since 1970; `position` is the number of bytes of the file up to its
+    end. `skipped` says why its bytes are no whole Ethernet frame without a VLAN tag; it is empty if they are."""
     number: int
     time: int
     frame: bytes
@@ -35,7 +35,8 @@ class Packet:
 
 @dataclass(frozen=True)
 class Interface:
-    """An interface of a section of pcapng: its link type, the units of a second, seconds to add, and the most bytes of a packet that are kept (0: all)."""
+    """An interface of a section of pcapng: its link type, the units of a second, seconds to add, and the most bytes of a packet that are kept (0:
+    all)."""
     link: int
     units: int
     offset: int

@@ -1,9 +1,10 @@
 """`compare`: what another stack, a host, sent in a capture, against what a node of the same Ethernet address sends when it hears the same frames.
 
-The node starts when the stack sends its first message of Neighbor Discovery. It cannot know what the stack's upper layers do, so it is asked for a path
-(`Node.resolve`) where the capture shows that the stack had a packet: when the stack solicits a neighbour, and when it sends another packet. The messages of
-both are sorted by what they are for, and the nth of the stack is compared with the nth of the node. Not compared are options that a receiver passes over
-(RFC 4861, 4.6), and probes of the node that the stack does not send, since its upper layers may have confirmed the neighbour (RFC 4861, 7.3.1)."""
+The node starts when the stack sends its first message of Neighbor Discovery. It cannot know what the stack's upper layers do, so it is asked for a
+path (`Node.resolve`) where the capture shows that the stack had a packet: when the stack solicits a neighbour, and when it sends another packet.
+The messages of both are sorted by what they are for, and the nth of the stack is compared with the nth of the node. Not compared are options that a
+receiver passes over (RFC 4861, 4.6), and probes of the node that the stack does not send, since its upper layers may have confirmed the neighbour
+(RFC 4861, 7.3.1)."""
 from __future__ import annotations
 
 import json
@@ -17,11 +18,11 @@ from typing import Dict, Iterable, Iterator, List, Optional, Tuple
 import nd
 
 from .capture import Packet
-from .replay import MILLISECOND
+from .options import Unknown, options_of
+from .replay import MILLISECOND, moment_of
 from .sections import section_of_drop
 from .setup import Setup
 from .texts import frame_text, heard_by_its_role, message_text
-from .options import Unknown, options_of
 
 
 class Purpose(Enum):
@@ -39,8 +40,8 @@ class Purpose(Enum):
 
 @dataclass(frozen=True)
 class Message:
-    """A message that one of both sends: its moment in milliseconds, its line without unknown options, and the packet's number in the capture (0: the node
-    sends it). `about` is the address that it asks for or answers."""
+    """A message that one of both sends: its moment in milliseconds, its line without unknown options, and the packet's number in the capture (0:
+    the node sends it). `about` is the address that it asks for or answers."""
     moment: int
     line: str
     purpose: Purpose
@@ -94,8 +95,8 @@ def purpose_of(heard: nd.HeardFrame) -> Tuple[Purpose, Tuple[IPv6Address, ...]]:
 
 
 class Comparison:
-    """Passes a capture to a node, and compares. `tolerance`: milliseconds that may lie between both. `before`: how long before the stack's first message
-    the node starts, in milliseconds."""
+    """Passes a capture to a node, and compares. `tolerance`: milliseconds that may lie between both. `before`: how long before the stack's first
+    message the node starts, in milliseconds."""
 
     def __init__(self, setup: Setup, tolerance: int, before: int = 0) -> None:
         self.setup, self.tolerance, self.before = setup, tolerance, before
@@ -112,7 +113,7 @@ class Comparison:
             self.begin = packet.time - self.before * MILLISECOND
         if self.begin is None or packet.skipped:
             return
-        now = max((packet.time - self.begin) // MILLISECOND, self.node.last_moment())
+        now = moment_of(packet, self.begin, self.node.last_moment())
         self.node.turn(now)
         self.take_sent()
         if is_stack:

@@ -1,5 +1,6 @@
-"""`picture`: an SVG of a capture. Time goes down. Each Ethernet address is a vertical line, each frame an arrow between two of them, or to all for a group.
-With a node that hears the capture, what it sends is drawn too, and the states of its neighbour cache (RFC 4861, 7.3.2) as bars at the right."""
+"""`picture`: an SVG of a capture. Time goes down. Each Ethernet address is a vertical line, each frame an arrow between two of them, or to all for
+a group. With a node that hears the capture, what it sends is drawn too, and the states of its neighbour cache (RFC 4861, 7.3.2) as bars at the
+right."""
 from __future__ import annotations
 
 from bisect import bisect_right
@@ -86,8 +87,8 @@ def picture_of(packets: Iterable[Packet]) -> Picture:
 
 
 def picture_with_node(packets: Iterable[Packet], setup: Setup, before: int = 0, after: int = 0) -> Picture:
-    """Returns the picture of a capture with a node that hears it: all packets but those of the node's own address, what the node sends, and its neighbours
-    after each event."""
+    """Returns the picture of a capture with a node that hears it: all packets but those of the node's own address, what the node sends, and its
+    neighbours after each event."""
     made, replay, states = Picture(), Replay(setup, before, after), States()
     for event in replay.events(_drawn(packets, setup, made)):
         if isinstance(event, nd.Frame):
@@ -251,11 +252,12 @@ class Drawing:
         """Draws the states of each neighbour, and what the colours are."""
         for index, neighbour in enumerate(self.neighbours):
             x = left + BAR_GAP * index
-            self.elements.append(f'<text class="mono" transform="translate({x + 4:.1f} {TOP - 4}) rotate(-30)">{escape(address_text(neighbour))}</text>')
+            place = f"translate({x + 4:.1f} {TOP - 4}) rotate(-30)"
+            self.elements.append(f'<text class="mono" transform="{place}">{escape(address_text(neighbour))}</text>')
             for bar in (bar for bar in self.picture.bars if bar.neighbour == neighbour):
                 begin, end = self.height_of(bar.begin), self.height_of(bar.end)
-                self.elements.append(f'<rect x="{x:.1f}" y="{begin:.1f}" width="{BAR}" height="{max(end - begin, 1):.1f}" fill="{COLOURS[bar.state]}">'
-                                     f"<title>{bar.state.name}</title></rect>")
+                size = f'width="{BAR}" height="{max(end - begin, 1):.1f}"'
+                self.elements.append(f'<rect x="{x:.1f}" y="{begin:.1f}" {size} fill="{COLOURS[bar.state]}"><title>{bar.state.name}</title></rect>')
         for index, (state, colour) in enumerate(COLOURS.items() if self.neighbours else ()):
             x = LEFT + 120 * index
             self.elements.append(f'<rect x="{x}" y="14" width="{BAR}" height="{BAR}" fill="{colour}"/>')

@@ -1,4 +1,5 @@
-"""What is odd in a valid message: values that a receiver takes or passes over, but that a sender should not send. Each has the section that says so."""
+"""What is odd in a valid message: values that a receiver takes or passes over, but that a sender should not send. Each has the section that says
+so."""
 from __future__ import annotations
 
 from dataclasses import dataclass
@@ -9,7 +10,7 @@ import nd
 from .options import (MTU, NAMES, PREFIX, REDIRECTED, SERVERS, SLLA, TLLA, LinkLayerAddress, Mtu, Option, PrefixInformation, Unknown, options_of)
 from .texts import MESSAGES, address_text, prefix_text
 
-ROUTER_ADVERTISEMENT, NEIGHBOR_ADVERTISEMENT = 134, 136
+ROUTER_ADVERTISEMENT = 134
 MOST_LIFETIME = 9000                # s, AdvDefaultLifetime (RFC 4861, 6.2.1)
 MOST_REACHABLE = 3_600_000          # ms, AdvReachableTime (RFC 4861, 6.2.1)
 LEAST_REACHABLE = 1_000             # ms, of the policy `timers`

@@ -1,6 +1,7 @@
 """`replay`: a node hears a capture at the capture's own times. What it sends and reports is printed as text, as JSON, or as another capture.
 
-The node's moments are in milliseconds since its start. A packet whose time is before that of an earlier one is heard at the moment of the earlier one."""
+The node's moments are in milliseconds since its start. A packet whose time is before that of an earlier one is heard at the moment of the earlier
+one."""
 from __future__ import annotations
 
 import dataclasses
@@ -12,14 +13,15 @@ from typing import Any, Dict, Iterable, Iterator, List, Optional, Union
 
 import nd
 
-from .capture import Packet
+from .capture import CaptureError, Packet
 from .pcapng import Written
 from .sections import section_of_drop
 from .setup import Setup
 from .tables import TABLES
 from .texts import address_text, frame_text, heard_by_its_role, record_text
 
-MILLISECOND = 10 ** 6  # nanoseconds
+MILLISECOND = 10 ** 6    # nanoseconds
+LONGEST_GAP = 1 << 40    # milliseconds: 34 years, for which an idle node takes seconds
 
 
 @dataclass(frozen=True)
@@ -32,9 +34,18 @@ class Passed:
 Event = Union[Passed, nd.Record]
 
 
+def moment_of(packet: Packet, begin: int, last: int) -> int:
+    """Returns the moment of a packet, in milliseconds since `begin`, a time in nanoseconds, but not before `last`. Raises CaptureError if it is
+    more than LONGEST_GAP after that, as times that are damaged are."""
+    moment = max((packet.time - begin) // MILLISECOND, last)
+    if moment - last > LONGEST_GAP:
+        raise CaptureError(f"packet {packet.number}: its time is {moment - last} ms after that of the packet before")
+    return moment
+
+
 class Replay:
-    """A node that hears a capture. `before`: how long before the first packet the node starts; `after`: how long it goes on after the last one, both in
-    milliseconds. `begin` is the time of its start, in nanoseconds since 1970, once a packet was read."""
+    """A node that hears a capture. `before`: how long before the first packet the node starts; `after`: how long it goes on after the last one,
+    both in milliseconds. `begin` is the time of its start, in nanoseconds since 1970, once a packet was read."""
 
     def __init__(self, setup: Setup, before: int = 0, after: int = 0) -> None:
         self.setup, self.before, self.after = setup, before, after
@@ -53,7 +64,7 @@ class Replay:
 
     def hear(self, packet: Packet) -> Iterator[Event]:
         """Lets time pass up to a packet, and passes it to the node if the interface does."""
-        moment = max((packet.time - self.begin) // MILLISECOND, self.node.last_moment())
+        moment = moment_of(packet, self.begin, self.node.last_moment())
         yield from self.pass_time(moment)
         if packet.skipped or not self.setup.hears(packet.frame):
             return

@@ -60,7 +60,8 @@ def add_arguments(command: argparse.ArgumentParser, is_host: bool = False, needs
         command.add_argument("--offer", default=[], action="append", type=prefix_argument, metavar="PREFIX", help="a router advertises this prefix")
     command.add_argument("--mac", required=needs_mac, type=mac_argument, help="its Ethernet address")
     command.add_argument("--draws", default="seed:0", type=draws_argument, metavar="SOURCE", help="its random words: seed:N or word:N (seed:0)")
-    command.add_argument("--transmits", default=1, type=int, choices=range(1, 9), metavar="N", help="solicitations for each of its addresses, 1 to 8 (1)")
+    command.add_argument("--transmits", default=1, type=int, choices=range(1, 9), metavar="N",
+                         help="solicitations for each of its addresses, 1 to 8 (1)")
     command.add_argument("--policy", default=nd.Policy(0), type=policy_argument, metavar="WORDS", help="timers, self and unicast, parted by commas")
 
 

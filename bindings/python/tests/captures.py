@@ -12,11 +12,11 @@ Timed = Tuple[int, bytes]  # nanoseconds since BEGIN, and a frame
 def pcap(packets: Sequence[Timed], order: str = "<", units: int = 10 ** 6, link: int = 1, lost: int = 0) -> bytes:
     """Returns a file of pcap. Of each packet `lost` bytes were not kept."""
     magic = {10 ** 6: 0xA1B2C3D4, 10 ** 9: 0xA1B23C4D}[units]
-    made = struct.pack(f"{order}IHHiIII", magic, 2, 4, 0, 0, 262144, link)
+    made = [struct.pack(f"{order}IHHiIII", magic, 2, 4, 0, 0, 262144, link)]
     for time, frame in packets:
         seconds, rest = divmod(time, 10 ** 9)
-        made += struct.pack(f"{order}IIII", BEGIN + seconds, rest * units // 10 ** 9, len(frame), len(frame) + lost) + frame
-    return made
+        made.append(struct.pack(f"{order}IIII", BEGIN + seconds, rest * units // 10 ** 9, len(frame), len(frame) + lost) + frame)
+    return b"".join(made)
 
 
 def padded(content: bytes) -> bytes:
@@ -79,7 +79,8 @@ def advertisement(hop_limit: int = 64, flags: int = 0, lifetime: int = 1800, rea
     return message_frame(struct.pack(">BBHBBHII", 134, 0, 0, hop_limit, flags, lifetime, reachable, retrans) + options)
 
 
-def prefix_option(bits: int = 64, flags: int = 0xC0, valid: int = 3600, preferred: int = 1800, reserved: int = 0, prefix: str = "2001:db8::") -> bytes:
+def prefix_option(bits: int = 64, flags: int = 0xC0, valid: int = 3600, preferred: int = 1800, reserved: int = 0,
+                  prefix: str = "2001:db8::") -> bytes:
     """Returns a Prefix Information option (RFC 4861, 4.6.2)."""
     return struct.pack(">BBBBIII", 3, 4, bits, flags, valid, preferred, reserved) + IPv6Address(prefix).packed
 

@@ -117,7 +117,8 @@ class Remarks(unittest.TestCase):
         for option, wanted in (
                 (prefix_option(valid=50, preferred=100),
                  "preferred lifetime 100 s of 2001:db8::/64 is above the valid one, 50 s [RFC 4862, 5.5.3 c]"),
-                (prefix_option(bits=60), "2001:db8::/60 is autonomous, and no address of an interface identifier of 64 bits fits it [RFC 4862, 5.5.3 d]"),
+                (prefix_option(bits=60),
+                 "2001:db8::/60 is autonomous, and no address of an interface identifier of 64 bits fits it [RFC 4862, 5.5.3 d]"),
                 (prefix_option(flags=0x80, prefix="fe80::"), "fe80::/64 is link-local [RFC 4861, 4.6.2]"),
                 (prefix_option(prefix="2001:db8::1"), "bits of 2001:db8::1 past its length 64 are not zero [RFC 4861, 4.6.2]"),
                 (prefix_option(flags=0xC1), "reserved bits of 2001:db8::/64 are not zero [RFC 4861, 4.6.2]"),

@@ -56,7 +56,8 @@ class Finding(unittest.TestCase):
             self.assertRegex(said.stderr, "LibraryError: nd.c cannot be compiled into .*jondasik")
 
     def test_another_command_has_another_file(self) -> None:
-        paths = {run("from nd import library; print(library.compiled_path())", CC=name, XDG_CACHE_HOME="/kept").stdout for name in ("cc", "gcc", "cc ")}
+        code = "from nd import library; print(library.compiled_path())"
+        paths = {run(code, CC=name, XDG_CACHE_HOME="/kept").stdout for name in ("cc", "gcc", "cc ")}
         self.assertEqual(len(paths), 2)
         self.assertTrue(all(path.startswith("/kept/jondasik/nd-") for path in paths), paths)
 

@@ -138,7 +138,8 @@ class Errors(unittest.TestCase):
                      lambda: node.send(0, "::1", "::2", 256), lambda: node.confirm_to(0, "::1", 1 << 64), lambda: node.add_address(0, "::5", 1 << 32),
                      lambda: nd.hear(b"", 1 << 32), lambda: node.resolve(0, "1.2.3.4"), lambda: nd.Mac("02:00:00:00:00"),
                      lambda: nd.Mac(b"12345"), lambda: nd.Node(nd.Options(nd.Role.HOST, HOST_MAC, transmits=256)),
-                     lambda: nd.Node(nd.Options(nd.Role.HOST, HOST_MAC, transmits=9)), lambda: nd.Node(nd.Options(nd.Role.HOST, HOST_MAC, start=1 << 62)),
+                     lambda: nd.Node(nd.Options(nd.Role.HOST, HOST_MAC, transmits=9)),
+                     lambda: nd.Node(nd.Options(nd.Role.HOST, HOST_MAC, start=1 << 62)),
                      lambda: nd.Node(nd.Options(nd.Role.HOST, HOST_MAC, limits=nd.Limits(neighbours=2049))), lambda: nd.pool_bytes(longest=-1)]
             for number, call in enumerate(wrong):
                 with self.subTest(number), self.assertRaises(nd.Invalid):

@@ -110,6 +110,17 @@ class Capture(unittest.TestCase):
                         b"at 0 ms the node sends ns :: ff02::1:ff9a:bcde target fe80::3656:78ff:fe9a:bcde", b"at 2300 ms: heard ra"):
             self.assertIn(comment, content)
 
+    def test_an_answer_is_not_before_its_question(self) -> None:
+        """A packet half a millisecond after a moment, and what the node sends at that moment, have the times in this order."""
+        question = [frame for moment, frame in example_events("host.hex") if frame is not None][1]
+        with tempfile.TemporaryDirectory() as room:
+            path = Path(room) / "written"
+            run(pcap([(0, question), (500_500_000, question)], units=10 ** 9), "replay", *HOST, "--before", "1200", "--write", str(path))
+            packets = list(read_capture(io.BytesIO(path.read_bytes())))
+        times = [packet.time for packet in packets]
+        self.assertEqual(times, sorted(times))
+        self.assertEqual([packet.time % 10 ** 9 for packet in packets if packet.frame == question], [0, 500_500_000])
+
     def test_the_layout(self) -> None:
         """A block of a packet by the draft: its options are flags (2) and a comment (1), each padded to 4 bytes."""
         file = io.BytesIO()

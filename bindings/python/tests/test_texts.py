@@ -1,5 +1,5 @@
-"""The lines of frames, compared with examples/link.txt and with the corpus, which were written apart from this program; and whole runs of the corpus over the
-module, whose records have the texts of `ndpctl run`."""
+"""The lines of frames, compared with examples/link.txt and with the corpus, which were written apart from this program; and whole runs of the
+corpus over the module, whose records have the texts of `ndpctl run`."""
 from __future__ import annotations
 
 import unittest
@@ -26,7 +26,8 @@ class Lines(unittest.TestCase):
 
     def test_addresses(self) -> None:
         """RFC 5952, 4.2: the longest run of zeros is shortened, the first at a tie, and never a single group."""
-        for text in ("::", "::1", "1::", "2001:db8::1:0:0:1", "2001:0:0:1::1", "2001:db8:0:1:1:1:1:1", "::ffff:102:304", "ff02::1:ff00:1", "1:2:3:4:5:6:7:8"):
+        for text in ("::", "::1", "1::", "2001:db8::1:0:0:1", "2001:0:0:1::1", "2001:db8:0:1:1:1:1:1", "::ffff:102:304", "ff02::1:ff00:1",
+                     "1:2:3:4:5:6:7:8"):
             self.assertEqual(address_text(IPv6Address(text)), text)
 
 
