@@ -81,7 +81,10 @@ def do_replay(arguments: argparse.Namespace) -> int:
 
 def do_compare(arguments: argparse.Namespace) -> int:
     """Prints the first difference between another stack and the node, or all of them."""
-    made = compare.Comparison(setup_of(arguments), arguments.tolerance, arguments.before)
+    setup = setup_of(arguments)
+    with opened(arguments.capture, True) as packets:
+        probes = compare.probes_of(packets, setup)
+    made = compare.Comparison(setup, probes, arguments.tolerance, arguments.before)
     with opened(arguments.capture, arguments.quiet) as packets:
         for packet in packets:
             made.take(packet)

@@ -1,10 +1,10 @@
 """`compare`: what another stack, a host, sent in a capture, against what a node of the same Ethernet address sends when it hears the same frames.
 
-The node starts when the stack sends its first message of Neighbor Discovery. It cannot know what the stack's upper layers do, so it is asked for a
-path (`Node.resolve`) where the capture shows that the stack had a packet: when the stack solicits a neighbour, and when it sends another packet.
-The messages of both are sorted by what they are for, and the nth of the stack is compared with the nth of the node. Not compared are options that a
-receiver passes over (RFC 4861, 4.6), and probes of the node that the stack does not send, since its upper layers may have confirmed the neighbour
-(RFC 4861, 7.3.1)."""
+The node starts when the stack sends its first message of Neighbor Discovery. It cannot know what the stack's upper layers do, so the capture has to
+have all packets of the stack. The node is asked for a path (`Node.resolve`) where the stack had a packet: when it solicits a neighbour, and when it
+sends another packet. If the node probes a neighbour and the stack does not, the stack's upper layers have confirmed it (RFC 4861, 7.3.1): then the
+node's neighbour is confirmed too, and its probe is not compared. The messages of both are sorted by what they are for, and the nth of the stack is
+compared with the nth of the node. Options that a receiver passes over are not compared (RFC 4861, 4.6)."""
 from __future__ import annotations
 
 import json
@@ -94,12 +94,23 @@ def purpose_of(heard: nd.HeardFrame) -> Tuple[Purpose, Tuple[IPv6Address, ...]]:
     return (Purpose.ROUTER_SOLICITATION, ()) if heard.message_type == 133 else (Purpose.ROUTER_ADVERTISEMENT, ())
 
 
-class Comparison:
-    """Passes a capture to a node, and compares. `tolerance`: milliseconds that may lie between both. `before`: how long before the stack's first
-    message the node starts, in milliseconds."""
+def probes_of(packets: Iterable[Packet], setup: Setup) -> Dict[IPv6Address, List[int]]:
+    """Returns the times, in nanoseconds since 1970, at which the stack probes each neighbour."""
+    found: Dict[IPv6Address, List[int]] = defaultdict(list)
+    for packet in packets:
+        if not packet.skipped and setup.is_own(packet.frame):
+            message = message_of(0, packet.frame, packet.number)
+            if message is not None and message.purpose is Purpose.PROBE:
+                found[message.about[0]].append(packet.time)
+    return found
 
-    def __init__(self, setup: Setup, tolerance: int, before: int = 0) -> None:
-        self.setup, self.tolerance, self.before = setup, tolerance, before
+
+class Comparison:
+    """Passes a capture to a node, and compares. `probes`: those of the stack, by `probes_of`. `tolerance`: milliseconds that may lie between both.
+    `before`: how long before the stack's first message the node starts, in milliseconds."""
+
+    def __init__(self, setup: Setup, probes: Dict[IPv6Address, List[int]], tolerance: int, before: int = 0) -> None:
+        self.setup, self.probes, self.tolerance, self.before = setup, probes, tolerance, before
         self.node = setup.opened()
         self.begin: Optional[int] = None
         self.stack_messages: List[Message] = []
@@ -114,12 +125,19 @@ class Comparison:
         if self.begin is None or packet.skipped:
             return
         now = moment_of(packet, self.begin, self.node.last_moment())
-        self.node.turn(now)
-        self.take_sent()
+        self.pass_time(now)
         if is_stack:
             self.take_stack(now, packet)
         elif self.setup.hears(packet.frame):
             self.node.receive(now, packet.frame)
+        self.take_sent()
+
+    def pass_time(self, now: int) -> None:
+        """Lets time pass, one due moment after another, so that a neighbour is confirmed before it fails."""
+        while self.node.next_due() < now:
+            self.node.turn(self.node.next_due())
+            self.take_sent()
+        self.node.turn(now)
         self.take_sent()
 
     def take_stack(self, now: int, packet: Packet) -> None:
@@ -130,15 +148,23 @@ class Comparison:
                 self.node.resolve(now, heard.destination)
             return
         self.stack_messages.append(message)
-        if message.purpose in (Purpose.RESOLUTION, Purpose.PROBE):
+        if message.purpose is Purpose.RESOLUTION:
             self.node.resolve(now, heard.target)
 
     def take_sent(self) -> None:
         """Takes the messages that the node sends."""
         for record in self.node.poll():
             message = message_of(record.moment, record.frame, 0) if isinstance(record, nd.Frame) else None
-            if message is not None:
-                self.node_messages.append(message)
+            if message is None:
+                continue
+            self.node_messages.append(message)
+            if message.purpose is Purpose.PROBE and not self.is_probed(message):
+                self.node.confirm(self.node.last_moment(), message.about[0])
+
+    def is_probed(self, probe: Message) -> bool:
+        """Returns true if the stack probes the neighbour too, as long before or after as is tolerated."""
+        time = (self.begin or 0) + probe.moment * MILLISECOND
+        return any(abs(time - other) <= self.tolerance * MILLISECOND for other in self.probes.get(probe.about[0], ()))
 
     def differences(self) -> List[Difference]:
         """Returns the differences so far, the earliest first."""

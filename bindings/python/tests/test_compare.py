@@ -87,6 +87,12 @@ class Differences(unittest.TestCase):
         """Its upper layers may have confirmed the router (RFC 4861, 7.3.1)."""
         self.assertEqual(compared(captured("failover", lambda sent: sent[:4]))[:2], (0, []))
 
+    def test_a_neighbour_that_upper_layers_confirm(self) -> None:
+        """The stack goes on to send by its only router, and sends no probe: the node takes it as confirmed, and does not resolve the router again."""
+        def changed(sent: Sent) -> Sent:
+            return [*sent, (20000, sent[3][1]), (30000, sent[3][1])]
+        self.assertEqual(compared(captured("host", changed))[:2], (0, []))
+
     def test_too_late(self) -> None:
         out = self.first(lambda sent: [sent[0], (1101, sent[1][1]), *sent[2:]], "--tolerance", "100")
         self.assertEqual(out[0], "at 1000 ms: 101 ms lie between both [RFC 4861, 6.3.7]")
