@@ -1,6 +1,8 @@
 """Why a call did not take place: an exception for each status of nd.h below 0, and those of the library itself."""
 from __future__ import annotations
 
+from typing import Dict, Tuple, Type
+
 from .raw import Status
 
 
@@ -33,12 +35,12 @@ class LibraryError(Error):
     """The library cannot be compiled or loaded, or is of another version."""
 
 
-_BY_STATUS = {
-    Status.NO_MEMORY: NoMemory("out of memory"),
-    Status.CLOSED: Closed("the node is not open"),
-    Status.INVALID: Invalid("an argument that the call does not take"),
-    Status.PAST: Past("the moment is before the last one"),
-    Status.NO_ROOM: NoRoom("the buffer is too short"),
+_BY_STATUS: Dict[Status, Tuple[Type[Error], str]] = {
+    Status.NO_MEMORY: (NoMemory, "out of memory"),
+    Status.CLOSED: (Closed, "the node is not open"),
+    Status.INVALID: (Invalid, "an argument that the call does not take"),
+    Status.PAST: (Past, "the moment is before the last one"),
+    Status.NO_ROOM: (NoRoom, "the buffer is too short"),
 }
 
 
@@ -46,5 +48,5 @@ def checked(status: int) -> Status:
     """Returns a status of a call that took place. Raises the exception of any other."""
     if status >= 0:
         return Status(status)
-    known = _BY_STATUS.get(Status(status))
-    raise Error(f"status {status}") if known is None else type(known)(*known.args)
+    kind, text = _BY_STATUS.get(Status(status), (Error, f"status {status}"))
+    raise kind(text)

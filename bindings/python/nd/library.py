@@ -103,15 +103,14 @@ def _load() -> ctypes.CDLL:
             function.restype, function.argtypes = result, arguments
     except (OSError, AttributeError) as error:
         raise LibraryError(f"the library {path} cannot be loaded: {error}") from error
-    version = _version_of(loaded)
-    if version[0] != raw.VERSION[0] or version < raw.VERSION:
-        raise LibraryError(f"the library {path} has version {version}, and this module is for {raw.VERSION}")
+    found = _parts(loaded.nd_version())
+    if found[0] != raw.VERSION[0] or found < raw.VERSION:
+        raise LibraryError(f"the library {path} has version {found}, and this module is for {raw.VERSION}")
     return loaded
 
 
-def _version_of(loaded: ctypes.CDLL) -> tuple[int, int, int]:
-    number = loaded.nd_version()
-    return number >> 16, number >> 8 & 0xFF, number & 0xFF
+def _parts(version_number: int) -> tuple[int, int, int]:
+    return version_number >> 16, version_number >> 8 & 0xFF, version_number & 0xFF
 
 
 def call(name: str, *arguments: Any) -> Any:
@@ -125,5 +124,4 @@ def call(name: str, *arguments: Any) -> Any:
 
 def version() -> tuple[int, int, int]:
     """Returns the version of the library: major, minor and patch."""
-    number = call("nd_version")
-    return number >> 16, number >> 8 & 0xFF, number & 0xFF
+    return _parts(call("nd_version"))

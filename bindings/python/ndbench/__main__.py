@@ -13,6 +13,7 @@ from nd import library
 
 from . import compare, judge, picture, replay
 from .capture import CaptureError, Packet, read_capture
+from .drawing import Drawing
 from .pcapng import write_capture
 from .progress import Progress
 from .setup import add_arguments, setup_of
@@ -105,7 +106,7 @@ def do_picture(arguments: argparse.Namespace) -> int:
             made = picture.picture_of(packets)
         else:
             made = picture.picture_with_node(packets, setup_of(arguments), arguments.before, arguments.after)
-    text = picture.Drawing(made).text()
+    text = Drawing(made).text()
     if arguments.write is None:
         print(text, end="")
         return DONE

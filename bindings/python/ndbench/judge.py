@@ -7,10 +7,10 @@ from typing import Any, Dict, Iterable, Iterator, List, Optional
 
 import nd
 
-from .capture import NANOSECONDS, Packet
+from .capture import Packet
 from .remarks import Remark, remarks_of
 from .sections import section_of_drop
-from .texts import frame_text, heard_by_its_role, reason_text
+from .texts import frame_text, heard_by_its_role, reason_text, seconds_text
 
 
 @dataclass(frozen=True)
@@ -57,12 +57,6 @@ def judgement_of(packet: Packet) -> Judgement:
     heard = heard_by_its_role(packet.frame)
     section = section_of_drop(heard.why, packet.frame) if heard.why is not None else ""
     return Judgement(packet, frame_text(heard), heard.why, section, remarks_of(packet.frame, heard))
-
-
-def seconds_text(nanoseconds: int, digits: int) -> str:
-    """Returns a time in seconds, with this many decimals, the others cut."""
-    sign, rest = ("-", -nanoseconds) if nanoseconds < 0 else ("", nanoseconds)
-    return f"{sign}{rest // NANOSECONDS}.{rest % NANOSECONDS // 10 ** (9 - digits):0{digits}}"
 
 
 def text_of(judgement: Judgement, begin: int) -> str:

@@ -1,32 +1,18 @@
-"""`picture`: an SVG of a capture. Time goes down. Each Ethernet address is a vertical line, each frame an arrow between two of them, or to all for
-a group. With a node that hears the capture, what it sends is drawn too, and the states of its neighbour cache (RFC 4861, 7.3.2) as bars at the
-right."""
+"""What a picture shows: an arrow for each frame of a capture; and with a node that hears the capture, an arrow for each frame that it sends, and
+bars for the states of its neighbours. drawing.py draws it."""
 from __future__ import annotations
 
-from bisect import bisect_right
 from dataclasses import dataclass
-from ipaddress import IPv6Address
-from typing import Dict, Iterable, Iterator, List, Optional, Tuple
-from xml.sax.saxutils import escape
+from typing import Iterable, Iterator, List, Optional
 
 import nd
 
 from .capture import Packet
-from .judge import seconds_text
-from .replay import MILLISECOND, Passed, Replay, line_of
+from .replay import Passed, Replay, line_of
 from .setup import Setup
-from .texts import address_text
+from .states import Bar, States
 
-# Lengths are in pixels.
-LEFT, TOP, LANE, ROW, BAR, BAR_GAP, LABEL = 100, 84, 150, 26, 14, 62, 560
-LONGEST_GAP = 3 * ROW          # between two rows, however long the time between them is
-MILLISECONDS_A_PIXEL = 20      # between these bounds
 MOST_ROWS = 2000
-LABEL_CHARACTERS = 80
-COLOURS = {nd.Reachability.INCOMPLETE: "#d0d0d0", nd.Reachability.REACHABLE: "#4c9f70", nd.Reachability.STALE: "#e3b23c",
-           nd.Reachability.DELAY: "#e07b39", nd.Reachability.PROBE: "#b13e53"}
-INK, SENT, DROPPED, GRID = "#222222", "#2459a8", "#b13e53", "#cccccc"
-STYLE = "text { font: 12px sans-serif; fill: #222222 } .small { font-size: 11px } .mono { font: 11px monospace }"
 
 
 @dataclass(frozen=True)
@@ -42,15 +28,6 @@ class Arrow:
     def label(self) -> str:
         """The number, if there is one, and the line."""
         return f"{self.number} {self.line}" if self.number else self.line
-
-
-@dataclass(frozen=True)
-class Bar:
-    """A state of a neighbour between two times, in nanoseconds."""
-    neighbour: IPv6Address
-    state: nd.Reachability
-    begin: int
-    end: int
 
 
 class Picture:
@@ -105,160 +82,3 @@ def _drawn(packets: Iterable[Packet], setup: Setup, made: Picture) -> Iterator[P
         if not setup.is_own(packet.frame):
             made.add_packet(packet)
         yield packet
-
-
-@dataclass
-class Current:
-    """A state that has not ended. `until` is when a REACHABLE neighbour becomes STALE, which no record reports."""
-    state: nd.Reachability
-    begin: int
-    until: Optional[int]
-
-
-class States:
-    """The states of a node's neighbours over time, in nanoseconds."""
-
-    def __init__(self) -> None:
-        self.current: Dict[IPv6Address, Current] = {}
-        self.ended: List[Bar] = []
-
-    def look(self, replay: Replay) -> None:
-        """Looks at the neighbours at the last moment."""
-        now = replay.node.last_moment()
-        time, rows = replay.time_of(now), {row.address: row for row in replay.node.neighbours(now)}
-        self.age(time)
-        for address, current in list(self.current.items()):
-            row = rows.get(address)
-            if row is None or row.state != current.state:
-                self.end(address, time)
-        for address, row in rows.items():
-            until = None if row.reachable_left is None else time + row.reachable_left * MILLISECOND
-            self.current.setdefault(address, Current(row.state, time, until)).until = until
-
-    def age(self, time: int) -> None:
-        """Turns neighbours STALE whose time to be REACHABLE has ended."""
-        for address, current in list(self.current.items()):
-            if current.until is not None and current.until < time:
-                self.end(address, current.until)
-                self.current[address] = Current(nd.Reachability.STALE, current.until, None)
-
-    def end(self, address: IPv6Address, time: int) -> None:
-        """Ends the state of a neighbour."""
-        current = self.current.pop(address)
-        self.ended.append(Bar(address, current.state, current.begin, time))
-
-    def bars(self, time: int) -> List[Bar]:
-        """Returns all bars; what has not ended does so now."""
-        self.age(time)
-        for address in list(self.current):
-            self.end(address, time)
-        return self.ended
-
-
-def _lanes(arrows: List[Arrow]) -> List[nd.Mac]:
-    """Returns the Ethernet addresses of interfaces, in the order in which they are seen."""
-    seen: Dict[nd.Mac, None] = {}
-    for arrow in arrows:
-        seen.update(dict.fromkeys(mac for mac in (arrow.source, arrow.destination) if not mac.is_group))
-    return list(seen)
-
-
-def _rows(arrows: List[Arrow]) -> List[float]:
-    """Returns the heights of arrows: in proportion to time, but at least ROW and at most LONGEST_GAP apart."""
-    heights, y = [], float(TOP + ROW)
-    for index, arrow in enumerate(arrows):
-        passed = (arrow.time - arrows[index - 1].time) / MILLISECOND / MILLISECONDS_A_PIXEL if index > 0 else 0.0
-        y += min(max(passed, ROW), LONGEST_GAP) if index > 0 else 0.0
-        heights.append(y)
-    return heights
-
-
-class Drawing:
-    """An SVG that is put together, of a picture."""
-
-    def __init__(self, picture: Picture) -> None:
-        self.picture = picture
-        self.lanes = _lanes(picture.arrows)
-        self.neighbours = sorted({bar.neighbour for bar in picture.bars})
-        self.rows = _rows(picture.arrows)
-        self.times = [arrow.time for arrow in picture.arrows]
-        self.elements: List[str] = []
-
-    def text(self) -> str:
-        """Returns the SVG."""
-        last = self.rows[-1] if self.rows else TOP + ROW
-        labels = LEFT + LANE * max(len(self.lanes), 1)
-        bars = labels + LABEL
-        width, height = bars + (BAR_GAP * len(self.neighbours) + 60 if self.neighbours else 0), last + 2 * ROW
-        self.draw_lanes(last + ROW)
-        for arrow, y in zip(self.picture.arrows, self.rows):
-            self.draw_arrow(arrow, y, labels)
-        self.draw_bars(bars)
-        note = f"{self.picture.left_out} later frames are left out" if self.picture.left_out else ""
-        self.add_text(LEFT, last + 1.6 * ROW, note)
-        head = f'<svg xmlns="http://www.w3.org/2000/svg" width="{width:.0f}" height="{height:.0f}" viewBox="0 0 {width:.0f} {height:.0f}">'
-        return "\n".join([head, f"<style>{STYLE}</style>", '<rect width="100%" height="100%" fill="white"/>', *self.elements, "</svg>", ""])
-
-    def add_text(self, x: float, y: float, text: str, kind: str = "small", anchor: str = "start") -> None:
-        """Adds a text, if it is not empty."""
-        if text:
-            self.elements.append(f'<text class="{kind}" x="{x:.1f}" y="{y:.1f}" text-anchor="{anchor}">{escape(text)}</text>')
-
-    def add_line(self, begin: Tuple[float, float], end: Tuple[float, float], colour: str, more: str = "") -> None:
-        """Adds a line."""
-        self.elements.append(f'<line x1="{begin[0]:.1f}" y1="{begin[1]:.1f}" x2="{end[0]:.1f}" y2="{end[1]:.1f}" stroke="{colour}"{more}/>')
-
-    def x_of(self, mac: nd.Mac) -> float:
-        """Returns where the line of an Ethernet address is."""
-        return LEFT + LANE * (self.lanes.index(mac) + 0.5)
-
-    def draw_lanes(self, bottom: float) -> None:
-        """Draws the line of each Ethernet address, with its name above."""
-        sent = {arrow.source for arrow in self.picture.arrows if arrow.number == 0}
-        for mac in self.lanes:
-            self.add_text(self.x_of(mac), TOP - 34, "the node" if mac in sent else "", "small", "middle")
-            self.add_text(self.x_of(mac), TOP - 18, str(mac), "mono", "middle")
-            self.add_line((self.x_of(mac), TOP - 8), (self.x_of(mac), bottom), GRID)
-        self.add_text(LEFT - 14, TOP - 18, "seconds", "small", "end")
-
-    def draw_arrow(self, arrow: Arrow, y: float, labels: float) -> None:
-        """Draws a frame: an arrow to its destination, or a line to all with an arrow at each, its time, and its line."""
-        colour = DROPPED if arrow.line.startswith("drop ") else SENT if arrow.number == 0 else INK
-        begin = self.x_of(arrow.source)
-        reached = [mac for mac in self.lanes if mac != arrow.source] if arrow.destination.is_group else [arrow.destination]
-        dash = ' stroke-dasharray="5 3"' if arrow.destination.is_group else ""
-        for end in map(self.x_of, reached):
-            self.add_line((begin, y), (end, y), colour, dash)
-            way = 1 if end > begin else -1
-            self.elements.append(f'<path d="M {end:.1f} {y:.1f} l {-8 * way} -4 v 8 z" fill="{colour}"/>')
-        self.elements.append(f'<circle cx="{begin:.1f}" cy="{y:.1f}" r="3" fill="{colour}"/>')
-        self.add_text(LEFT - 14, y + 4, seconds_text(arrow.time - (self.picture.begin or 0), 3), "mono", "end")
-        said = arrow.label if len(arrow.label) <= LABEL_CHARACTERS else f"{arrow.label[:LABEL_CHARACTERS - 3]} .."
-        self.elements.append(f'<text class="mono" x="{labels:.1f}" y="{y + 4:.1f}" style="fill:{colour}">{escape(said)}'
-                             f"<title>{escape(arrow.label)}</title></text>")
-
-    def height_of(self, time: int) -> float:
-        """Returns where a time is: that of the last arrow up to it, and between two arrows in proportion."""
-        arrows, heights = self.picture.arrows, self.rows
-        after = bisect_right(self.times, time)
-        if after == 0:
-            return TOP
-        if after == len(arrows):
-            return heights[-1] + (ROW if time > arrows[-1].time else 0)
-        part = (time - arrows[after - 1].time) / (arrows[after].time - arrows[after - 1].time)
-        return heights[after - 1] + part * (heights[after] - heights[after - 1])
-
-    def draw_bars(self, left: float) -> None:
-        """Draws the states of each neighbour, and what the colours are."""
-        for index, neighbour in enumerate(self.neighbours):
-            x = left + BAR_GAP * index
-            place = f"translate({x + 4:.1f} {TOP - 4}) rotate(-30)"
-            self.elements.append(f'<text class="mono" transform="{place}">{escape(address_text(neighbour))}</text>')
-            for bar in (bar for bar in self.picture.bars if bar.neighbour == neighbour):
-                begin, end = self.height_of(bar.begin), self.height_of(bar.end)
-                size = f'width="{BAR}" height="{max(end - begin, 1):.1f}"'
-                self.elements.append(f'<rect x="{x:.1f}" y="{begin:.1f}" {size} fill="{COLOURS[bar.state]}"><title>{bar.state.name}</title></rect>')
-        for index, (state, colour) in enumerate(COLOURS.items() if self.neighbours else ()):
-            x = LEFT + 120 * index
-            self.elements.append(f'<rect x="{x}" y="14" width="{BAR}" height="{BAR}" fill="{colour}"/>')
-            self.add_text(x + BAR + 6, 25, state.name)

@@ -7,6 +7,7 @@ from typing import List, Optional
 
 import nd
 
+from .capture import NANOSECONDS
 from .options import LinkLayerAddress, Mtu, Names, Option, PrefixInformation, RedirectedHeader, Servers, Unknown, options_of
 
 MESSAGES = {133: "rs", 134: "ra", 135: "ns", 136: "na", 137: "redirect"}
@@ -48,6 +49,12 @@ def reason_text(why: nd.Why) -> str:
 def flags_text(**flags: bool) -> str:
     """Returns the letters of the flags that are set, or a hyphen."""
     return "".join(letter for letter, is_set in flags.items() if is_set) or "-"
+
+
+def seconds_text(nanoseconds: int, digits: int) -> str:
+    """Returns a time in seconds, with this many decimals, the others cut."""
+    sign, rest = ("-", -nanoseconds) if nanoseconds < 0 else ("", nanoseconds)
+    return f"{sign}{rest // NANOSECONDS}.{rest % NANOSECONDS // 10 ** (9 - digits):0{digits}}"
 
 
 # ---- frames

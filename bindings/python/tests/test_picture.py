@@ -5,7 +5,7 @@ import unittest
 import xml.etree.ElementTree as ElementTree
 from typing import Dict, List, Tuple
 
-from ndbench import picture
+from ndbench import drawing, picture
 
 from .captures import advertisement, message_frame, pcap
 from .paths import example_events
@@ -72,18 +72,24 @@ class Arrows(unittest.TestCase):
         frame = advertisement()
         root = drawn(pcap([(0, frame), (0, frame), (1_000_000_000, frame), (3_600_000_000_000, frame)]))
         heights = [height_of(root, text) for text in (f"{number} {texts(root)[-1][2:]}" for number in (1, 2, 3, 4))]
-        self.assertEqual([later - earlier for earlier, later in zip(heights, heights[1:])], [picture.ROW, 50, picture.LONGEST_GAP])
+        self.assertEqual([later - earlier for earlier, later in zip(heights, heights[1:])], [drawing.ROW, 50, drawing.LONGEST_GAP])
 
     def test_a_frame_that_is_dropped_is_marked(self) -> None:
         root = drawn(pcap([(0, advertisement()[:-1] + b"\1"), (0, message_frame(b"\x85" + bytes(7), macs="020000000001020000000002"))]))
-        self.assertEqual([line[3] for line in lines(root)], [picture.DROPPED, picture.INK])
+        self.assertEqual([line[3] for line in lines(root)], [drawing.DROPPED, drawing.INK])
 
     def test_texts_are_cut_and_whole_in_their_titles(self) -> None:
         heard = [(moment * 10 ** 6, frame) for moment, frame in example_events("host.hex") if frame]
         root = drawn(pcap(heard))
         label = next(element for element in root.iter(f"{SVG}text") if (element.text or "").startswith("2 ra"))
-        self.assertEqual(len(label.text or ""), picture.LABEL_CHARACTERS)
+        self.assertEqual(len(label.text or ""), drawing.LABEL_CHARACTERS)
         self.assertTrue((label.find(f"{SVG}title").text or "").endswith("prefix 2001:db8::/64 la 2592000 604800"))  # type: ignore[union-attr]
+
+    def test_a_group_that_sends(self) -> None:
+        """Its frame is not a good one, and has a line of its own all the same."""
+        root = drawn(pcap([(0, bytes.fromhex("020000000001333300000001") + bytes(48))]))
+        self.assertIn("33:33:00:00:00:01", texts(root))
+        self.assertEqual(len(lines(root)), 1)
 
     def test_what_is_above_the_most_is_counted(self) -> None:
         root = drawn(pcap([(0, advertisement())] * (picture.MOST_ROWS + 3)))
