@@ -39,7 +39,7 @@ def compared(content: bytes, *words: str) -> Tuple[int, List[str], str]:
 
 class Same(unittest.TestCase):
     def test_the_examples_of_hosts(self) -> None:
-        for script, count in (("host", 3), ("failover", 6)):
+        for script, count in (("host", 3), ("failover", 6), ("stack", 7)):
             with self.subTest(script):
                 messages = [frame for _, frame in frames_of(f"scripts/{script}.output", "tx") if frame[20] == 58]
                 status, out, err = compared(captured(script))

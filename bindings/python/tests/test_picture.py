@@ -110,7 +110,7 @@ class Bars(unittest.TestCase):
 
     def test_a_neighbour_that_does_not_answer(self) -> None:
         """The node's answer uses the neighbour: DELAY for 5 s, then three probes, a second apart, and no entry."""
-        root = drawn(pcap([(0, self.solicitation())]), *HOST, "--before", "2000", "--after", "10000")
+        root = drawn(pcap([(0, self.solicitation()), (12_000_000_000, advertisement())]), *HOST, "--before", "2000")
         probes = [element for element in root.iter(f"{SVG}text") if (element.text or "").startswith(f"ns {LINK_LOCAL} fe80::ff:fe00:1")]
         heights = [float(probe.attrib["y"]) - 4 for probe in probes]
         seconds = [element.text for probe in probes for element in root.iter(f"{SVG}text")
@@ -120,7 +120,10 @@ class Bars(unittest.TestCase):
         self.assertEqual([bar[0] for bar in bars(root)], ["DELAY", "PROBE"])
         self.assertEqual(bars(root)[0][1:], (answered, heights[0]))
         self.assertEqual(bars(root)[1][1], heights[0])
-        self.assertGreater(bars(root)[1][2], heights[2])
+        # It ends at 8 s, and the next arrow is at 12 s. The last probe and a Router Solicitation are both at 7 s, in two rows.
+        last = max(line[2] for line in lines(root))
+        seventh = max(line[2] for line in lines(root) if line[2] < last)
+        self.assertAlmostEqual(bars(root)[1][2], seventh + (last - seventh) / 5, places=1)
         self.assertIn("the node", texts(root))
 
     def test_a_neighbour_that_answers(self) -> None:

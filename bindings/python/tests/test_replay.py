@@ -112,14 +112,23 @@ class Capture(unittest.TestCase):
 
     def test_an_answer_is_not_before_its_question(self) -> None:
         """A packet half a millisecond after a moment, and what the node sends at that moment, have the times in this order."""
-        question = [frame for moment, frame in example_events("host.hex") if frame is not None][1]
+        dropped, question, _ = [frame for _, frame in example_events("host.hex") if frame is not None]
         with tempfile.TemporaryDirectory() as room:
             path = Path(room) / "written"
-            run(pcap([(0, question), (500_500_000, question)], units=10 ** 9), "replay", *HOST, "--before", "1200", "--write", str(path))
+            run(pcap([(0, dropped), (500_500_000, question)], units=10 ** 9), "replay", *HOST, "--before", "1200", "--write", str(path))
             packets = list(read_capture(io.BytesIO(path.read_bytes())))
         times = [packet.time for packet in packets]
         self.assertEqual(times, sorted(times))
-        self.assertEqual([packet.time % 10 ** 9 for packet in packets if packet.frame == question], [0, 500_500_000])
+        self.assertEqual([packet.time % 10 ** 9 for packet in packets[-2:]], [500_500_000] * 2)
+        self.assertEqual(packets[-2].frame, question)
+
+    def test_what_is_reported_before_the_first_frame(self) -> None:
+        """A router offers at most 16 prefixes: the 17th is refused before it sends anything."""
+        offers = [word for number in range(17) for word in ("--offer", f"2001:db8:{number}::/64")]
+        with tempfile.TemporaryDirectory() as room:
+            path = Path(room) / "written"
+            run(pcap([(0, advertisement())]), "replay", "--role", "router", "--mac", "02:00:00:00:00:07", *offers, "--write", str(path))
+            self.assertIn(b"at 0 ms: refused full offers", path.read_bytes())
 
     def test_the_layout(self) -> None:
         """A block of a packet by the draft: its options are flags (2) and a comment (1), each padded to 4 bytes."""

@@ -1,0 +1,56 @@
+"""The options of a message, by docs/FORMATS.md: those that are not well formed read as unknown ones."""
+from __future__ import annotations
+
+import unittest
+from ipaddress import IPv6Address
+
+from ndbench.options import Names, Servers, Unknown, options_of
+
+LIFETIME = bytes(2) + (300).to_bytes(4, "big")
+SERVER = IPv6Address("2001:db8::53")
+
+
+def option(number: int, data: bytes) -> bytes:
+    """Returns an option with zeros behind its data up to a multiple of 8 bytes."""
+    content = data + bytes(-(len(data) + 2) % 8)
+    return bytes([number, (len(content) + 2) // 8]) + content
+
+
+def name(*labels: bytes) -> bytes:
+    return b"".join(bytes([len(label)]) + label for label in labels) + b"\0"
+
+
+class ServersRow(unittest.TestCase):
+    """Recursive DNS Server (RFC 8106, 5.1): an odd length of at least 3, and addresses that may be servers'."""
+
+    def test_lengths(self) -> None:
+        self.assertEqual(options_of(option(25, LIFETIME + SERVER.packed * 2)), [Servers(300, (SERVER, SERVER))])
+        for data in (LIFETIME, LIFETIME + SERVER.packed[:8], LIFETIME + SERVER.packed + bytes(8)):
+            self.assertEqual(options_of(option(25, data)), [Unknown(25, data)])
+
+    def test_addresses(self) -> None:
+        for wrong in ("::", "::1", "ff02::1"):
+            data = LIFETIME + SERVER.packed + IPv6Address(wrong).packed
+            self.assertEqual(options_of(option(25, data)), [Unknown(25, data)])
+
+
+class NamesRow(unittest.TestCase):
+    """DNS Search List (RFC 8106, 5.2; RFC 1035, 2.3 and 3.1): labels up to 63 bytes, names up to 255, and zeros behind them."""
+
+    def names(self, data: bytes) -> object:
+        found = options_of(option(31, LIFETIME + data))
+        self.assertEqual(len(found), 1)
+        return found[0].names if isinstance(found[0], Names) else None
+
+    def test_names(self) -> None:
+        self.assertEqual(self.names(name(b"Example", b"COM") + name(b"a_b-")), ("example.com", "a_b-"))
+        self.assertEqual(self.names(name(b"a" * 63)), ("a" * 63,))
+        longest = [b"a" * 63] * 3 + [b"b" * 61]
+        self.assertEqual(len(name(*longest)), 255)
+        self.assertEqual(self.names(name(*longest)), (b".".join(longest).decode(),))
+
+    def test_what_is_no_name(self) -> None:
+        too_long = name(*[b"a" * 63] * 3, b"b" * 62)
+        for wrong in (b"", b"\1a\1", name(b"a b"), name(b"a.b"), name("\u00e9".encode()), b"\x40" + b"a" * 64 + b"\0", too_long, b"\xc0\x0c",
+                      name(b"a") + b"\0" + name(b"b"), b"\7example"):
+            self.assertIsNone(self.names(wrong), wrong)
