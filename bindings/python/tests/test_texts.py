@@ -41,6 +41,14 @@ class Runs(unittest.TestCase):
                 self.skip_if_older(row.words)
                 self.assertEqual(Runner(row.words[1:]).run(row.script), row.text)
 
+    def test_runs_of_the_examples(self) -> None:
+        """The runs of `ndpctl run` in examples/table.txt: each line is a name, the input, the output, and the arguments."""
+        rows = [line.split() for line in example("table.txt").splitlines() if " run " in line]
+        self.assertGreater(len(rows), 3)
+        for name, script, output, *words in rows:
+            with self.subTest(name):
+                self.assertEqual(Runner(words[1:]).run(example(script)), example(output))
+
     def skip_if_older(self, words: List[str]) -> None:
         """Skips a run with a policy that dist/nd.h does not have: then nd.c is older than the sources, which bindings/check reports."""
         header = (TOP / "dist" / "nd.h").read_text(encoding="utf-8")
