@@ -71,6 +71,7 @@ class _File:
         self.file, self.position, self.number = file, 4, 0
 
     def error(self, what: str) -> CaptureError:
+        """Returns the error of the packet that is read now."""
         return CaptureError(f"packet {self.number + 1}: {what}")
 
     def read(self, count: int, may_end: bool = False) -> bytes:
@@ -82,11 +83,14 @@ class _File:
         return content
 
     def packet(self, link: int, time: int, frame: bytes, length: int) -> Packet:
+        """Returns the packet that was read, and counts it."""
         self.number += 1
         return Packet(self.number, time, frame, why_skipped(link, frame, length), self.position)
 
 
 class _Pcap(_File):
+    """A file of pcap: a header of 24 bytes, and each packet behind a header of 16."""
+
     def __init__(self, file: BinaryIO, order: str, units: int) -> None:
         super().__init__(file)
         self.units, self.header = units, struct.Struct(f"{order}IIII")
@@ -94,6 +98,7 @@ class _Pcap(_File):
         self.link = link & 0xFFFF  # the bits above say whether a frame check sequence follows, which reads as padding
 
     def packets(self) -> Iterator[Packet]:
+        """Returns the packets."""
         head = self.read(16, may_end=True)
         while head:
             seconds, parts, kept, length = self.header.unpack(head)
@@ -107,6 +112,8 @@ class _Pcap(_File):
 
 
 class _Pcapng(_File):
+    """A file of pcapng: blocks, each with its type and its length at its beginning, in sections."""
+
     def __init__(self, file: BinaryIO) -> None:
         super().__init__(file)
         self.order, self.time = "<", 0
@@ -122,6 +129,7 @@ class _Pcapng(_File):
         return struct.unpack(self.order + layout, content[:size])
 
     def packets(self) -> Iterator[Packet]:
+        """Returns the packets."""
         self.begin_section()
         head = self.read(4, may_end=True)
         while head:
@@ -157,6 +165,7 @@ class _Pcapng(_File):
         self.read(count - 12)
 
     def take_interface(self, content: bytes) -> None:
+        """Takes the description of an interface. Without options its units are microseconds."""
         link, _reserved, most = self.unpack("HHI", content)
         options = self.options(content[8:])
         resolution = options.get(RESOLUTION_OPTION, b"\6")[0]
@@ -176,11 +185,13 @@ class _Pcapng(_File):
         return found
 
     def interface(self, index: int) -> Interface:
+        """Returns an interface of the section."""
         if index >= len(self.interfaces):
             raise self.error(f"there is no interface {index}")
         return self.interfaces[index]
 
     def timed(self, index: int, high: int, low: int, kept: int, length: int, content: bytes) -> Packet:
+        """Returns a packet with a time, in units of its interface."""
         interface = self.interface(index)
         if kept > len(content) or kept > length:
             raise self.error(f"{kept} of {length} bytes are kept, and its block has room for {len(content)}")
@@ -188,15 +199,17 @@ class _Pcapng(_File):
         return self.packet(interface.link, self.time, content[:kept], length)
 
     def enhanced_packet(self, content: bytes) -> Packet:
+        """Returns the packet of a block of today's writers."""
         index, high, low, kept, length = self.unpack("IIIII", content)
         return self.timed(index, high, low, kept, length, content[20:])
 
     def old_packet(self, content: bytes) -> Packet:
+        """Returns the packet of a block of older writers."""
         index, _drops, high, low, kept, length = self.unpack("HHIIII", content)
         return self.timed(index, high, low, kept, length, content[20:])
 
     def simple_packet(self, content: bytes) -> Packet:
-        """A block without a time: it gets that of the packet before."""
+        """Returns the packet of a block without a time: it gets that of the packet before."""
         interface, (length,) = self.interface(0), self.unpack("I", content)
         kept = min(length, interface.most or length)
         if kept > len(content) - 4:

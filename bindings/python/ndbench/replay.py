@@ -134,6 +134,7 @@ class _Commented:
     comments: List[str] = field(default_factory=list)
 
     def written(self) -> Written:
+        """Returns the frame with its comments as lines of one."""
         return Written(self.time, self.frame, self.is_sent, "\n".join(self.comments))
 
 

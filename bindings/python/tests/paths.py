@@ -3,6 +3,7 @@ from __future__ import annotations
 
 import sys
 from pathlib import Path
+from types import ModuleType
 from typing import Iterator, List, Optional, Tuple
 
 TOP = Path(__file__).resolve().parents[3]
@@ -10,7 +11,7 @@ EXAMPLES = TOP / "examples"
 PYTHON = TOP / "bindings" / "python"
 
 
-def corpus():  # type: ignore[no-untyped-def]
+def corpus() -> ModuleType:
     """Returns the module that reads the corpus, bindings/tests/corpus.py."""
     sys.path.insert(0, str(TOP / "bindings" / "tests"))
     try:

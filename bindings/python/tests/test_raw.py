@@ -37,7 +37,7 @@ def enumerations_of(code: str) -> Dict[str, Dict[str, int]]:
     return found
 
 
-def numbers_of(header_name: str, values: Dict[str, int]) -> Dict[str, int]:
+def numbers_of(values: Dict[str, int]) -> Dict[str, int]:
     """Returns the values by the names that raw.py has for them: without what all of them begin with."""
     prefix = os.path.commonprefix(list(values)).rpartition("_")[0] + "_"
     return {name[len(prefix):]: value for name, value in values.items()}
@@ -66,7 +66,7 @@ class Numbers(unittest.TestCase):
         self.assertEqual(set(found), set(raw.ENUMERATIONS))
         for name, kind in raw.ENUMERATIONS.items():
             with self.subTest(name):
-                self.assertEqual({member.name: member.value for member in kind}, numbers_of(name, found[name]))
+                self.assertEqual({member.name: member.value for member in kind}, numbers_of(found[name]))
 
     def test_numbers_of_the_node_in_c_are_the_same(self) -> None:
         found = enumerations_of(code_of("dist"))
@@ -74,7 +74,7 @@ class Numbers(unittest.TestCase):
         for name, values in found.items():
             with self.subTest(name):
                 members = {member.name: member.value for member in raw.ENUMERATIONS[name]}
-                self.assertLessEqual(numbers_of(name, values).items(), members.items())
+                self.assertLessEqual(numbers_of(values).items(), members.items())
 
     def test_unknown_numbers_are_taken(self) -> None:
         for name, kind in raw.ENUMERATIONS.items():
