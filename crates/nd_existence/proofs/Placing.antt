@@ -1,5 +1,5 @@
 -- Each neighbour has place or hasn't, and a packet to one that has place goes, as one that has place is wanted.
-use Rattle.std.proofs.Common.{◌≡◌, ℕ, Bool, true, false, ltb, List, [], ◌∷◌, length, Option, Some, None, refl, sym, ◌∙◌, ap, subst, arith, ◌⊎◌, inl, inr}
+use Rattle.std.proofs.Common.{◌≡◌, ℕ, Bool, true, false, ltb, List, ◌∷◌, length, Option, Some, None, refl, sym, ◌∙◌, ap, subst, arith, ◌⊎◌, inl, inr}
 use Rattle.std.specs.Prelude.{MatchBool, ◌&&◌, ◌||◌, not, is_some}
 use Rattle.std.specs.Option.{option_to_list}
 use Rattle.nd_addr.specs.declared.addr.Addr.{Addr}
