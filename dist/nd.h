@@ -87,7 +87,8 @@
  *
  * FRAMES IN. From the Ethernet destination on, without a VLAN tag and without a frame check
  * sequence; of at most ND_FRAME_BYTES bytes (else ND_INVALID is returned); padding is ignored.
- *   - The node does not look at Ethernet addresses. The caller passes frames to the interface's own
+ *   - The node does not look at Ethernet addresses, but for a router with ND_POLICY_UNICAST, which
+ *     looks at the destination of what it would forward. The caller passes frames to the interface's own
  *     address and to multicast addresses, and no others. A router would forward others once more.
  *     To a router it passes a frame to a multicast address only if that carries ICMPv6 of types 133
  *     to 137: each router of the link would forward the packet in any other.
@@ -257,6 +258,12 @@ enum nd_policy {
     /* Of a Router Advertisement, a Cur Hop Limit below 32, a Reachable Time outside 1,000 to
      * 3,600,000 ms and a Retrans Timer outside 100 to 30,000 ms are read as 0, unspecified. */
     ND_POLICY_TIMERS = 4,
+
+    /* A message whose source is one of the node's assigned addresses is dropped (ND_WHY_NOT_FOR_US),
+     * and so is a packet in transit whose source is an address of its own. A source or target
+     * link-layer address that is a group's (the lowest bit of its first byte is set), zeros or
+     * the node's own is passed over, as if the option were not there. */
+    ND_POLICY_SELF = 8,
 
     /* A router sends on only packets whose frame has its own address as the Ethernet destination,
      * and drops others that are not for it. At a host it has no effect. */
