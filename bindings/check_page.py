@@ -124,7 +124,8 @@ def check_longest_in_node(what, path):
                f"2000 send {frames.HOST} ff02::1 17 {'41' * (longest - 31)}\n"]
     said = run(["node", f"{TESTS}/runs.mjs", path], input=json.dumps([[words, script] for script in scripts]))
     texts = json.loads(said.stdout or '["", "", ""]')
-    are_bounded = [text.startswith(f"Error: {count} bytes are too many for this page\n") for text, count in zip(texts[1:], (longest + 1, longest - 31))]
+    wanted = [f"line {number}: {count} bytes are too many for this page\n" for number, count in ((2, longest + 1), (1, longest - 31))]
+    are_bounded = [text.endswith(line) for text, line in zip(texts[1:], wanted)]
     is_right = texts[0].endswith("2100 drop 2 NotIpv6\n") and all(are_bounded)
     report_if(f"{what} in node: the longest frame, and one byte more", is_right, said.stderr + "\n".join(text[:200] for text in texts))
 
@@ -143,6 +144,35 @@ def check_captures_in_node(what, path):
     lines = said.stdout.decode().splitlines()
     report_if(f"{what} in node: {count} frames that are longer than their blocks", lines == ["the block ends within this frame"] * count,
               said.stderr.decode() + "\n".join(line[:100] for line in lines[:4]))
+
+
+# Lines that are malformed by docs/FORMATS.md or docs/LIMITS.md, and what these say is expected in the place of a word of theirs.
+MALFORMED = {
+    "x at": "a number from 0 to 4611686018427387903", "10 shw params": "a command: at, rx, send,", "10 send fe80::1 ff02::1 256 -": "a number from 0 to 255",
+    "10 confirm fe80": "an IPv6 address", "10 rx 123": "an even number of hexadecimal digits", "10 prefix 2001:db8::/129 - - la": "a prefix",
+    "10 prefix 2001:db8::/64 - - al": "flags: -, or some of the letters l a in this order", "10 at 5": "the end of the line",
+    "10 clear params": "neighbours, routers, prefixes, redirects, dns", "10 show": "neighbours, routers, prefixes, addresses, dns, redirects, params,",
+    "10 prefix fe80::/64 - - la": "no link-local or multicast prefix", "10 advertise 3 3 - 64 - 0 0 0": "max from 4 to 1800"}
+
+
+def check_faults_in_node(path):
+    """Requires that the rows of the corpus with a malformed line end with its number, and that what is expected is what docs/FORMATS.md says."""
+    if not has_node("what is expected"):
+        return
+    rows = [row for row in corpus.read().rows if row.malformed and row.words[0] == "run" and row.script.split("\n")[row.malformed - 1]]
+    words = ["run", "--role", "router", "--mac", frames.HOST_MAC, "--draws", "word:0"]
+    runs = [[row.words, row.script] for row in rows] + [[words, f"5 at\n\n{line}\n6 at\n"] for line in MALFORMED]
+    texts = json.loads(run(["node", f"{TESTS}/runs.mjs", path], input=json.dumps(runs)).stdout or "[]")
+    wrong = [f"{row.name}: {text!r}" for row, text in zip(rows, texts)
+             if not re.fullmatch(re.escape(row.text) + rf"line {row.malformed}: found .+\. Expected: .+\n", text)]
+    expected = [re.fullmatch(r"(?:\d+ .*\n)*line 3: found .+\. Expected: (.+)\n", text) for text in texts[len(rows):]]
+    wrong += [f"{line}: {it and it[1]}" for (line, part), it in zip(MALFORMED.items(), expected) if not it or part not in it[1]]
+    report_if(f"the page in node: {len(runs)} malformed lines have their number and what is expected", len(texts) == len(runs) > len(MALFORMED) and not wrong,
+              "\n".join(wrong))
+    formats, usages = " ".join(read(f"{TOP}/docs/FORMATS.md").split()), re.search(r"const USAGES = \{(.*?)\n\};", read(path), re.S)[1]
+    forms = re.findall(r"(\w+): '(<ms> [^:']*)", usages)
+    wrong = [form for verb, form in forms if f"`{form}`" not in formats or form.split()[1] != verb]
+    report_if("the page has the lines of ndpctl run as docs/FORMATS.md has them", len(forms) == 14 and not wrong, "\n".join(wrong))
 
 
 class Browser:
@@ -242,6 +272,17 @@ while (document.querySelectorAll('.step').length !== {len(it["lines"])}) await g
     return None
 
 
+def check_fault_in_browser(browser, path):
+    text = browser.after(path, """document.getElementById('tab-node').click();
+const script = document.getElementById('script');
+script.value = '500 at\\n\\n6000 shw addresses';
+script.dispatchEvent(new Event('input'));
+while (!document.querySelector('.fault')) await go();""")
+    said = html.unescape(re.sub(r"<[^>]*>", "", re.search(r'<div class="fault">(.*?)</div>', text)[1]))
+    is_right = said.startswith("Line 3, “6000 shw addresses”") and re.search(r"“shw”\. Expected: .*\bshow\b", said)
+    report_if("the page in a browser: a malformed line has its number and what is expected", is_right, said)
+
+
 def check_link_in_browser(browser, path):
     """Opens the page by a link in capitals, and then a tab. Asks for what its policy forbids: nothing may be fetched."""
     text = browser.after(path, """document.getElementById('tab-pair').click();
@@ -268,6 +309,7 @@ def check_in_browser(path, room):
     for name, data in files_of_link().items():
         report_rows(f"the page in a browser, {name} dropped on it", rows, lines_in(browser.after(path, dropped(data, name))))
     check_link_in_browser(browser, path)
+    check_fault_in_browser(browser, path)
     return check_runs_in_browser(browser, path, room)
 
 
@@ -308,4 +350,5 @@ def check_page(room):
     check_runs_in_node("the page", page.PAGE, room)
     check_longest_in_node("the page", page.PAGE)
     check_captures_in_node("the page", page.PAGE)
+    check_faults_in_node(page.PAGE)
     return check_in_browser(page.PAGE, room)

@@ -44,18 +44,29 @@ function step(line, lines, tables) {
     return made('div', 'step', commandLine(line), ...lines.map(outputLine), details);
 }
 
+// The element of what is wrong: in a line, which is marked in the script if that is asked for, or in the options.
+function faultElement(fault) {
+    if (!fault.number) return made('div', 'fault', fault.message);
+    const button = made('button', '', 'Show the line'), before = find('script').value.split('\n').slice(0, fault.number - 1);
+    button.addEventListener('click', () => {
+        const begin = before.join('\n').length + Math.sign(before.length);
+        find('script').focus();
+        find('script').setSelectionRange(begin, begin + find('script').value.slice(begin).split('\n')[0].length);
+    });
+    return made('div', 'fault', made('b', '', `Line ${fault.number}`), `, “${cut(fault.line)}”: ${fault.message} `, button);
+}
+
 // Runs the script from its beginning, up to the first line that is malformed.
 async function runScript() {
-    const mine = ++runs, steps = [], module = await compiled();
+    const mine = ++runs, steps = [], module = await compiled(), lines = find('script').value.split('\n');
     try {
         const node = await opened(module, { role: find('node-role').value, mac: find('node-mac').value, draws: find('node-draws').value });
-        for (const line of find('script').value.split('\n').map((it) => it.trim()).filter((it) => it !== '').slice(0, MOST_LINES)) {
-            steps.push(made('div', 'step', commandLine(line)));
-            const { now, lines } = answer(node, line);
-            steps.splice(-1, 1, step(line, lines, tablesNow(node, node.lastMoment() > now ? node.lastMoment() : now)));
+        for (const { line, now, lines: said } of answers(node, lines.slice(0, MOST_LINES).join('\n'))) {
+            steps.push(step(line, said, tablesNow(node, node.lastMoment() > now ? node.lastMoment() : now)));
         }
+        if (lines.length > MOST_LINES) steps.push(made('div', 'fault', `The lines behind line ${MOST_LINES} are not run.`));
     } catch (fault) {
-        steps.push(made('div', 'fault', fault instanceof Malformed ? `malformed: ${fault.message}` : String(fault.message)));
+        steps.push(faultElement(fault));
     }
     // A later run may have ended before this one.
     if (mine !== runs) return;

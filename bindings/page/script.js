@@ -15,8 +15,26 @@ const REASONS = @REASONS@;
 const POLICIES = { timers: 4, self: 8, unicast: 16 };
 const FOREVER = 2n ** 64n - 1n, MOMENT_LIMIT = 2n ** 62n;
 
-// What is wrong with a line.
-class Malformed extends Error {}
+// What a line of the script may be, by its word, and what its numbers may be beyond that (docs/FORMATS.md, docs/LIMITS.md).
+const USAGES = {
+    at: '<ms> at', rx: '<ms> rx <hex>', send: '<ms> send <source> <destination> <next header> <hex>', resolve: '<ms> resolve <address>',
+    confirm: '<ms> confirm <address>', forget: '<ms> forget <address>', clear: '<ms> clear <table>',
+    address: '<ms> address <address> <valid> <preferred>: a unicast address but :: and ::1, a valid lifetime above 0, a preferred one not above it',
+    withdraw: '<ms> withdraw <address>',
+    advertise: '<ms> advertise <min> <max> <lifetime> <hop limit> <flags> <reachable> <retrans> <mtu>: max from 4 to 1800, min from 3 to three quarters of '
+        + 'max, lifetime 0 (then without h or l) or from max to 9000, reachable at most 3600000, mtu 0 or from 1280 to 1500',
+    prefix: '<ms> prefix <prefix> <valid> <preferred> <flags>: no link-local or multicast prefix, and the preferred lifetime not above the valid one',
+    route: '<ms> route <prefix> <address>: or direct in place of the address', stop: '<ms> stop', show: '<ms> show <table>',
+};
+
+// What is wrong with a line or an option: the word that is found, and what is expected in its place. A line that is malformed gets its number and its text.
+class Malformed extends Error {
+    constructor(found, expected) {
+        super(`found ${found}. Expected: ${expected}`);
+    }
+}
+
+const quoted = (word) => (word === '' ? 'an empty word' : `“${word}”`);
 
 // ---- words of a line
 
@@ -24,52 +42,62 @@ class Words {
     constructor(line) {
         this.words = line.split(' ');
     }
-    next() {
-        if (this.words.length === 0) throw new Malformed('a word is missing');
+    next(expected) {
+        if (this.words.length === 0) throw new Malformed('the end of the line', expected);
         return this.words.shift();
     }
     // Reads a number below a limit, or takes another one for `-`.
     number(limit = 2n ** 32n, other = null) {
-        const word = this.next();
+        const expected = `a number from 0 to ${limit - 1n}, without leading zeros${other === null ? '' : ', or -'}`, word = this.next(expected);
         if (word === '-' && other !== null) return BigInt(other);
-        if (!/^(0|[1-9][0-9]*)$/.test(word) || BigInt(word) >= limit) throw new Malformed(`“${word}” is no such number`);
+        if (!/^(0|[1-9][0-9]*)$/.test(word) || BigInt(word) >= limit) throw new Malformed(quoted(word), expected);
         return BigInt(word);
     }
     address() {
-        return addressOf(this.next());
+        return addressOf(this.next(ADDRESS_EXPECTED));
     }
     prefix() {
-        const [address, bits, more] = this.next().split('/');
-        if (more !== undefined || !/^(0|[1-9][0-9]{0,2})$/.test(bits ?? '') || Number(bits) > 128) throw new Malformed('a prefix is address/length');
+        const expected = 'a prefix, such as 2001:db8::/64', word = this.next(expected), [address, bits, more] = word.split('/');
+        if (more !== undefined || !/^(0|[1-9][0-9]{0,2})$/.test(bits ?? '') || Number(bits) > 128) throw new Malformed(quoted(word), expected);
         return { prefix: addressOf(address), bits: Number(bits) };
     }
     hex() {
-        const word = this.next();
-        if (word !== '-' && !/^([0-9a-f]{2})+$/i.test(word)) throw new Malformed('bytes are hexadecimal digits, or - for none');
+        const expected = 'an even number of hexadecimal digits, or - for no byte', word = this.next(expected);
+        if (word !== '-' && !/^([0-9a-f]{2})+$/i.test(word)) throw new Malformed(quoted(word), expected);
         return Uint8Array.from(word === '-' ? [] : word.match(/../g), (byte) => parseInt(byte, 16));
     }
     // Reads flags: `-`, or letters in their order.
     flags(letters) {
-        const word = this.next();
+        const expected = `flags: -, or some of the letters ${[...letters].join(' ')} in this order`, word = this.next(expected);
         const allowed = new RegExp(`^(-|${[...letters].map((it) => `${it}?`).join('')})$`);
-        if (word === '' || !allowed.test(word)) throw new Malformed(`“${word}” are no flags`);
+        if (word === '' || !allowed.test(word)) throw new Malformed(quoted(word), expected);
         return word;
     }
     end() {
-        if (this.words.length > 0) throw new Malformed(`“${this.words[0]}” is too much`);
+        if (this.words.length > 0) throw new Malformed(quoted(this.words[0]), 'the end of the line');
+    }
+    // Reads one of several words.
+    oneOf(choices, what) {
+        const expected = `${what}: ${choices.join(', ')}`, word = this.next(expected);
+        if (!choices.includes(word)) throw new Malformed(quoted(word), expected);
+        return word;
     }
 }
+
+const ADDRESS_EXPECTED = 'an IPv6 address, such as fe80::1';
 
 function addressOf(text) {
     const [before, after, more] = text.split('::').map((half) => (half === '' ? [] : half.split(':')));
     const groups = [...before, ...(after ?? [])], zeros = 8 - groups.length;
-    if (more || groups.some((it) => !/^[0-9a-f]{1,4}$/i.test(it)) || (after ? zeros < 1 : zeros !== 0)) throw new Malformed(`“${text}” is no address`);
+    if (more || groups.some((it) => !/^[0-9a-f]{1,4}$/i.test(it)) || (after ? zeros < 1 : zeros !== 0)) {
+        throw new Malformed(quoted(text), ADDRESS_EXPECTED);
+    }
     const all = [...before, ...Array(after ? zeros : 0).fill('0'), ...(after ?? [])];
     return Uint8Array.from(all.flatMap((it) => [parseInt(it, 16) >> 8, parseInt(it, 16) & 255]));
 }
 
 function macOf(text) {
-    if (!/^([0-9a-f]{2}:){5}[0-9a-f]{2}$/i.test(text)) throw new Malformed(`“${text}” is no Ethernet address`);
+    if (!/^([0-9a-f]{2}:){5}[0-9a-f]{2}$/i.test(text)) throw new Malformed(quoted(text), 'an Ethernet address, such as 34:56:78:9a:bc:de');
     return Uint8Array.from(text.split(':'), (byte) => parseInt(byte, 16));
 }
 
@@ -177,10 +205,9 @@ const EVENTS = {
     confirm: ofAddress('nd_confirm'),
     forget: ofAddress('nd_forget'),
     clear: (node, now, words) => {
-        const table = CLEARABLES.indexOf(words.next());
+        const table = words.oneOf(CLEARABLES.slice(1), 'a table that can be cleared');
         words.end();
-        if (table < 1) throw new Malformed('no such table can be cleared');
-        return node.call('nd_clear', now, new Narrow(table));
+        return node.call('nd_clear', now, new Narrow(CLEARABLES.indexOf(table)));
     },
     address: (node, now, words) => {
         const address = words.address();
@@ -208,7 +235,7 @@ const EVENTS = {
         return node.call('nd_offer', now, node.at);
     },
     route: (node, now, words) => {
-        const prefix = words.prefix(), hop = words.next();
+        const prefix = words.prefix(), hop = words.next(`${ADDRESS_EXPECTED}, or direct`);
         words.end();
         node.write('route', { ...prefix, ...(hop === 'direct' ? { hop: 1 } : { hop: 2, router: addressOf(hop) }) });
         return node.call('nd_route', now, node.at);
@@ -220,8 +247,10 @@ const EVENTS = {
 
 // Opens a node with the words of the command line of `ndpctl run`, the limits among them by their names, and the moment of its start.
 async function opened(module, { role, mac: address, draws = 'seed:0', transmits = 1, policy = '', start = 0, ...limits }) {
-    const [, source, seed] = /^(seed|word):(\d+)$/.exec(draws) ?? [];
-    if (!source) throw new Malformed('draws are seed:<n> or word:<n>');
+    const [, source, seed] = /^(seed|word):(0|[1-9]\d*)$/.exec(draws) ?? [];
+    if (!source || BigInt(seed) >= 2n ** (source === 'seed' ? 64n : 32n)) {
+        throw new Malformed(quoted(draws), 'random words: seed: and a number below 2^64, or word: and one below 2^32, such as word:0');
+    }
     const { exports } = await WebAssembly.instantiate(module, {});
     const draw = { draws: source === 'word' ? 1 : 0, seed };
     const policies = policy.split(',').reduce((bits, word) => bits | (POLICIES[word] ?? 0), 0);
@@ -232,12 +261,11 @@ async function opened(module, { role, mac: address, draws = 'seed:0', transmits 
 
 // Does a line at a node. Returns its moment, the records, and the lines of its output.
 function answer(node, line) {
-    const words = new Words(line), now = words.number(MOMENT_LIMIT), verb = words.next(), last = node.lastMoment();
-    const table = verb === 'show' ? words.next() : null;
-    if (verb === 'show' ? !(table in TABLES) : !(verb in EVENTS)) throw new Malformed(`“${table ?? verb}” is unknown`);
+    const words = new Words(line), now = words.number(MOMENT_LIMIT), verb = words.oneOf(Object.keys(USAGES), 'a command'), last = node.lastMoment();
+    const table = verb === 'show' ? words.oneOf(Object.keys(TABLES), 'a table') : null;
     const status = (EVENTS[verb] ?? EVENTS.at)(node, now, words);
     if (status === NO_MEMORY) throw new Error('the memory of the module is full');
-    if (status === INVALID) throw new Malformed('a value is outside its range');
+    if (status === INVALID) throw new Malformed('a value outside its range', USAGES[verb]);
     const records = node.records(), lines = records.map((it) => `${it.moment} ${recordText(it)}`);
     if (status === PAST) lines.push(`${now} refused past ${last}`);
     if (verb === 'resolve' && status >= DONE) lines.push(`${now} ${node.answered}`);
@@ -246,4 +274,17 @@ function answer(node, line) {
         lines.push(...rows.map((it) => `${now} ${it}`), `${now} end ${rows.length}`);
     }
     return { now, records, lines };
+}
+
+// Does the lines of a script at a node, one after the other: yields each with its number and what `answer` returns. Empty lines are passed over. The error of
+// a line has its number and its text.
+function* answers(node, script) {
+    for (const [index, text] of script.split('\n').entries()) {
+        const line = text.trim(), number = index + 1;
+        try {
+            if (line !== '') yield { number, line, ...answer(node, line) };
+        } catch (fault) {
+            throw Object.assign(fault, { number, line });
+        }
+    }
 }
