@@ -13,13 +13,15 @@ import sys
 from check_programs import BINDINGS, NDPCTL, TESTS, difference
 from checking import IS_FULL, TOP, has, read, report_if, run, skip
 
-sys.path.insert(0, f"{BINDINGS}/targets")
+sys.path[:0] = [f"{BINDINGS}/targets", f"{BINDINGS}/python"]
 import corpus  # noqa: E402
 import frames  # noqa: E402
 import hostile  # noqa: E402
 import page  # noqa: E402
 import rules  # noqa: E402
 import scripts  # noqa: E402
+from nd import Why  # noqa: E402
+from ndbench.sections import section_of_drop  # noqa: E402
 
 ROLES = ("host", "router")
 BROWSERS = ("chromium", "chromium-browser", "google-chrome", "google-chrome-stable")
@@ -146,6 +148,12 @@ def check_captures_in_node(what, path):
               said.stderr.decode() + "\n".join(line[:100] for line in lines[:4]))
 
 
+def results(path, name, calls):
+    """Returns what a function of the page's script returns to calls, or the error."""
+    said = run(["node", f"{TESTS}/parts.mjs", path, name], input=json.dumps(calls))
+    return json.loads(said.stdout) if said.returncode == 0 else said.stderr
+
+
 # Lines that are malformed by docs/FORMATS.md or docs/LIMITS.md, and what these say is expected in the place of a word of theirs.
 MALFORMED = {
     "x at": "a number from 0 to 4611686018427387903", "10 shw params": "a command: at, rx, send,", "10 send fe80::1 ff02::1 256 -": "a number from 0 to 255",
@@ -173,6 +181,51 @@ def check_faults_in_node(path):
     forms = re.findall(r"(\w+): '(<ms> [^:']*)", usages)
     wrong = [form for verb, form in forms if f"`{form}`" not in formats or form.split()[1] != verb]
     report_if("the page has the lines of ndpctl run as docs/FORMATS.md has them", len(forms) == 14 and not wrong, "\n".join(wrong))
+
+
+def numbers_without_meaning(kind, lines, explained):
+    """Returns the lines that have a number, behind their first word, of which the page doesn't say what it is."""
+    return [f"{kind}: {word} in {line!r}" for line, words in zip(lines, explained) for word, meaning in words[kind == "frame":]
+            if re.fullmatch(r"[0-9]+|inf", word) and not meaning]
+
+
+def check_words_in_node(path):
+    """Requires that the page says of each number in the corpus what it is: of the rows of tables, of the lines of frames, and of the lines of a script."""
+    if not has_node("what numbers mean"):
+        return
+    texts = {"output": {line.split(" ", 1)[1] for row in corpus.runs() for line in row.text.splitlines()},
+             "frame": {line for _, line in [*corpus.checks(), *rows_of_link()] if line},
+             "script": {line for row in corpus.runs() for line in row.script.splitlines() if " rx " not in line}}
+    wrong, count = [], 0
+    for kind, lines in texts.items():
+        lines = sorted(lines)
+        explained = results(path, "explained", [[kind, line] for line in lines])
+        wrong += numbers_without_meaning(kind, lines, explained)
+        wrong += [f"{kind}: {line}" for line, words in zip(lines, explained) if " ".join(word for word, _ in words) != line]
+        count += len(lines)
+    report_if(f"the page in node: what each number is, in {count} lines", count > 400 and not wrong, "\n".join(wrong[:8]))
+    # RFC 4861, 6.3.2: of each, the name of the variable.
+    line = "params hop 64 mtu 1500 reachable 30000 15000 retrans 1000 managed 0 other 0"
+    said = [meaning.split(",")[0].split(":")[0] for word, meaning in results(path, "explained", [["output", line]])[0] if word.isdigit()]
+    wanted = ["CurHopLimit", "LinkMTU", "BaseReachableTime", "ReachableTime", "RetransTimer"]
+    report_if("the page in node: the numbers of params have their names", said[:5] == wanted, str(said))
+
+
+def check_sections_in_node(path):
+    """Requires that each frame that is dropped has the section that the test bench for Python names, and a message that its role doesn't take that which says
+    so: RFC 4861, 6.1.1 of a host, 8.2 of a router."""
+    if not has_node("sections of the RFCs"):
+        return
+    lines = [(frame, line) for frame, both in changed_frames(STEP) for line in both] + [(frame, line) for frame, line in corpus.checks() if frame]
+    dropped = {(int(line.split()[1]), frame) for frame, line in lines if line.startswith("drop ")}
+    known = sorted((number, frame) for number, frame in dropped if number != 19)
+    own = {int(frame[108:110], 16): frame for number, frame in dropped if number == 19}
+    wanted = [section_of_drop(Why(number), bytes.fromhex(frame)) for number, frame in known] + ["RFC 4861, 6.1.1", "RFC 4861, 8.2"]
+    calls = [[number, list(bytes.fromhex(frame))] for number, frame in known] + [[19, list(bytes.fromhex(own[kind]))] for kind in (133, 137)]
+    said = [section and "RFC {}, {}".format(*section.split()) for section in results(path, "sectionOf", calls)]
+    wrong = [f"{number} {frame[:120]}: {is_so}, not {it}" for (number, frame), is_so, it in zip([*known, (19, ""), (19, "")], said, wanted) if is_so != it]
+    report_if(f"the page in node: the sections of {len(wanted)} frames that are dropped, of {len({it[0] for it in known})} reasons",
+              {it[0] for it in known} == set(range(1, 19)) and len(said) == len(wanted) and not wrong, "\n".join(wrong[:6]))
 
 
 class Browser:
@@ -210,7 +263,12 @@ def lines_in(text):
     """Returns the lines of a page in the order of their frames."""
     pattern = r'<details class="\w+" data-index="(\d+)"><summary><span class="nr">\d+</span><span><span class="line"><b>(.*?)</b>(.*?)</span>'
     rows = re.findall(pattern, text, re.S)
-    return [html.unescape(bold + behind) for _, bold, behind in sorted(rows, key=lambda row: int(row[0]))]
+    return [text_of(bold + behind) for _, bold, behind in sorted(rows, key=lambda row: int(row[0]))]
+
+
+def text_of(markup):
+    """Returns what is read of a part of a page."""
+    return html.unescape(re.sub(r"<[^>]*>", "", markup))
 
 
 def pcap_of(frames):
@@ -278,7 +336,7 @@ const script = document.getElementById('script');
 script.value = '500 at\\n\\n6000 shw addresses';
 script.dispatchEvent(new Event('input'));
 while (!document.querySelector('.fault')) await go();""")
-    said = html.unescape(re.sub(r"<[^>]*>", "", re.search(r'<div class="fault">(.*?)</div>', text)[1]))
+    said = text_of(re.search(r'<div class="fault">(.*?)</div>', text)[1])
     is_right = said.startswith("Line 3, “6000 shw addresses”") and re.search(r"“shw”\. Expected: .*\bshow\b", said)
     report_if("the page in a browser: a malformed line has its number and what is expected", is_right, said)
 
@@ -350,5 +408,6 @@ def check_page(room):
     check_runs_in_node("the page", page.PAGE, room)
     check_longest_in_node("the page", page.PAGE)
     check_captures_in_node("the page", page.PAGE)
-    check_faults_in_node(page.PAGE)
+    for check in (check_faults_in_node, check_words_in_node, check_sections_in_node):
+        check(page.PAGE)
     return check_in_browser(page.PAGE, room)

@@ -9,19 +9,29 @@ let runs = 0;
 // Digits, cut if they are many.
 const cut = (digits) => (digits.length > SHOWN_DIGITS ? `${digits.slice(0, SHOWN_DIGITS)}..` : digits);
 
-// What a frame says, as a quiet line.
+const bytesOf = (digits) => Uint8Array.from(digits.match(/../g) ?? [], (it) => parseInt(it, 16));
+
+// What a frame says, as a quiet line. What isn't whole bytes says nothing.
 function meaning(digits) {
-    return made('span', 'quiet', lineOf(Uint8Array.from(digits.match(/../g) ?? [], (it) => parseInt(it, 16)), 'either'));
+    return made('span', 'quiet', ...(digits.length % 2 ? [] : explainedWords('frame', lineOf(bytesOf(digits), 'either') ?? 'too long for this page')));
 }
 
-// The element of a line of output: its moment, its text with few digits, and of a frame what it says.
-function outputLine(line) {
-    const [moment, word, ...rest] = line.split(' '), element = made('div', `said ${word}`);
+// The element of a line of output: its moment, its text with few digits, of a frame what it says, and of a frame that is dropped why. `heard` is the frame
+// that the line is about, if it is about one.
+function outputLine(line, heard) {
+    const [moment, word, ...rest] = line.split(' '), element = made('div', `said ${word}`), at = made('abbr', 'moment', moment);
     const short = word === 'tx' || word === 'up' ? cut(rest[0]) : rest.join(' ');
+    at.title = SINCE_START;
     element.dataset.line = line;
-    element.append(made('span', 'moment', moment), made('span', 'line', made('b', '', word), ` ${short}`));
+    element.append(at, made('span', 'line', made('b', '', word), ...explainedWords('output', `${word} ${short}`).slice(1)));
     if (word === 'tx') element.append(meaning(rest[0]));
+    if (word === 'drop') element.append(made('span', 'quiet', `${dropMeaning(line.slice(moment.length + 1))}: `, ...dropSection(rest[0], heard)));
     return element;
+}
+
+function dropSection(reason, frame) {
+    const section = frame && sectionOf(reason, frame);
+    return section ? [sectionElement(section)] : [];
 }
 
 // The tables of a node at a moment, as they are now. Those without rows are left out.
@@ -30,18 +40,21 @@ function tablesNow(node, now) {
 }
 
 function tablesElement(tables) {
-    return made('div', 'frame', ...tables.map(([name, rows]) => made('div', '', made('b', '', name), ...rows.map((it) => made('div', 'line', it)))));
+    return made('div', 'frame', ...tables.map(([name, rows]) => made('div', '', made('b', '', name), 
+        ...rows.map((it) => made('div', 'line', ...explainedWords('output', it))))));
 }
 
 // The element of a line of the script.
 function commandLine(line) {
     const frame = /^(\d+ rx )([0-9a-f]+)$/i.exec(line);
-    return frame ? made('div', 'command', made('span', 'line', frame[1], cut(frame[2])), ' ', meaning(frame[2])) : made('div', 'line command', line);
+    if (frame) return made('div', 'command', made('span', 'line', ...explainedWords('script', `${frame[1]}${cut(frame[2])}`)), ' ', meaning(frame[2]));
+    return made('div', 'line command', ...explainedWords('script', line));
 }
 
 function step(line, lines, tables) {
     const details = made('details', 'tables', made('summary', '', 'tables after this line'), tablesElement(tables));
-    return made('div', 'step', commandLine(line), ...lines.map(outputLine), details);
+    const [, heard] = /^\d+ rx ([0-9a-f]+)$/i.exec(line) ?? [];
+    return made('div', 'step', commandLine(line), ...lines.map((it) => outputLine(it, heard && bytesOf(heard))), details);
 }
 
 // The element of what is wrong: in a line, which is marked in the script if that is asked for, or in the options.

@@ -20,6 +20,28 @@ function made(tag, name, ...inside) {
     return element;
 }
 
+// The words of a line, those that mean something with that as their title.
+function explainedWords(kind, line) {
+    return explained(kind, line).flatMap(([word, meaning]) => {
+        const element = made('abbr', '', word);
+        element.title = meaning;
+        return [meaning ? element : word, ' '];
+    }).slice(0, -1);
+}
+
+// A link to a section of an RFC.
+function sectionElement(section, text = sectionText(section)) {
+    return Object.assign(made('a', 'section', text), { href: sectionLink(section), target: '_blank', rel: 'noreferrer' });
+}
+
+// Links to sections, each behind the number of its RFC if that isn't the one before.
+function sectionElements(sections) {
+    return sections.flatMap((section, index) => {
+        const [rfc, part] = section.split(' ');
+        return [index ? ', ' : '', sectionElement(section, rfc === sections[index - 1]?.split(' ')[0] ? part : sectionText(section))];
+    });
+}
+
 // Returns what a frame is: its kind, its line, and the number of the reason to drop it.
 function tell(frame) {
     if (typeof frame === 'string') return { kind: 'unread', line: frame };
@@ -32,6 +54,12 @@ function tell(frame) {
 // The part of a reason in the table below, as text.
 function reasonText(number) {
     return find(`reason-${number}`)?.cells[1].textContent ?? '';
+}
+
+// What a line says of a frame that is dropped, or null if it drops none.
+function dropMeaning(line) {
+    const dropped = /^drop (\d+) /.exec(line);
+    return dropped && `the frame ${reasonText(dropped[1]) || 'is a Redirect that is not from the first hop'}`;
 }
 
 function fieldTable(frame, reason) {
@@ -62,10 +90,11 @@ function openedRow(frame, told) {
 }
 
 function rowOf(frame, told, index) {
-    const [first, ...rest] = told.kind === 'unread' ? ['not read'] : told.line.split(' ');
+    const [first] = told.kind === 'unread' ? ['not read'] : told.line.split(' ');
     const bold = told.kind === 'drop' ? told.line : first;
-    const behind = told.kind === 'unread' ? `: ${told.line}` : told.kind === 'drop' ? '' : ` ${rest.join(' ')}`;
-    const line = made('span', 'line', made('b', '', bold), behind), meaning = made('span', 'quiet', told.reason ? `it ${reasonText(told.reason)}` : '');
+    const behind = { unread: [`: ${told.line}`], drop: [] }[told.kind] ?? explainedWords('frame', told.line).slice(1);
+    const line = made('span', 'line', made('b', '', bold), ...behind), meaning = made('span', 'quiet');
+    if (told.reason) meaning.append(`it ${reasonText(told.reason)}: `, sectionElement(sectionOf(told.reason, frame)));
     const row = made('details', told.kind, made('summary', '', made('span', 'nr', String(index + 1)), made('span', '', line, ' ', meaning)));
     row.dataset.index = index;
     row.addEventListener('toggle', () => {
@@ -164,6 +193,9 @@ function takeLink() {
 }
 
 function start() {
+    for (const row of [...find('reasons').rows].slice(1)) {
+        row.append(made('td', 'sections', ...sectionElements(sectionsOf(Number(row.id.slice(7))))));
+    }
     for (const { title, digits } of EXAMPLES) {
         const button = made('button', '', title);
         button.addEventListener('click', () => take(digits.join('\n')));

@@ -19,7 +19,8 @@ import rules  # noqa: E402
 SOURCE = f"{BINDINGS}/page"
 PAGE = f"{TOP}/docs/try/index.html"
 # The parts of the page's script. Those before view.js need no browser.
-SCRIPTS = ["tell.js", "capture.js", "fields.js", "node.js", "script.js", "view.js", "pair.js", "run.js"]
+SCRIPTS = ["tell.js", "capture.js", "fields.js", "sections.js", "node.js", "script.js", "words.js",
+           "view.js", "pair.js", "run.js"]
 # The modules: the crate, where Rattle's module of it is, its memory, and its functions.
 MODULES = {"tell": ("nd_tell_c", f"{OUT}/tell", 32 * build.PAGE, lambda: ["nd_tell"]), "node": ("nd_c", OUT, 16 * build.PAGE, build.functions)}
 
@@ -52,19 +53,27 @@ def unpacked(text):
     return gzip.decompress(base64.b64decode(text))
 
 
+def blocks(name):
+    """Returns the blocks of lines of a file of the source, without its head."""
+    return [block.split("\n") for block in re.split(r"\n\n+", re.sub(r"^#.*\n", "", read(f"{SOURCE}/{name}"), flags=re.M).strip())]
+
+
 def examples():
     """Returns the examples of the page: titles and lines of digits."""
-    blocks = re.split(r"\n\n+", re.sub(r"^#.*\n", "", read(f"{SOURCE}/examples.txt"), flags=re.M).strip())
-    found = [{"title": title, "digits": digits} for title, *digits in (block.split("\n") for block in blocks)]
+    found = [{"title": title, "digits": digits} for title, *digits in blocks("examples.txt")]
     return [*found, {"title": "Fourteen frames of a link", "digits": read(f"{TOP}/examples/link.hex").split()}]
 
 
 def scripts():
     """Returns the scripts of the page: titles, options and lines."""
-    blocks = re.split(r"\n\n+", re.sub(r"^#.*\n", "", read(f"{SOURCE}/scripts.txt"), flags=re.M).strip())
-    for title, options, *lines in (block.split("\n") for block in blocks):
+    for title, options, *lines in blocks("scripts.txt"):
         role, mac, draws = options.split()
         yield {"title": title, "role": role, "mac": mac, "draws": draws, "lines": lines}
+
+
+def words():
+    """Returns what the words of a line mean: by the kind of the line and the word, what each word behind it is."""
+    return {kind: {word: meanings for word, *meanings in (line.split(" | ") for line in lines)} for kind, *lines in blocks("words.txt")}
 
 
 def on_one_line(value):
@@ -74,6 +83,7 @@ def on_one_line(value):
 def page_of(modules, by):
     """Returns the page with its packed modules, by their names, and the tools that made them."""
     parts = {"TELL": modules["tell"], "NODE": modules["node"], "EXAMPLES": on_one_line(examples()), "SCRIPTS": on_one_line(list(scripts())),
+             "WORDS": on_one_line(words()),
              "REASONS": on_one_line(["", *rules.REASONS.values()]), "TOOLS": by,
              "SIZES": " and ".join(f"{len(unpacked(it)):,}" for it in modules.values()), "STYLE": read(f"{SOURCE}/page.css").rstrip("\n")}
     parts["SCRIPT"] = filled("\n\n".join(read(f"{SOURCE}/{name}").rstrip("\n") for name in SCRIPTS), parts)
