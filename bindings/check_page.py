@@ -1,19 +1,16 @@
 """check_page: docs/try/index.html. It is what bindings/page makes of its modules, and these are the ones that are made of the proved crates by the same
-tools. Rows of `ndpctl check`, and frames that are cut and changed, have the lines that they are to have, and rows of `ndpctl run` their texts: by node,
-and in a browser without a window."""
-import base64
-import html
+tools. Rows of `ndpctl check`, and frames that are cut and changed, have the lines that they are to have, and rows of `ndpctl run` their texts; a malformed
+line has its number; each number is explained, and each reason has its section: all this by node. What needs a browser is in check_browser."""
 import json
 import os
 import re
-import shutil
-import struct
 import sys
 
 from check_programs import BINDINGS, NDPCTL, TESTS, difference
 from checking import IS_FULL, TOP, has, read, report_if, run, skip
 
 sys.path[:0] = [f"{BINDINGS}/targets", f"{BINDINGS}/python"]
+import captures  # noqa: E402
 import corpus  # noqa: E402
 import frames  # noqa: E402
 import hostile  # noqa: E402
@@ -24,14 +21,21 @@ from nd import Why  # noqa: E402
 from ndbench.sections import section_of_drop  # noqa: E402
 
 ROLES = ("host", "router")
-BROWSERS = ("chromium", "chromium-browser", "google-chrome", "google-chrome-stable")
-# Of the frames that are cut and changed, so many are passed over before the next one: in node, and in the browser.
-STEP, BROWSER_STEP = 29, 1499
+# Of the frames that are cut and changed, so many are passed over before the next one.
+STEP = 29
 WORDS = {number: f"drop {number} {name}" for number, name in rules.REASONS.items()} | hostile.MESSAGES
 
 
 def rows_of_link():
     return list(zip(read(f"{TOP}/examples/link.hex").splitlines(), read(f"{TOP}/examples/link.txt").splitlines()))
+
+
+def files_of_link():
+    """Returns files with the frames of a link, by their names."""
+    text = read(f"{TOP}/examples/link.hex")
+    frames = [bytes.fromhex(digits) for digits in text.split()]
+    return {"link.pcap": captures.pcap_of(frames), "link.pcapng": captures.pcapng_of(frames), "link.hex": text.encode(),
+            "link.xx": captures.dump_of(frames)}
 
 
 def changed_frames(step):
@@ -142,7 +146,7 @@ def check_captures_in_node(what, path):
         report_if(f"{what} in node: the frames of {name}", said.stdout.decode().split() == digits, said.stderr.decode() + said.stdout.decode()[:400])
     count = 200
     lengths = [32 * (count - i) - 28 for i in range(count)]
-    said = run(["node", f"{TESTS}/captures.mjs", path], input=pcapng_of([b""] * count, lengths), text=False)
+    said = run(["node", f"{TESTS}/captures.mjs", path], input=captures.pcapng_of([b""] * count, lengths), text=False)
     lines = said.stdout.decode().splitlines()
     report_if(f"{what} in node: {count} frames that are longer than their blocks", lines == ["the block ends within this frame"] * count,
               said.stderr.decode() + "\n".join(line[:100] for line in lines[:4]))
@@ -228,149 +232,6 @@ def check_sections_in_node(path):
               {it[0] for it in known} == set(range(1, 19)) and len(said) == len(wanted) and not wrong, "\n".join(wrong[:6]))
 
 
-class Browser:
-    """A browser without a window, with a profile of its own. Its clock runs ahead, so that a page that is waited for is not kept long."""
-
-    def __init__(self, program, room):
-        self.room = room
-        self.words = [program, "--headless", "--no-sandbox", "--disable-gpu", "--disable-dev-shm-usage", f"--user-data-dir={room}/profile",
-                      "--virtual-time-budget=600000", "--dump-dom"]
-
-    def page(self, address, until=""):
-        """Returns the page as it is once its script has run. It is opened again if it does not have the words `until`: on a busy machine the clock may
-        run out before a module is compiled."""
-        for _ in range(4):
-            text = run([*self.words, address], timeout=180).stdout
-            if until in text:
-                break
-        return text
-
-    def after(self, path, script, fragment=""):
-        """Returns a page, of a copy, once a script has run behind its own."""
-        copy = f"{self.room}/page.html"
-        with open(copy, "w", encoding="utf-8") as file:
-            file.write(f"""{read(path)}<script type="module">
-const go = () => new Promise((then) => setTimeout(then, 10));
-while (!document.body.dataset.ready) await go();
-{script}
-document.body.dataset.done = 'yes';
-</script>
-""")
-        return self.page(f"file://{copy}{fragment}", 'data-done="yes"')
-
-
-def lines_in(text):
-    """Returns the lines of a page in the order of their frames."""
-    pattern = r'<details class="\w+" data-index="(\d+)"><summary><span class="nr">\d+</span><span><span class="line"><b>(.*?)</b>(.*?)</span>'
-    rows = re.findall(pattern, text, re.S)
-    return [text_of(bold + behind) for _, bold, behind in sorted(rows, key=lambda row: int(row[0]))]
-
-
-def text_of(markup):
-    """Returns what is read of a part of a page."""
-    return html.unescape(re.sub(r"<[^>]*>", "", markup))
-
-
-def pcap_of(frames):
-    """Returns a capture of frames, as tcpdump writes it."""
-    return struct.pack("<IHHiIII", 0xA1B2C3D4, 2, 4, 0, 0, 65535, 1) + b"".join(struct.pack("<IIII", 0, 0, len(it), len(it)) + it for it in frames)
-
-
-def block(kind, body):
-    padded = body + bytes(-len(body) % 4)
-    return struct.pack(">II", kind, len(padded) + 12) + padded + struct.pack(">I", len(padded) + 12)
-
-
-def pcapng_of(frames, lengths=None):
-    """Returns a capture of frames, as Wireshark writes it on a big-endian processor. The blocks say that the frames have these lengths, or their own."""
-    head = block(0x0A0D0D0A, struct.pack(">IHHq", 0x1A2B3C4D, 1, 0, -1)) + block(1, struct.pack(">HHI", 1, 0, 65535))
-    said = lengths or [len(it) for it in frames]
-    return head + b"".join(block(6, struct.pack(">IIIII", 0, 0, 0, length, length) + it) for it, length in zip(frames, said))
-
-
-def dump_of(frames):
-    """Returns frames as tcpdump -xx prints them."""
-    lines = []
-    for number, frame in enumerate(frames):
-        lines.append(f"10:00:{number:02}.000000 IP6 fe80::1 > ff02::1: ICMP6, length {len(frame) - 54}")
-        for at in range(0, len(frame), 16):
-            lines.append(f"\t0x{at:04x}:  " + " ".join(frame[i:i + 2].hex() for i in range(at, min(at + 16, len(frame)), 2)))
-    return ("\n".join(lines) + "\n").encode()
-
-
-def files_of_link():
-    """Returns files with the frames of a link, by their names."""
-    text = read(f"{TOP}/examples/link.hex")
-    frames = [bytes.fromhex(digits) for digits in text.split()]
-    return {"link.pcap": pcap_of(frames), "link.pcapng": pcapng_of(frames), "link.hex": text.encode(), "link.xx": dump_of(frames)}
-
-
-def dropped(data, name):
-    """Returns a script that drops a file on the page."""
-    return f"""const file = new DataTransfer(), bytes = Uint8Array.from(atob('{base64.b64encode(data).decode()}'), (it) => it.charCodeAt(0));
-file.items.add(new File([bytes], '{name}'));
-dispatchEvent(new DragEvent('drop', {{ dataTransfer: file, cancelable: true }}));
-while (!document.querySelector('#lists details')) await go();"""
-
-
-def check_runs_in_browser(browser, path, room):
-    """Chooses each script of the page, and compares what is shown with what `trace` prints."""
-    if not os.path.exists(f"{room}/trace"):
-        return skip("the scripts of the page in a browser", "trace was not built")
-    for index, it in enumerate(page.scripts()):
-        words = ["run", "--role", it["role"], "--mac", it["mac"], "--draws", it["draws"]]
-        wanted = traced(room, words, "".join(f"{line}\n" for line in it["lines"])).splitlines()
-        text = browser.after(path, f"""document.getElementById('tab-node').click();
-document.querySelectorAll('#scripts button')[{index}].click();
-while (document.querySelectorAll('.step').length !== {len(it["lines"])}) await go();""")
-        shown = [html.unescape(line) for line in re.findall(r' data-line="(.*?)"', text)]
-        report_if(f"the page in a browser, {it['title']!r}: {len(wanted)} lines", wanted and shown == wanted, "\n".join(shown[:4]))
-    said = browser.after(path, "while (!document.querySelector('#diagram svg')) await go();", "#pair")
-    report_if("the page in a browser: of two hosts one uses the address", "Host 1 uses the address." in said, said[-2000:])
-    return None
-
-
-def check_fault_in_browser(browser, path):
-    text = browser.after(path, """document.getElementById('tab-node').click();
-const script = document.getElementById('script');
-script.value = '500 at\\n\\n6000 shw addresses';
-script.dispatchEvent(new Event('input'));
-while (!document.querySelector('.fault')) await go();""")
-    said = text_of(re.search(r'<div class="fault">(.*?)</div>', text)[1])
-    is_right = said.startswith("Line 3, “6000 shw addresses”") and re.search(r"“shw”\. Expected: .*\bshow\b", said)
-    report_if("the page in a browser: a malformed line has its number and what is expected", is_right, said)
-
-
-def check_link_in_browser(browser, path):
-    """Opens the page by a link in capitals, and then a tab. Asks for what its policy forbids: nothing may be fetched."""
-    text = browser.after(path, """document.getElementById('tab-pair').click();
-while (!document.querySelector('#diagram svg')) await go();""", f"#HOST:{rows_of_link()[1][0].upper()}")
-    report_if("the page in a browser, by a link in capitals", 'data-done="yes"' in text and len(lines_in(text)) == 1, text[-1000:])
-    text = browser.after(path, """addEventListener('securitypolicyviolation', (event) => document.body.dataset.forbidden = event.effectiveDirective);
-fetch('data:,').catch(() => {});
-for (let i = 0; i < 100 && !document.body.dataset.forbidden; i++) await go();""")
-    report_if("the page in a browser fetches nothing", 'data-forbidden="connect-src"' in text, text[-1000:])
-
-
-def check_in_browser(path, room):
-    program = next(filter(None, map(shutil.which, BROWSERS)), None)
-    if not program:
-        return skip("the page in a browser", "chromium is not there (Debian: chromium)")
-    browser = Browser(program, room)
-    if "it runs" not in browser.page("data:text/html,<p>it runs</p>"):
-        return skip("the page in a browser", f"{os.path.basename(program)} shows no page here")
-    for name, role, rows in all_rows(BROWSER_STEP):
-        before = "" if role == "either" else f"{role}:"
-        text = browser.after(path, "", f"#{before}{','.join(frame for frame, _ in rows)}")
-        report_rows(f"the page in a browser, {name}", rows, lines_in(text))
-    rows = rows_of_link()
-    for name, data in files_of_link().items():
-        report_rows(f"the page in a browser, {name} dropped on it", rows, lines_in(browser.after(path, dropped(data, name))))
-    check_link_in_browser(browser, path)
-    check_fault_in_browser(browser, path)
-    return check_runs_in_browser(browser, path, room)
-
-
 def check_made_again(room):
     """Makes the modules of the page again, that of a node with ND_TARGETS=1. Their bytes are compared if the tools are those that the page names: others
     may make other bytes of the same code."""
@@ -410,4 +271,3 @@ def check_page(room):
     check_captures_in_node("the page", page.PAGE)
     for check in (check_faults_in_node, check_words_in_node, check_sections_in_node):
         check(page.PAGE)
-    return check_in_browser(page.PAGE, room)
