@@ -1,6 +1,8 @@
 """check_page: docs/try/index.html. It is what bindings/page makes of its modules, and these are the ones that are made of the proved crates by the same
-tools. Rows of `ndpctl check`, and frames that are cut and changed, have the lines that they are to have, and rows of `ndpctl run` their texts; a malformed
-line has its number; each number is explained, and each reason has its section: all this by node. What needs a browser is in check_browser."""
+tools. Rows of `ndpctl check`, and frames that are cut and changed, have the lines that they are to have, and rows of `ndpctl run` their texts, also where
+a host hears them as a capture; a malformed line has its number; each number is explained, and each reason has its section: all this by node. What needs
+a browser is in check_browser."""
+import base64
 import json
 import os
 import re
@@ -232,6 +234,29 @@ def check_sections_in_node(path):
               {it[0] for it in known} == set(range(1, 19)) and len(said) == len(wanted) and not wrong, "\n".join(wrong[:6]))
 
 
+def heard_by_an_interface(row):
+    """Returns the moments and frames of a row of `ndpctl run`, if the interface of a host passes it each of them, and nothing else happens."""
+    options = dict(zip(row.words[1::2], row.words[2::2]))
+    lines = [re.fullmatch(r"(\d+) (?:rx ([0-9a-f]{28,})|at)", line) for line in row.script.splitlines()]
+    if options["--role"] != "host" or not all(lines):
+        return []
+    heard, own = [(int(it[1]), bytes.fromhex(it[2])) for it in lines if it[2]], bytes.fromhex(options["--mac"].replace(":", ""))
+    return heard if all((it[0] & 1 or it[:6] == own) and it[6:12] != own for _, it in heard) else []
+
+
+def check_replays_in_node(path):
+    """Requires that a host that hears frames of the corpus as a capture does what the corpus says."""
+    if not has_node("captures that a host hears"):
+        return
+    known = [(row, heard, capture) for row in corpus.runs() for heard in [heard_by_an_interface(row)] if heard for capture in captures.captures_of(heard)]
+    runs = [[{word[2:]: value for word, value in zip(row.words[1::2], row.words[2::2])}, base64.b64encode(capture).decode(), heard[0][0],
+             int(row.script.splitlines()[-1].split()[0])] for row, heard, capture in known]
+    said = run(["node", f"{TESTS}/replays.mjs", path], input=json.dumps(runs))
+    texts = json.loads(said.stdout or "[]")
+    wrong = [f"{row.name}: {difference(text, row.text)}" for text, (row, _, _) in zip(texts, known) if text != row.text]
+    report_if(f"the page in node: a host hears {len(known)} captures", len(texts) == len(known) >= 20 and not wrong, said.stderr + "\n".join(wrong[:4]))
+
+
 def check_made_again(room):
     """Makes the modules of the page again, that of a node with ND_TARGETS=1. Their bytes are compared if the tools are those that the page names: others
     may make other bytes of the same code."""
@@ -269,5 +294,5 @@ def check_page(room):
     check_runs_in_node("the page", page.PAGE, room)
     check_longest_in_node("the page", page.PAGE)
     check_captures_in_node("the page", page.PAGE)
-    for check in (check_faults_in_node, check_words_in_node, check_sections_in_node):
+    for check in (check_faults_in_node, check_words_in_node, check_sections_in_node, check_replays_in_node):
         check(page.PAGE)

@@ -21,16 +21,18 @@ function frameOfDigits(text) {
     return Uint8Array.from(digits.match(/../g) ?? [], (byte) => parseInt(byte, 16));
 }
 
-// Returns the frames of a file: a capture of tcpdump or Wireshark, or a text.
-function framesOfFile(buffer) {
+// Returns the packets of a file: a capture of tcpdump or Wireshark, or a text. A packet has its frame, as framesOfText has one, the `length` that it had on
+// the link, and its `time` in nanoseconds since 1970; those of a text have neither.
+function packetsOfFile(buffer) {
     const magic = buffer.byteLength >= 24 ? new DataView(buffer).getUint32(0) : 0;
-    if (magic === 0x0a0d0d0a) return framesOfBlocks(buffer);
-    if ([0xa1b2c3d4, 0xa1b23c4d].includes(magic)) return framesOfPcap(buffer, false);
-    if ([0xd4c3b2a1, 0x4d3cb2a1].includes(magic)) return framesOfPcap(buffer, true);
-    return framesOfText(new TextDecoder().decode(buffer));
+    if (magic === 0x0a0d0d0a) return packetsOfBlocks(buffer);
+    if ([0xa1b2c3d4, 0xa1b23c4d].includes(magic)) return packetsOfPcap(buffer, false);
+    if ([0xd4c3b2a1, 0x4d3cb2a1].includes(magic)) return packetsOfPcap(buffer, true);
+    return framesOfText(new TextDecoder().decode(buffer)).map((frame) => ({ frame }));
 }
 
 const ETHERNET = 1;
+const SECOND = 10n ** 9n;
 const otherLink = (type) => `a frame of link type ${type}: only Ethernet (type 1) is read`;
 
 // A frame of a capture: its bytes, unless its link isn't Ethernet, or what it is in, the file or a block, ends before it does.
@@ -40,34 +42,58 @@ function captured(buffer, at, length, end, link) {
     return new Uint8Array(buffer.slice(at, at + length));
 }
 
-// A file of pcap: a header of 24 bytes, and each frame behind a header of 16.
-function framesOfPcap(buffer, little) {
-    const view = new DataView(buffer), link = view.getUint32(20, little) & 0xffff, frames = [];
+// A file of pcap: a header of 24 bytes, and each frame behind a header of 16. Its times are in microseconds or, by its first bytes, in nanoseconds.
+function packetsOfPcap(buffer, little) {
+    const view = new DataView(buffer), link = view.getUint32(20, little) & 0xffff, packets = [];
+    const part = view.getUint32(0, little) === 0xa1b23c4d ? 1n : 1000n;
     for (let at = 24; at + 16 <= buffer.byteLength; ) {
-        const length = view.getUint32(at + 8, little);
-        frames.push(captured(buffer, at + 16, length, buffer.byteLength, link));
-        at += 16 + length;
+        const [seconds, parts, kept, length] = [0, 4, 8, 12].map((field) => view.getUint32(at + field, little));
+        packets.push({ frame: captured(buffer, at + 16, kept, buffer.byteLength, link), length, time: BigInt(seconds) * SECOND + BigInt(parts) * part });
+        at += 16 + kept;
     }
-    return frames;
+    return packets;
 }
 
 // A file of pcapng: blocks, each with its type and its length at its beginning.
-function framesOfBlocks(buffer) {
-    const view = new DataView(buffer), frames = [];
-    let links = [], little = true;
+function packetsOfBlocks(buffer) {
+    const view = new DataView(buffer), packets = [];
+    let interfaces = [], little = true;
     for (let at = 0; at + 12 <= buffer.byteLength; ) {
         const type = view.getUint32(at, little);
         if (type === 0x0a0d0d0a) {
             little = view.getUint32(at + 8, true) === 0x1a2b3c4d;
-            links = [];
+            interfaces = [];
         }
         const length = view.getUint32(at + 4, little);
         if (length < 12 || at + length > buffer.byteLength) break;
-        if (type === 1) links.push(view.getUint16(at + 8, little));
-        const end = at + length - 4;
-        if (type === 6 && length >= 32) frames.push(captured(buffer, at + 28, view.getUint32(at + 20, little), end, links[view.getUint32(at + 8, little)]));
-        if (type === 3 && length >= 16) frames.push(captured(buffer, at + 12, Math.min(view.getUint32(at + 8, little), length - 16), end, links[0]));
-        at = end + 4;
+        if (type === 1 && length >= 20) interfaces.push(interfaceOf(view, at, at + length - 4, little));
+        const packet = packetOfBlock(view, at, length, little, interfaces, packets.at(-1)?.time ?? 0n);
+        if (packet) packets.push(packet);
+        at += length;
     }
-    return frames;
+    return packets;
+}
+
+// The interface of a block: its link type, the units of a second of its times (option 9), and the seconds to add to them (option 14).
+function interfaceOf(view, block, end, little) {
+    const found = { link: view.getUint16(block + 8, little), units: 10n ** 6n, offset: 0n };
+    for (let at = block + 16; at + 4 < end; ) {
+        const code = view.getUint16(at, little), length = view.getUint16(at + 2, little), resolution = view.getUint8(at + 4);
+        if (code === 0 || at + 4 + length > end) break;
+        if (code === 9 && length === 1) found.units = (resolution & 128 ? 2n : 10n) ** BigInt(resolution & 127);
+        if (code === 14 && length === 8) found.offset = view.getBigInt64(at + 4, little);
+        at += 4 + Math.ceil(length / 4) * 4;
+    }
+    return found;
+}
+
+// The packet of a block, if it has one. One without a time has that of the packet before it, `last`.
+function packetOfBlock(view, block, size, little, interfaces, last) {
+    const word = (at) => view.getUint32(block + at, little), end = block + size - 4;
+    if (word(0) === 3 && size >= 16) {
+        return { frame: captured(view.buffer, block + 12, Math.min(word(8), size - 16), end, interfaces[0]?.link), length: word(8), time: last };
+    }
+    if (word(0) !== 6 || size < 32) return null;
+    const { link, units = 1n, offset = 0n } = interfaces[word(8)] ?? {}, ticks = (BigInt(word(12)) << 32n) | BigInt(word(16));
+    return { frame: captured(view.buffer, block + 28, word(20), end, link), length: word(24), time: (ticks * SECOND) / units + offset * SECOND };
 }

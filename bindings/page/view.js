@@ -161,7 +161,7 @@ function take(text) {
 }
 
 async function takeFile(file) {
-    frames = framesOfFile(await file.arrayBuffer());
+    frames = packetsOfFile(await file.arrayBuffer()).map((it) => it.frame);
     find('text').value = '';
     say(`${file.name}: ${counted(frames.length, 'frame')}`);
     show();

@@ -19,7 +19,7 @@ import rules  # noqa: E402
 SOURCE = f"{BINDINGS}/page"
 PAGE = f"{TOP}/docs/try/index.html"
 # The parts of the page's script. Those before view.js need no browser.
-SCRIPTS = ["tell.js", "capture.js", "fields.js", "sections.js", "node.js", "script.js", "words.js",
+SCRIPTS = ["tell.js", "capture.js", "fields.js", "sections.js", "node.js", "script.js", "words.js", "replay.js",
            "view.js", "pair.js", "run.js"]
 # The modules: the crate, where Rattle's module of it is, its memory, and its functions.
 MODULES = {"tell": ("nd_tell_c", f"{OUT}/tell", 32 * build.PAGE, lambda: ["nd_tell"]), "node": ("nd_c", OUT, 16 * build.PAGE, build.functions)}

@@ -1,0 +1,49 @@
+// A capture at a node: which of its frames the interface of the node takes, at which moments, and what the node does then. The node is proved, this isn't.
+
+const MILLISECOND = 10n ** 6n;
+const LONGEST_GAP = 2 ** 36;
+
+const receiver = (frame) => mac(frame.subarray(0, 6));
+const sender = (frame) => mac(frame.subarray(6, 12));
+const isGroup = (frame) => (frame[0] & 1) === 1;
+const isWhole = ({ frame, length }) => typeof frame !== 'string' && frame.length >= length && frame.length >= 14;
+
+// Returns the whole frames of packets that have a time, with their moments: the first is at `before`, in milliseconds since the node started. A packet
+// whose time is before that of an earlier one has the moment of the earlier one.
+function timedFrames(packets, before) {
+    let last = before;
+    return packets.filter((it) => it.time !== undefined && isWhole(it)).map(({ frame, time }, _, [first]) => {
+        last = Math.max(last, before + Number((time - first.time) / MILLISECOND));
+        return { at: last, frame };
+    });
+}
+
+const longestGap = (timed) => timed.reduce((most, { at }, index) => Math.max(most, at - (timed[index - 1]?.at ?? at)), 0);
+
+// Returns the Ethernet addresses of nodes in frames. The first is the likeliest to be replayed: of a host that tries an address or asks for routers.
+function stations(frames) {
+    const beginners = frames.filter(({ frame }) => /^(rs|ns ::) /.test(lineOf(frame, 'either')));
+    const all = [...beginners.map(({ frame }) => sender(frame)), ...frames.flatMap(({ frame }) => (isGroup(frame) ? [] : [receiver(frame)])),
+        ...frames.map(({ frame }) => sender(frame))];
+    return [...new Set(all)];
+}
+
+// Returns true if the interface passes a frame to its node: to its own address or to a group, and not from itself (nd.h, FRAMES IN).
+const passes = (frame, own) => (isGroup(frame) || receiver(frame) === own) && sender(frame) !== own;
+
+// Lets a node hear frames at their moments, and time pass to `end`. Returns what happens, in order: frames that it hears, and its records.
+function replayed(node, own, frames, end) {
+    const events = [];
+    const gather = () => events.push(...node.records().map((it) => ({ at: Number(it.moment), kind: it.kind, text: recordText(it), frame: it.bytes })));
+    for (const { at, frame } of frames) {
+        node.call('nd_turn', at);
+        gather();
+        if (!passes(frame, own)) continue;
+        events.push({ at, kind: 0, frame });
+        node.receive(at, frame);
+        gather();
+    }
+    node.call('nd_turn', end);
+    gather();
+    return events;
+}
