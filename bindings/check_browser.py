@@ -6,7 +6,7 @@ import re
 import shutil
 
 from check_page import all_rows, files_of_link, report_rows, rows_of_link, traced
-from checking import read, report_if, run, skip
+from checking import TOP, read, report_if, run, skip
 
 import page  # it is where check_page has found it
 
@@ -67,20 +67,23 @@ while (!document.querySelector('#lists details')) await go();"""
 
 
 def check_runs_in_browser(browser, path, room):
-    """Chooses each script of the page, and compares what is shown with what `trace` prints."""
-    if not os.path.exists(f"{room}/trace"):
-        return skip("the scripts of the page in a browser", "trace was not built")
-    for index, it in enumerate(page.scripts()):
+    """Chooses each script of the page, and compares what is shown with the output of the example of the command that it is, or with what `trace` prints."""
+    for index, it in enumerate(sorted(page.scripts(), key=lambda it: it["role"])):
         words = ["run", "--role", it["role"], "--mac", it["mac"], "--draws", it["draws"]]
-        wanted = traced(room, words, "".join(f"{line}\n" for line in it["lines"])).splitlines()
+        if "example" in it:
+            wanted = read(f"{TOP}/examples/scripts/{it['example']}.output").splitlines()
+        elif os.path.exists(f"{room}/trace"):
+            wanted = traced(room, words, "".join(f"{line}\n" for line in it["lines"])).splitlines()
+        else:
+            skip(f"the script {it['title']!r} of the page in a browser", "trace was not built")
+            continue
         text = browser.after(path, f"""document.getElementById('tab-node').click();
 document.querySelectorAll('#scripts button')[{index}].click();
-while (document.querySelectorAll('.step').length !== {len(it["lines"])}) await go();""")
+while (document.querySelectorAll('.step').length !== {len(it["lines"])} || document.getElementById('script').value.split('\\n').length !== {len(it["lines"])}) await go();""")
         shown = [html.unescape(line) for line in re.findall(r' data-line="(.*?)"', text)]
         report_if(f"the page in a browser, {it['title']!r}: {len(wanted)} lines", wanted and shown == wanted, "\n".join(shown[:4]))
     said = browser.after(path, "while (!document.querySelector('#diagram svg')) await go();", "#pair")
     report_if("the page in a browser: of two hosts one uses the address", "Host 1 uses the address." in said, said[-2000:])
-    return None
 
 
 def check_fault_in_browser(browser, path):

@@ -257,6 +257,21 @@ def check_replays_in_node(path):
     report_if(f"the page in node: a host hears {len(known)} captures", len(texts) == len(known) >= 20 and not wrong, said.stderr + "\n".join(wrong[:4]))
 
 
+def check_examples_in_node(path):
+    """Requires that an example of frames is heard by the role that it is for, but for the two that are of what is dropped."""
+    if not has_node("the examples"):
+        return
+    dropped = {"Nineteen ways to spoil a frame": [f"drop {number} {rules.REASONS[number]}" for number in range(1, 20)],
+               "What only a host takes": ["drop 19 NotForUs"] * 2}
+    wrong = []
+    for it in page.examples():
+        said = run(["node", f"{TESTS}/lines.mjs", path, it["role"]], input="".join(f"{frame}\n" for frame in it["digits"])).stdout.splitlines()
+        are_heard = len(said) == len(it["digits"]) and not any(line.startswith("drop") for line in said)
+        wrong += [] if (said == dropped[it["title"]] if it["title"] in dropped else are_heard) else [it["title"]]
+    report_if("the page in node: the examples for each role", {it["role"] for it in page.examples()} == {"either", "host", "router"} and not wrong,
+              "\n".join(wrong))
+
+
 def check_made_again(room):
     """Makes the modules of the page again, that of a node with ND_TARGETS=1. Their bytes are compared if the tools are those that the page names: others
     may make other bytes of the same code."""
@@ -294,5 +309,5 @@ def check_page(room):
     check_runs_in_node("the page", page.PAGE, room)
     check_longest_in_node("the page", page.PAGE)
     check_captures_in_node("the page", page.PAGE)
-    for check in (check_faults_in_node, check_words_in_node, check_sections_in_node, check_replays_in_node):
+    for check in (check_faults_in_node, check_words_in_node, check_sections_in_node, check_replays_in_node, check_examples_in_node):
         check(page.PAGE)

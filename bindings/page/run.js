@@ -111,11 +111,7 @@ function startRun() {
         tab.addEventListener('click', () => showTab(tab.id.slice(4)));
         tab.addEventListener('keydown', ({ key }) => tabs[at + ({ ArrowLeft: -1, ArrowRight: 1 }[key] ?? tabs.length)]?.focus());
     }
-    for (const script of SCRIPTS) {
-        const button = made('button', '', script.title);
-        button.addEventListener('click', () => takeScript(script));
-        find('scripts').append(button);
-    }
+    exampleButtons(find('scripts'), SCRIPTS, takeScript);
     for (const id of ['script', 'node-role', 'node-mac', 'node-draws']) find(id).addEventListener('input', runScript);
     for (const id of ['pair-start', 'pair-delay', 'pair-lost']) find(id).addEventListener('input', showPair);
     if (location.hash === '#node' || location.hash === '#pair') showTab(location.hash.slice(1));

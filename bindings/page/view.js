@@ -2,6 +2,8 @@
 
 const EXAMPLES = @EXAMPLES@;
 const MOST_ROWS = 500;
+// Whom examples are for.
+const FOR = { either: 'For either', host: 'For a host', router: 'For a router' };
 const LONGEST_LINK = 60000;
 // The fields that a reason to drop a frame looks at, by the reason's number.
 const LOOKED_AT = { 2: ['type'], 4: ['version, traffic class, flow label'], 5: ['payload length'], 6: ['code'], 7: ['message type'], 8: ['option length'],
@@ -40,6 +42,18 @@ function sectionElements(sections) {
         const [rfc, part] = section.split(' ');
         return [index ? ', ' : '', sectionElement(section, rfc === sections[index - 1]?.split(' ')[0] ? part : sectionText(section))];
     });
+}
+
+// Buttons for examples, by the role that they are for.
+function exampleButtons(place, examples, takes) {
+    for (const role of Object.keys(FOR)) {
+        const buttons = examples.filter((it) => it.role === role).map((it) => {
+            const button = made('button', '', it.title);
+            button.addEventListener('click', () => takes(it));
+            return button;
+        });
+        if (buttons.length > 0) place.append(made('p', 'examples', made('b', '', `${FOR[role]}: `), ...buttons));
+    }
 }
 
 // Returns what a frame is: its kind, its line, and the number of the reason to drop it.
@@ -196,11 +210,10 @@ function start() {
     for (const row of [...find('reasons').rows].slice(1)) {
         row.append(made('td', 'sections', ...sectionElements(sectionsOf(Number(row.id.slice(7))))));
     }
-    for (const { title, digits } of EXAMPLES) {
-        const button = made('button', '', title);
-        button.addEventListener('click', () => take(digits.join('\n')));
-        find('examples').append(button);
-    }
+    exampleButtons(find('examples'), EXAMPLES, ({ role, digits }) => {
+        document.querySelector(`input[name=role][value=${role}]`).checked = true;
+        take(digits.join('\n'));
+    });
     find('text').addEventListener('input', takeText);
     find('file').addEventListener('change', () => takeFile(find('file').files[0]));
     find('role').addEventListener('change', show);

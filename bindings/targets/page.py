@@ -59,16 +59,25 @@ def blocks(name):
 
 
 def examples():
-    """Returns the examples of the page: titles and lines of digits."""
-    found = [{"title": title, "digits": digits} for title, *digits in blocks("examples.txt")]
-    return [*found, {"title": "Fourteen frames of a link", "digits": read(f"{TOP}/examples/link.hex").split()}]
+    """Returns the examples of the page: titles, the roles that they are for, and lines of digits."""
+    found = [{"title": title, "role": role, "digits": digits} for title, role, *digits in blocks("examples.txt")]
+    return [*found, {"title": "Fourteen frames of a link", "role": "either", "digits": read(f"{TOP}/examples/link.hex").split()}]
 
 
 def scripts():
-    """Returns the scripts of the page: titles, options and lines."""
+    """Returns the scripts of the page: titles, options and lines. One that is an example of the command has its name too."""
     for title, options, *lines in blocks("scripts.txt"):
-        role, mac, draws = options.split()
-        yield {"title": title, "role": role, "mac": mac, "draws": draws, "lines": lines}
+        if options.startswith("example "):
+            yield {"title": title, **example(options.split()[1])}
+        else:
+            role, mac, draws = options.split()
+            yield {"title": title, "role": role, "mac": mac, "draws": draws, "lines": lines}
+
+
+def example(name):
+    """Returns the script of an example of `ndpctl run`, as examples/table.txt has it."""
+    words = re.search(rf"^{name} +(\S+) .* run --role (\S+) --mac (\S+) --draws (\S+)$", read(f"{TOP}/examples/table.txt"), re.M)
+    return {"role": words[2], "mac": words[3], "draws": words[4], "lines": read(f"{TOP}/examples/{words[1]}").splitlines(), "example": name}
 
 
 def words():
