@@ -1,6 +1,9 @@
-"""check_browser: docs/try/index.html in a browser without a window. The frames and scripts of check_page have the lines that they are to have there too."""
+"""check_browser: docs/try/index.html in a browser without a window. The frames and scripts of check_page have the lines that they are to have there too. It
+opens on two hosts that collide; a malformed line has its number; what is shown is in the address; a host hears a capture, and what it sends is drawn;
+and nothing is wider than a narrow window."""
 import base64
 import html
+import json
 import os
 import re
 import shutil
@@ -8,7 +11,12 @@ import shutil
 from check_page import all_rows, files_of_link, report_rows, rows_of_link, traced
 from checking import TOP, read, report_if, run, skip
 
-import page  # it is where check_page has found it
+import captures  # these are where check_page has found them
+import frames
+import page
+import rules
+from nd import Why
+from ndbench.sections import section_of_drop
 
 BROWSERS = ("chromium", "chromium-browser", "google-chrome", "google-chrome-stable")
 # Of the frames that are cut and changed, so many are passed over before the next one.
@@ -21,7 +29,7 @@ class Browser:
     def __init__(self, program, room):
         self.room = room
         self.words = [program, "--headless", "--no-sandbox", "--disable-gpu", "--disable-dev-shm-usage", f"--user-data-dir={room}/profile",
-                      "--virtual-time-budget=600000", "--dump-dom"]
+                      "--virtual-time-budget=600000", "--force-prefers-reduced-motion", "--dump-dom"]
 
     def page(self, address, until=""):
         """Returns the page as it is once its script has run. It is opened again if it does not have the words `until`: on a busy machine the clock may
@@ -32,18 +40,37 @@ class Browser:
                 break
         return text
 
-    def after(self, path, script, fragment=""):
-        """Returns a page, of a copy, once a script has run behind its own."""
+    def copy(self, path, script):
+        """Returns a copy of a page with a script behind its own."""
         copy = f"{self.room}/page.html"
         with open(copy, "w", encoding="utf-8") as file:
             file.write(f"""{read(path)}<script type="module">
-const go = () => new Promise((then) => setTimeout(then, 10));
+const go = (time = 10) => new Promise((then) => setTimeout(then, time));
+const find = (id) => document.getElementById(id);
+const enter = (id, value) => {{
+    find(id).value = value;
+    find(id).dispatchEvent(new Event('input', {{ bubbles: true }}));
+}};
 while (!document.body.dataset.ready) await go();
 {script}
 document.body.dataset.done = 'yes';
 </script>
 """)
-        return self.page(f"file://{copy}{fragment}", 'data-done="yes"')
+        return copy
+
+    def after(self, path, script, fragment=""):
+        """Returns a page, of a copy, once a script has run behind its own."""
+        return self.page(f"file://{self.copy(path, script)}{fragment}", 'data-done="yes"')
+
+    def narrow(self, path, script, width):
+        """Returns the `result` of a script in a page of this width. The page is in a frame, since the browser's own window is 500 pixels wide at least."""
+        self.copy(path, f"{script}\nparent.postMessage(JSON.stringify(result), '*');")
+        with open(f"{self.room}/narrow.html", "w", encoding="utf-8") as file:
+            file.write(f"""<!doctype html><iframe src="page.html" width="{width}" height="900" style="border: 0"></iframe>
+<script>onmessage = ({{ data }}) => document.body.dataset.said = data;</script>
+""")
+        said = re.search(r'data-said="(.*?)"', self.page(f"file://{self.room}/narrow.html", "data-said="))
+        return json.loads(html.unescape(said[1])) if said else None
 
 
 def lines_in(text):
@@ -58,12 +85,30 @@ def text_of(markup):
     return html.unescape(re.sub(r"<[^>]*>", "", markup))
 
 
-def dropped(data, name):
-    """Returns a script that drops a file on the page."""
+def part_of(text, name):
+    """Returns the part of a page from the element of this name up to the end of its tab."""
+    return re.split(r'<div id="\w+" role="tabpanel"|<section id="proved"', text.split(f'id="{name}"', 1)[-1])[0]
+
+
+def dropped(data, name, until="document.querySelector('#lists details')"):
+    """Returns a script that drops a file on the page, and waits until something is so."""
     return f"""const file = new DataTransfer(), bytes = Uint8Array.from(atob('{base64.b64encode(data).decode()}'), (it) => it.charCodeAt(0));
 file.items.add(new File([bytes], '{name}'));
 dispatchEvent(new DragEvent('drop', {{ dataTransfer: file, cancelable: true }}));
-while (!document.querySelector('#lists details')) await go();"""
+while (!({until})) await go();"""
+
+
+def check_opening_in_browser(browser, path):
+    """Opens the page with nothing behind its address. RFC 4862, 5.4.3: host 1 answers the solicitation of host 2 for its address; 5.4.4: host 2 finds that
+    the address is a duplicate by the answer, and doesn't use it."""
+    text = part_of(browser.after(path, ""), "pair")
+    arrows = [text_of(it.split("<title>")[0]) for it in re.findall(r'<text class="label".*?</text>', text)]
+    notes = {text_of(it.split("<title>")[0]) for it in re.findall(r'<text [^>]*class="note .*?</text>', text)}
+    asked, answered = "ns: is the address taken?", "na: I have the address"
+    is_shown, is_running = " hidden" not in text.split(">")[0], re.search(r'<svg [^>]*class="\w+ running"', text)
+    is_answered = re.search(f".*{re.escape(asked)}.*{answered}", " ".join(arrows)) and {"uses the address", "finds a duplicate"} <= notes
+    report_if("the page in a browser opens on two hosts that collide", is_shown and is_running and is_answered and "Host 1 uses the address." in text,
+              f"{arrows} {notes}")
 
 
 def check_runs_in_browser(browser, path, room):
@@ -77,29 +122,137 @@ def check_runs_in_browser(browser, path, room):
         else:
             skip(f"the script {it['title']!r} of the page in a browser", "trace was not built")
             continue
-        text = browser.after(path, f"""document.getElementById('tab-node').click();
+        text = browser.after(path, f"""find('tab-node').click();
 document.querySelectorAll('#scripts button')[{index}].click();
-while (document.querySelectorAll('.step').length !== {len(it["lines"])} || document.getElementById('script').value.split('\\n').length !== {len(it["lines"])}) await go();""")
-        shown = [html.unescape(line) for line in re.findall(r' data-line="(.*?)"', text)]
+while (document.querySelectorAll('.step').length !== {len(it["lines"])} || find('script').value.split('\\n').length !== {len(it["lines"])}) await go();""")
+        shown = [html.unescape(line) for line in re.findall(r' data-line="(.*?)"', part_of(text, "said-lines"))]
         report_if(f"the page in a browser, {it['title']!r}: {len(wanted)} lines", wanted and shown == wanted, "\n".join(shown[:4]))
-    said = browser.after(path, "while (!document.querySelector('#diagram svg')) await go();", "#pair")
-    report_if("the page in a browser: of two hosts one uses the address", "Host 1 uses the address." in said, said[-2000:])
 
 
 def check_fault_in_browser(browser, path):
-    text = browser.after(path, """document.getElementById('tab-node').click();
-const script = document.getElementById('script');
-script.value = '500 at\\n\\n6000 shw addresses';
-script.dispatchEvent(new Event('input'));
-while (!document.querySelector('.fault')) await go();""")
+    text = part_of(browser.after(path, """find('tab-node').click();
+enter('script', '500 at\\n\\n6000 shw addresses');
+while (!document.querySelector('.fault')) await go();"""), "said-lines")
     said = text_of(re.search(r'<div class="fault">(.*?)</div>', text)[1])
     is_right = said.startswith("Line 3, “6000 shw addresses”") and re.search(r"“shw”\. Expected: .*\bshow\b", said)
     report_if("the page in a browser: a malformed line has its number and what is expected", is_right, said)
 
 
+def check_reasons_in_browser(browser, path):
+    """Requires that each frame that is dropped has a link to its section, and that the links to files lead to them."""
+    example = next(it for it in page.examples() if it["title"].startswith("Nineteen"))
+    text = part_of(browser.after(path, """find('tab-frames').click();
+[...document.querySelectorAll('#examples button')].find((it) => it.textContent.startsWith('Nineteen')).click();
+while (document.querySelectorAll('#lists details').length !== 19) await go();"""), "lists")
+    wanted = [section_of_drop(Why(number), bytes.fromhex(frame)) if number < 19 else "RFC 4861, 6.1.1" for number, frame in enumerate(example["digits"], 1)]
+    found = re.findall(r'<summary>.*?<b>drop (\d+) .*?<a class="section" href="(.*?)"', text, re.S)
+    links = [(str(number), re.sub(r"RFC (\d+), (.*)", r"https://www.rfc-editor.org/rfc/rfc\1#section-\2", it)) for number, it in enumerate(wanted, 1)]
+    report_if("the page in a browser: nineteen reasons, each with a link to its section", found == links, str(found))
+    files = re.findall(r'href="([^":#]+)"', read(path))
+    places = [os.path.normpath(f"{TOP}/docs/try/{it}") for it in files]
+    wanted = [f"{TOP}/{it}" for it in ("README.md", "include/nd.h", "docs/AUDIT.md")]
+    report_if("the page has links to README.md, nd.h and AUDIT.md", set(wanted) <= set(places) and all(map(os.path.exists, places)), str(files))
+
+
+# Of each tab, what is entered by the names of the elements, what is pressed, and what the page then has to show.
+STATES = {"pair": ({"pair-start": "300", "pair-delay": "70"}, "pair-lost", "Both hosts use the address"),
+          "frames": ({"text": f"{page.examples()[0]['digits'][0]}\nxyz"}, "role-router", "2 frames: 1 message, 0 other packets, 0 dropped, 1 not read"),
+          "node": ({"node-role": "router", "node-mac": "02:00:00:00:00:09", "node-draws": "seed:7", "script": "900 at\n\n2000 at"}, None,
+                   "assigned fe80::ff:fe00:9"),
+          "capture": ({"capture-mac": "02:00:00:00:00:09", "capture-draws": "seed:3", "capture-before": "2500"}, None, "The host hears 3 of 3 frames")}
+
+
+def check_addresses_in_browser(browser, path):
+    """Enters something in each tab, and opens the page anew by the address that it has then: it has to have and to show the same."""
+    for tab, (values, pressed, shown) in STATES.items():
+        press = f"find('{pressed}').click();" if pressed else ""
+        enter = "".join(f"enter('{name}', {json.dumps(value)});" for name, value in values.items())
+        text = browser.after(path, f"find('tab-{tab}').click(); await go(500); {enter} {press} await go(500); document.body.dataset.address = location.hash;")
+        address = html.unescape((re.search(r'data-address="(.*?)"', text) or ["", ""])[1])
+        names = json.dumps([*values, *([pressed] if pressed else [])])
+        text = browser.after(path, f"""await go(500);
+const has = {names}.map((name) => (/checkbox|radio/.test(find(name).type) ? find(name).checked : find(name).value));
+document.body.dataset.has = JSON.stringify([document.querySelector('[aria-selected=true]').id, ...has]);""", address)
+        has = json.loads(html.unescape((re.search(r'data-has="(.*?)"', text) or ["", "[]"])[1]))
+        wanted = [f"tab-{tab}", *values.values(), *([True] if pressed else [])]
+        is_right = address.startswith(f"#{tab}?") and has == wanted and shown in text_of(part_of(text, tab))
+        report_if(f"the page in a browser: what is entered on the tab {tab!r} is in its address", is_right, f"{address[:200]} {has}")
+
+
+def check_capture_in_browser(browser, path):
+    """Drops the frames of examples/host.hex on the tab of a capture, with their moments as times, and compares what is shown with examples/host.txt. The
+    interface doesn't pass three more to the host (nd.h, FRAMES IN): one of its own, one for another node, and one that the capture has cut."""
+    heard = [(int(at), bytes.fromhex(digits)) for at, digits in (line.split() for line in read(f"{TOP}/examples/host.hex").splitlines() if " " in line)]
+    lines = [line for line in read(f"{TOP}/examples/host.txt").splitlines() if line[0].isdigit()]
+    names = {f" drop {number}": f" drop {number} {name}" for number, name in rules.REASONS.items()} | {" heard 134": " heard ra"}
+    wanted = [re.sub(r" (drop|heard) \d+$", lambda it: names[it[0]], line) for line in lines]
+    last = heard[-1][1]
+    rows = [*heard, (2400, bytes.fromhex(lines[0].split()[2])), (2400, bytes.fromhex("020000000009") + last[6:]), (2400, last[:-1])]
+    file = captures.pcap_of([it for _, it in rows], [at * 1000 for at, _ in rows], lengths=[len(it) for _, it in rows[:-1]] + [len(last)])
+    text = browser.after(path, dropped(file, "host.pcap", "find('said').textContent.startsWith('host.pcap')") + f"""
+enter('capture-mac', '{frames.HOST_MAC}');
+enter('capture-before', {heard[0][0]});
+await go(500);""", "#capture")
+    said = "The host hears 3 of 6 frames, and sends 3. Left out: 1 of its own, 1 for others, 1 not whole or without a time."
+    summed = text_of(part_of(text, "capture-sum"))
+    report_if("the page in a browser: frames of a capture that a host doesn't hear", said in summed, summed[:300])
+    shown = [html.unescape(line) for line in re.findall(r' data-line="(.*?)"', part_of(text, "capture-lines"))]
+    report_if(f"the page in a browser: a host hears a capture: {len(wanted)} lines", shown == wanted, "\n".join(shown))
+    arrows = re.findall(r'class="arrow (\w+)"', part_of(text, "capture-diagram"))
+    moments = [text_of(it.split("<title>")[0]) for it in re.findall(r'<text [^>]*class="moment".*?</text>', part_of(text, "capture-diagram"))]
+    counts = {"sent": sum(" tx " in line for line in wanted), "dropped": sum(" drop " in line for line in wanted)}
+    counts["given"] = len(heard) - counts["dropped"]
+    is_right = {kind: arrows.count(kind) for kind in counts} == counts and len(arrows) == sum(counts.values())
+    at = [f"{moment:,} ms" for moment in sorted({int(line.split()[0]) for line in wanted})]
+    report_if(f"the page in a browser: {len(arrows)} arrows of a capture, at its times", is_right and moments == at, f"{arrows} {moments}")
+
+
+NARROW = 420
+# What a page finds of itself in a narrow window: how wide it is, what is wider, and where the results are once an example is pressed.
+LOOK = """const result = { width: innerWidth, wide: [], results: [] };
+const look = (where) => {
+    for (const it of document.querySelectorAll('body *:not(defs *)')) {
+        const { left, right, width } = it.getBoundingClientRect();
+        if (width > 0 && (left < -1 || right > innerWidth + 1)) result.wide.push(`${where}: ${it.tagName} ${it.textContent.slice(0, 40)} ${left}..${right}`);
+    }
+    if (document.documentElement.scrollWidth > innerWidth) result.wide.push(`${where}: the page scrolls sideways`);
+    for (const it of document.querySelectorAll('svg[viewBox]')) {
+        const { width } = it.getBoundingClientRect();
+        if (width > 0 && width < it.viewBox.baseVal.width - 1) result.wide.push(`${where}: a picture is made smaller, and its letters with it`);
+    }
+};
+const results = { frames: 'results', node: 'said-lines', capture: 'capture-sum' };
+for (const tab of document.querySelectorAll('[role=tab]')) {
+    tab.click();
+    await go(500);
+    const panel = find(tab.getAttribute('aria-controls'));
+    for (const details of panel.querySelectorAll('details')) details.open = true;
+    look(tab.id);
+    for (const button of panel.querySelectorAll('.examples button, #capture-example')) {
+        scrollTo(0, 0);
+        button.click();
+        await go(500);
+        result.results.push([button.textContent, find(results[panel.id]).getBoundingClientRect().top]);
+        for (const details of panel.querySelectorAll('details')) details.open = true;
+        await go(50);
+        look(button.textContent);
+    }
+}"""
+
+
+def check_narrow_in_browser(browser, path):
+    """Requires that in a narrow window nothing is off the screen, and that the results of an example that is pressed come into view."""
+    found = browser.narrow(path, LOOK, NARROW) or {"width": 0, "wide": ["the page said nothing"], "results": []}
+    count = len(page.examples()) + len(list(page.scripts())) + 1
+    report_if(f"the page in a browser, {NARROW} pixels wide: nothing is wider", found["width"] == NARROW and not found["wide"], "\n".join(found["wide"][:6]))
+    hidden = [it for it in found["results"] if not -1 <= it[1] <= 450]
+    report_if(f"the page in a browser, {NARROW} pixels wide: the results of {count} examples are in view", len(found["results"]) == count and not hidden,
+              str(hidden))
+
+
 def check_link_in_browser(browser, path):
     """Opens the page by a link in capitals, and then a tab. Asks for what its policy forbids: nothing may be fetched."""
-    text = browser.after(path, """document.getElementById('tab-pair').click();
+    text = browser.after(path, """find('tab-pair').click();
 while (!document.querySelector('#diagram svg')) await go();""", f"#HOST:{rows_of_link()[1][0].upper()}")
     report_if("the page in a browser, by a link in capitals", 'data-done="yes"' in text and len(lines_in(text)) == 1, text[-1000:])
     text = browser.after(path, """addEventListener('securitypolicyviolation', (event) => document.body.dataset.forbidden = event.effectiveDirective);
@@ -125,5 +278,8 @@ def check_browser(room):
     for name, data in files_of_link().items():
         report_rows(f"the page in a browser, {name} dropped on it", rows, lines_in(browser.after(path, dropped(data, name))))
     check_link_in_browser(browser, path)
-    check_fault_in_browser(browser, path)
-    return check_runs_in_browser(browser, path, room)
+    check_opening_in_browser(browser, path)
+    check_runs_in_browser(browser, path, room)
+    for check in (check_fault_in_browser, check_reasons_in_browser, check_addresses_in_browser, check_capture_in_browser, check_narrow_in_browser):
+        check(browser, path)
+    return None

@@ -1,13 +1,7 @@
 // The tab of two hosts that have the same Ethernet address, and so try for the same address: what each does, and their frames as arrows between them.
 
 const PAIR_MAC = '34:56:78:9a:bc:de', PAIR_END = 9000;
-const SVG = 'http://www.w3.org/2000/svg';
-const LIFELINES = [230, 560], ROW = 40, PAIR_WIDTH = 720;
-const MARKERS = `<defs>
-<marker id="tip" viewBox="0 0 8 8" refX="7" refY="4" markerWidth="8" markerHeight="8" orient="auto"><path d="M0 0 8 4 0 8z"/></marker>
-<marker id="cross" viewBox="0 0 8 8" refX="4" refY="4" markerWidth="10" markerHeight="10">
-<path d="M1 1 7 7M7 1 1 7" fill="none" stroke="currentColor"/></marker>
-</defs>`;
+const PAIR_WIDE = { width: 800, lines: [250, 610] };
 const SHORT_NOTES = { assigned: 'uses the address', duplicate: 'finds a duplicate' };
 let pairRuns = 0;
 
@@ -49,45 +43,17 @@ function plain(frame) {
     return { ns: 'ns: is the address taken?', na: 'na: I have the address', rs: 'rs: are there routers?' }[word] ?? line;
 }
 
-function drawn(tag, attributes, text) {
-    const element = document.createElementNS(SVG, tag);
-    for (const [name, value] of Object.entries(attributes)) element.setAttribute(name, value);
-    if (text) element.textContent = text;
-    return element;
-}
-
-function arrow(frame, y, isAnswer) {
-    const [from, to] = [LIFELINES[frame.from], LIFELINES[1 - frame.from]], side = Math.sign(to - from);
-    const end = frame.isLost ? (from + to) / 2 : to - 3 * side, y1 = y(frame.sent), y2 = frame.isLost ? y1 : y(frame.arrives);
-    const kind = frame.isLost ? { class: 'arrow lost', 'marker-end': 'url(#cross)' } : { class: 'arrow', 'marker-end': 'url(#tip)' };
-    // The label is nearer to the sender, and slopes as the arrow does: over it, or below that of an answer, over which is the arrow of the question.
-    const x = from + 0.31 * (to - from), on = y1 + 0.31 * (y2 - y1), angle = (side * Math.atan2(y2 - y1, Math.abs(end - from)) * 180) / Math.PI;
-    const label = { class: 'label', x, y: isAnswer ? on + 17 : on - 7, 'text-anchor': 'middle', transform: `rotate(${angle} ${x} ${on})` };
-    return [drawn('line', { x1: from, y1, x2: end, y2, ...kind }), drawn('text', label, plain(frame.frame))];
-}
-
-// What a host says besides its frames, at its lifeline.
-function notes({ happened }, y) {
-    const told = happened.filter((it) => !['tx', 'heard'].includes(it.kind));
-    return told.map((it) => drawn('text', { x: LIFELINES[it.which] + (it.which ? 14 : -14), y: y(it.at) + 4, class: `note ${it.kind}`,
-        'text-anchor': it.which ? 'start' : 'end' }, SHORT_NOTES[it.kind] ?? it.text));
-}
-
-function diagram(run) {
-    const arrived = run.carried.filter((it) => !it.isLost).map((it) => it.arrives);
-    const moments = [...new Set([...run.happened.map((it) => it.at), ...arrived])].sort((a, b) => a - b);
-    const y = (at) => 70 + ROW * moments.indexOf(at), height = 70 + ROW * moments.length;
-    const label = 'the frames of two hosts as arrows; the same is below as text';
-    const svg = drawn('svg', { viewBox: `0 0 ${PAIR_WIDTH} ${height}`, role: 'img', 'aria-label': label });
-    svg.innerHTML = MARKERS;
-    for (const which of [0, 1]) {
-        svg.append(drawn('line', { x1: LIFELINES[which], y1: 34, x2: LIFELINES[which], y2: height - 10, class: 'lifeline' }));
-        svg.append(drawn('text', { x: LIFELINES[which], y: 22, class: 'host', 'text-anchor': 'middle' }, `host ${which + 1}`));
-    }
-    for (const at of moments) svg.append(drawn('text', { x: 6, y: y(at) + 4, class: 'moment' }, `${at.toLocaleString('en')} ms`));
-    const isAnswer = (frame) => run.carried.some((it) => !it.isLost && it.from !== frame.from && it.arrives === frame.sent);
-    svg.append(...run.carried.flatMap((it) => arrow(it, y, isAnswer(it))), ...notes(run, y));
-    return svg;
+// Shows the picture of a run: a row for each moment, its notes what a host says besides its frames.
+function pairDiagram({ happened, carried }) {
+    const arrived = carried.filter((it) => !it.isLost), isSaid = (it) => !['tx', 'heard'].includes(it.kind);
+    const moments = [...new Set([...happened.map((it) => it.at), ...arrived.map((it) => it.arrives)])].sort((a, b) => a - b);
+    const rows = moments.map((at) => ({ at, notes: happened.filter((it) => it.at === at && isSaid(it)).map((it) => ({
+        which: it.which, kind: it.kind, text: SHORT_NOTES[it.kind] ?? it.text, meaning: dropMeaning(it.text) ?? it.text })) }));
+    const arrows = carried.map((it) => ({ from: it.from, row: moments.indexOf(it.sent), to: moments.indexOf(it.isLost ? it.sent : it.arrives),
+        kind: it.isLost ? 'lost' : 'sent', isAnswer: arrived.some((other) => other.from !== it.from && other.arrives === it.sent),
+        text: plain(it.frame), meaning: lineOf(it.frame, 'either') }));
+    return diagram({ name: 'pair', box: find('diagram'), heads: ['host 1', 'host 2'], rows, arrows, wide: PAIR_WIDE,
+        label: 'the frames of two hosts as arrows; the same is below as text' });
 }
 
 // What came of it, in one sentence.
@@ -99,11 +65,27 @@ function outcome({ happened }) {
     return 'Neither host uses the address: each found that it is a duplicate.';
 }
 
-async function showPair() {
+// Runs the two hosts, and draws what happens: at once, or with time running.
+async function showPair(isRunning = false) {
     const entered = (id) => Math.max(0, Math.trunc(Number(find(id).value)));
     const mine = ++pairRuns, run = await simulated([0, entered('pair-start')], entered('pair-delay'), find('pair-lost').checked);
     if (mine !== pairRuns) return;
     find('outcome').textContent = outcome(run);
-    find('diagram').replaceChildren(diagram(run));
-    find('pair-lines').replaceChildren(...run.happened.map((it) => made('div', 'line', `host ${it.which + 1}: ${it.at} ${it.text}`)));
+    pairDiagram(run).classList.toggle('running', isRunning);
+    const line = (it) => made('div', 'of-host', made('b', '', `host ${it.which + 1}`), outputLine(`${it.at} ${it.text}`));
+    find('pair-lines').replaceChildren(...run.happened.map(line));
+}
+
+function takePair({ start = '2000', delay = '100', lost }) {
+    find('pair-start').value = start;
+    find('pair-delay').value = delay;
+    find('pair-lost').checked = lost === 'yes';
+    return showPair(true);
+}
+
+const pairState = () => ({ start: find('pair-start').value, delay: find('pair-delay').value, ...(find('pair-lost').checked && { lost: 'yes' }) });
+
+function startPair() {
+    for (const id of ['pair-start', 'pair-delay', 'pair-lost']) find(id).addEventListener('input', () => showPair());
+    find('pair-again').addEventListener('click', () => showPair(true));
 }

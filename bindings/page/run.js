@@ -88,33 +88,21 @@ async function runScript() {
     if (last) last.open = true;
 }
 
-function takeScript({ role, mac: own, draws, lines }) {
-    find('node-role').value = role;
+function takeScript({ role = 'host', mac: own = PAIR_MAC, draws = 'word:0', script }) {
+    find('node-role').value = role === 'router' ? role : 'host';
     find('node-mac').value = own;
     find('node-draws').value = draws;
-    find('script').value = lines.join('\n');
-    runScript();
+    find('script').value = script ?? SCRIPTS[0].lines.join('\n');
+    return runScript();
 }
 
-function showTab(name) {
-    for (const tab of document.querySelectorAll('[role=tab]')) {
-        tab.setAttribute('aria-selected', tab.id === `tab-${name}`);
-        find(tab.getAttribute('aria-controls')).hidden = tab.id !== `tab-${name}`;
-    }
-    if (name === 'node' && find('script').value === '') takeScript(SCRIPTS[0]);
-    if (name === 'pair') showPair();
-}
+const nodeState = () => ({ role: find('node-role').value, mac: find('node-mac').value, draws: find('node-draws').value, script: find('script').value });
 
 function startRun() {
-    const tabs = [...document.querySelectorAll('[role=tab]')];
-    for (const [at, tab] of tabs.entries()) {
-        tab.addEventListener('click', () => showTab(tab.id.slice(4)));
-        tab.addEventListener('keydown', ({ key }) => tabs[at + ({ ArrowLeft: -1, ArrowRight: 1 }[key] ?? tabs.length)]?.focus());
-    }
-    exampleButtons(find('scripts'), SCRIPTS, takeScript);
+    exampleButtons(find('scripts'), SCRIPTS, async ({ lines, ...options }) => {
+        await takeScript({ ...options, script: lines.join('\n') });
+        bring(find('said-lines'));
+        remember();
+    });
     for (const id of ['script', 'node-role', 'node-mac', 'node-draws']) find(id).addEventListener('input', runScript);
-    for (const id of ['pair-start', 'pair-delay', 'pair-lost']) find(id).addEventListener('input', showPair);
-    if (location.hash === '#node' || location.hash === '#pair') showTab(location.hash.slice(1));
 }
-
-startRun();

@@ -1,10 +1,11 @@
-// The page: what is typed, dropped or in the link is read, and each frame's line is shown, with its fields when it is opened.
+// The page: its parts that need a browser. First the tab of frames: what is typed or dropped is read, and each frame's line is shown, with its fields when
+// it is opened.
 
 const EXAMPLES = @EXAMPLES@;
 const MOST_ROWS = 500;
+const LONGEST_LINK = 60000;
 // Whom examples are for.
 const FOR = { either: 'For either', host: 'For a host', router: 'For a router' };
-const LONGEST_LINK = 60000;
 // The fields that a reason to drop a frame looks at, by the reason's number.
 const LOOKED_AT = { 2: ['type'], 4: ['version, traffic class, flow label'], 5: ['payload length'], 6: ['code'], 7: ['message type'], 8: ['option length'],
     9: ['option length'], 10: ['hop limit'], 11: ['checksum'], 12: ['source'], 13: ['target'], 14: ['source'], 15: ['destination'],
@@ -12,7 +13,7 @@ const LOOKED_AT = { 2: ['type'], 4: ['version, traffic class, flow label'], 5: [
 
 const find = (id) => document.getElementById(id);
 const role = () => document.querySelector('input[name=role]:checked').value;
-let frames = [];
+let frames = [], packets = [];
 
 // Returns an element with a class, a text or elements in it.
 function made(tag, name, ...inside) {
@@ -42,6 +43,12 @@ function sectionElements(sections) {
         const [rfc, part] = section.split(' ');
         return [index ? ', ' : '', sectionElement(section, rfc === sections[index - 1]?.split(' ')[0] ? part : sectionText(section))];
     });
+}
+
+// Brings an element into view, if most of the window is above it or it is above the window.
+function bring(element) {
+    const { top } = element.getBoundingClientRect();
+    if (top < 0 || top > innerHeight / 2) element.scrollIntoView({ block: 'start' });
 }
 
 // Buttons for examples, by the role that they are for.
@@ -74,6 +81,12 @@ function reasonText(number) {
 function dropMeaning(line) {
     const dropped = /^drop (\d+) /.exec(line);
     return dropped && `the frame ${reasonText(dropped[1]) || 'is a Redirect that is not from the first hop'}`;
+}
+
+// Shows a reason in the table below.
+function showReason(number) {
+    for (const row of find('reasons').rows) row.classList.toggle('marked', row.id === `reason-${number}`);
+    find(`reason-${number}`)?.scrollIntoView({ block: 'center' });
 }
 
 function fieldTable(frame, reason) {
@@ -139,9 +152,9 @@ function reasonCounts(dropped) {
     const counts = new Map();
     for (const [, told] of dropped) counts.set(told.line, (counts.get(told.line) ?? 0) + 1);
     return [...counts].sort(([, a], [, b]) => b - a).map(([line, count]) => {
-        const chip = made('a', 'chip', `${line.slice(5)} (${count})`), reason = line.split(' ')[1];
-        chip.href = `#reason-${reason}`;
+        const chip = made('button', 'chip', `${line.slice(5)} (${count})`), reason = line.split(' ')[1];
         chip.title = reasonText(reason);
+        chip.addEventListener('click', () => showReason(reason));
         return chip;
     });
 }
@@ -162,76 +175,46 @@ function show() {
     if (dropped.length > 0) lists.push(list('Dropped', dropped));
     if (messages.length + others.length > 0) lists.push(list('Heard', of('message', 'other')));
     find('lists').replaceChildren(...lists);
+    find('replay-these').hidden = !packets.some((it) => it.time !== undefined);
 }
 
 function takeText() {
-    frames = framesOfText(find('text').value);
+    [frames, packets] = [framesOfText(find('text').value), []];
     show();
 }
 
-function take(text) {
+function takeFrames({ role = 'either', text = '' }) {
+    document.querySelector(`input[name=role][value="${role in ROLES ? role : 'either'}"]`).checked = true;
     find('text').value = text;
     takeText();
 }
 
-async function takeFile(file) {
-    frames = packetsOfFile(await file.arrayBuffer()).map((it) => it.frame);
+// Returns true if the digits of frames may be in a link.
+const isForLink = (some) => some.reduce((sum, it) => sum + 2 * it.length, 0) <= LONGEST_LINK;
+
+// What is in the text, or the frames of the capture that was read.
+function framesState() {
+    const text = find('text').value, whole = frames.filter((it) => typeof it !== 'string');
+    return text !== '' || isForLink(whole) ? { role: role(), text: text || whole.map(hexOf).join('\n') } : null;
+}
+
+function takePackets(read) {
+    [frames, packets] = [read.map((it) => it.frame), read];
     find('text').value = '';
-    say(`${file.name}: ${counted(frames.length, 'frame')}`);
     show();
+    bring(find('results'));
 }
 
-function say(text) {
-    find('said').textContent = text;
-}
-
-// Puts the frames and the role into the link, and copies it.
-async function copyLink() {
-    const digits = frames.filter((it) => typeof it !== 'string').map(hexOf).join(',');
-    if (digits.length > LONGEST_LINK) return say(`Too many frames for a link: it would have ${digits.length} digits.`);
-    history.replaceState(null, '', `#${role() === 'either' ? '' : `${role()}:`}${digits}`);
-    try {
-        await navigator.clipboard.writeText(location.href);
-        return say('Copied.');
-    } catch {
-        return say('The link is in the address bar.');
-    }
-}
-
-// Takes the frames of the link, if it has any. A link to a reason has none.
-function takeLink() {
-    const linked = /^#(?:(host|router):)?([0-9a-f]+(?:,[0-9a-f]*)*)$/i.exec(location.hash);
-    if (!linked) return;
-    document.querySelector(`input[value=${(linked[1] ?? 'either').toLowerCase()}]`).checked = true;
-    take(linked[2].replaceAll(',', '\n'));
-}
-
-function start() {
+function startFrames() {
+    exampleButtons(find('examples'), EXAMPLES, ({ role, digits }) => {
+        takeFrames({ role, text: digits.join('\n') });
+        bring(find('results'));
+        remember();
+    });
     for (const row of [...find('reasons').rows].slice(1)) {
         row.append(made('td', 'sections', ...sectionElements(sectionsOf(Number(row.id.slice(7))))));
     }
-    exampleButtons(find('examples'), EXAMPLES, ({ role, digits }) => {
-        document.querySelector(`input[name=role][value=${role}]`).checked = true;
-        take(digits.join('\n'));
-    });
     find('text').addEventListener('input', takeText);
-    find('file').addEventListener('change', () => takeFile(find('file').files[0]));
     find('role').addEventListener('change', show);
-    find('link').addEventListener('click', copyLink);
-    find('clear').addEventListener('click', () => take(''));
-    addEventListener('hashchange', takeLink);
-    addEventListener('dragover', (event) => {
-        event.preventDefault();
-        document.body.classList.add('dropping');
-    });
-    addEventListener('dragleave', () => document.body.classList.remove('dropping'));
-    addEventListener('drop', (event) => {
-        event.preventDefault();
-        document.body.classList.remove('dropping');
-        if (event.dataTransfer.files.length > 0) takeFile(event.dataTransfer.files[0]);
-    });
-    takeLink();
-    document.body.dataset.ready = 'yes';
+    find('clear').addEventListener('click', () => takeFrames({ role: role() }));
 }
-
-start();

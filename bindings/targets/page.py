@@ -20,7 +20,7 @@ SOURCE = f"{BINDINGS}/page"
 PAGE = f"{TOP}/docs/try/index.html"
 # The parts of the page's script. Those before view.js need no browser.
 SCRIPTS = ["tell.js", "capture.js", "fields.js", "sections.js", "node.js", "script.js", "words.js", "replay.js",
-           "view.js", "pair.js", "run.js"]
+           "view.js", "arrows.js", "pair.js", "run.js", "hear.js", "tabs.js"]
 # The modules: the crate, where Rattle's module of it is, its memory, and its functions.
 MODULES = {"tell": ("nd_tell_c", f"{OUT}/tell", 32 * build.PAGE, lambda: ["nd_tell"]), "node": ("nd_c", OUT, 16 * build.PAGE, build.functions)}
 
@@ -85,6 +85,11 @@ def words():
     return {kind: {word: meanings for word, *meanings in (line.split(" | ") for line in lines)} for kind, *lines in blocks("words.txt")}
 
 
+def capture():
+    """Returns the capture of the page, the frames of examples/host.hex with their moments, as a link has it."""
+    return "_".join(line.replace(" ", "-") for line in read(f"{TOP}/examples/host.hex").splitlines() if " " in line)
+
+
 def on_one_line(value):
     return json.dumps(value, indent=0).replace("\n", "")
 
@@ -92,7 +97,7 @@ def on_one_line(value):
 def page_of(modules, by):
     """Returns the page with its packed modules, by their names, and the tools that made them."""
     parts = {"TELL": modules["tell"], "NODE": modules["node"], "EXAMPLES": on_one_line(examples()), "SCRIPTS": on_one_line(list(scripts())),
-             "WORDS": on_one_line(words()),
+             "CAPTURE": on_one_line(capture()), "WORDS": on_one_line(words()),
              "REASONS": on_one_line(["", *rules.REASONS.values()]), "TOOLS": by,
              "SIZES": " and ".join(f"{len(unpacked(it)):,}" for it in modules.values()), "STYLE": read(f"{SOURCE}/page.css").rstrip("\n")}
     parts["SCRIPT"] = filled("\n\n".join(read(f"{SOURCE}/{name}").rstrip("\n") for name in SCRIPTS), parts)

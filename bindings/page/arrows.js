@@ -1,0 +1,103 @@
+// Frames as arrows between two lines, with what is said at each line: of two hosts, and of a capture and a host. Time runs downwards.
+
+const SVG = 'http://www.w3.org/2000/svg';
+const ROW = 40, NOTE = 20;
+// Notes of what comes before the frames of its row.
+const EARLY = ['starts', 'assigned'];
+
+const markers = (name) => `<defs>${['sent', 'given', 'dropped'].map((kind) => `
+<marker id="tip-${name}-${kind}" class="${kind}" viewBox="0 0 8 8" refX="7" refY="4" markerWidth="8" markerHeight="8" orient="auto"><path d="M0 0 8 4 0 8z"/>
+</marker>`).join('')}
+<marker id="tip-${name}-lost" viewBox="0 0 8 8" refX="4" refY="4" markerWidth="10" markerHeight="10">
+<path d="M1 1 7 7M7 1 1 7" fill="none" stroke="currentColor"/></marker>
+</defs>`;
+
+function drawn(tag, attributes, text) {
+    const element = document.createElementNS(SVG, tag);
+    for (const [name, value] of Object.entries(attributes)) element.setAttribute(name, value);
+    if (text) element.textContent = text;
+    return element;
+}
+
+// A text that is shortened to so many pixels once it is shown. The whole text, or what it means, is shown where it is pointed at.
+function drawnText(attributes, text, room, meaning = text) {
+    const element = drawn('text', { ...attributes, 'data-room': room }, text);
+    element.append(drawn('title', {}, meaning));
+    return element;
+}
+
+function shorten(text) {
+    const length = text.getComputedTextLength(), { firstChild, dataset } = text;
+    if (length > dataset.room) firstChild.data = `${firstChild.data.slice(0, Math.floor((firstChild.length * dataset.room) / length) - 1)}…`;
+}
+
+const momentText = (at) => (at < 100000 ? `${at.toLocaleString('en')} ms` : `${(at / 1000).toFixed(3)} s`);
+
+// Returns where the arrows of each row are, and its notes. Where there is no room outside the lines, these are between them, and so above the arrows or
+// below, if the row has arrows.
+function placed(rows, arrows, isNarrow) {
+    const most = (notes) => Math.max(...[0, 1].map((which) => notes.filter((it) => it.which === which).length));
+    const ends = new Set(arrows.flatMap((it) => [it.row, it.to]));
+    let y = 60;
+    return rows.map(({ notes }, index) => {
+        const isApart = isNarrow && ends.has(index), isAbove = (it) => isApart && EARLY.includes(it.kind);
+        const above = notes.filter(isAbove), below = notes.filter((it) => !isAbove(it));
+        y += NOTE * most(above);
+        const place = { y, above, below, down: isApart ? NOTE : 4 };
+        y += ROW + NOTE * Math.max(0, most(below) - (isApart ? 0 : 1));
+        return place;
+    });
+}
+
+// An arrow with its label: in the middle, or if it slopes nearer to the sender, as the arrow does. The label is over it, or below that of an answer, over
+// which is the arrow of the question.
+function arrow(it, name, lines, places) {
+    const [from, to] = [lines[it.from], lines[1 - it.from]], side = Math.sign(to - from), room = Math.abs(to - from);
+    const end = it.kind === 'lost' ? (from + to) / 2 : to - 3 * side, y1 = places[it.row].y, y2 = places[it.to].y;
+    const part = y1 === y2 && it.kind !== 'lost' ? 0.5 : 0.31, x = from + part * (to - from), on = y1 + part * (y2 - y1);
+    const angle = (side * Math.atan2(y2 - y1, Math.abs(end - from)) * 180) / Math.PI;
+    const label = { class: 'label', x, y: it.isAnswer ? on + 17 : on - 7, 'text-anchor': 'middle', transform: `rotate(${angle} ${x} ${on})` };
+    const line = drawn('line', { x1: from, y1, x2: end, y2, class: `arrow ${it.kind}`, 'marker-end': `url(#tip-${name}-${it.kind})` });
+    return [line, drawnText(label, it.text, room - 8, it.meaning)];
+}
+
+// The notes of a row.
+function noteTexts({ y, above, below, down }, lines, width, isNarrow) {
+    const counts = [0, 0];
+    const text = (it, at) => {
+        const isRight = (it.which === 1) !== isNarrow, x = lines[it.which] + (isRight ? 14 : -14);
+        const room = isNarrow ? lines[1] - lines[0] - 28 : it.which ? width - x : x - 80;
+        return drawnText({ x, y: at, class: `note ${it.kind}`, 'text-anchor': isRight ? 'start' : 'end' }, it.text, room, it.meaning);
+    };
+    const after = (it) => y + down + NOTE * counts[it.which]++;
+    return [...above.map((it, index) => text(it, y - 26 - NOTE * index)), ...below.map((it) => text(it, after(it)))];
+}
+
+// Shows a picture in `box`, and returns it. `rows` have a moment and notes; `arrows` have the rows of their ends. `wide` has the width and the lines of a
+// picture with room for notes outside; the picture is as wide as `box`, if that is less.
+function diagram({ name, box, heads, rows, arrows, label, wide }) {
+    const room = box.clientWidth || wide.width, isNarrow = room < wide.width, width = isNarrow ? room : wide.width;
+    const lines = isNarrow ? [84, width - 14] : wide.lines, places = placed(rows, arrows, isNarrow), height = (places.at(-1)?.y ?? 60) + ROW;
+    const svg = drawn('svg', { viewBox: `0 0 ${width} ${height}`, width, height, class: isNarrow ? 'narrow' : 'broad', role: 'img',
+        'aria-label': label });
+    const add = (at, ...elements) => {
+        for (const element of elements) element.style.setProperty('--at', at);
+        svg.append(...elements);
+    };
+    svg.innerHTML = markers(name);
+    for (const which of [0, 1]) {
+        const isLast = isNarrow && which === 1, x = isLast ? width - 2 : lines[which];
+        svg.append(drawn('line', { x1: lines[which], y1: 30, x2: lines[which], y2: height - 10, class: 'lifeline' }));
+        svg.append(drawn('text', { x, y: 20, class: 'host', 'text-anchor': isLast ? 'end' : 'middle' }, heads[which]));
+    }
+    for (const [index, { at }] of rows.entries()) {
+        if (at !== rows[index - 1]?.at) add(at, drawnText({ x: 2, y: places[index].y + 4, class: 'moment' }, momentText(at), 80, SINCE_FIRST));
+        add(at, ...noteTexts(places[index], lines, width, isNarrow));
+    }
+    for (const it of arrows) add(rows[it.row].at, ...arrow(it, name, lines, places));
+    box.replaceChildren(svg);
+    for (const text of svg.querySelectorAll('[data-room]')) shorten(text);
+    return svg;
+}
+
+const SINCE_FIRST = 'milliseconds since the first node started';

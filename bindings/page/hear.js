@@ -1,0 +1,135 @@
+// The tab of a capture: a host hears its frames at the capture's times. They and what the host sends are arrows between it and the link.
+
+const HEARD_EXAMPLE = @CAPTURE@;
+const HEARING_WIDE = { width: 1000, lines: [110, 530] };
+const MOST_EVENTS = 300, AFTER = 5000;
+let capture = [], hearings = 0;
+
+// What a frame says, in a few words.
+function brief(frame) {
+    const line = lineOf(frame, 'either') ?? 'too long for this page', [word, source] = line.split(' ');
+    const [, target] = / target (\S+)/.exec(line) ?? [], [, destination] = / destination (\S+)/.exec(line) ?? [];
+    switch (word) {
+        case 'rs': return 'rs: are there routers?';
+        case 'ra': return / lifetime 0 reachable /.test(line) ? 'ra: I am no default router' : 'ra: I am a router';
+        case 'ns': return source === '::' ? `ns: is ${target} taken?` : `ns: who has ${target}?`;
+        case 'na': return `na: I have ${target}`;
+        case 'redirect': return `redirect: to ${destination} by ${target}`;
+        case 'drop': return frame[20] === 58 && frame[54] in MESSAGES ? MESSAGES[frame[54]].name : 'a frame';
+        default: return line;
+    }
+}
+
+// The rows and arrows of a picture of events. What the host says of a frame is in the row of the frame.
+function hearingPicture(events) {
+    const rows = [], arrows = [];
+    for (const { at, kind, text, frame } of events.filter((it) => it.kind !== HEARD)) {
+        const row = rows.length, last = arrows.at(-1), note = { which: 1, kind: text?.split(' ')[0], text: kind === UP ? 'up: for an upper layer' : text };
+        if (kind === 0) arrows.push({ from: 0, row, to: row, kind: 'given', text: brief(frame), meaning: lineOf(frame, 'either') });
+        if (kind === TX) arrows.push({ from: 1, row, to: row, kind: 'sent', text: brief(frame), meaning: lineOf(frame, 'either') });
+        if (kind === DROP) {
+            last.kind = 'dropped';
+            note.meaning = dropMeaning(text);
+        }
+        const isOfLast = last?.row === row - 1 && last.from === 0 && rows[row - 1].at === at;
+        if (kind === 0 || kind === TX) rows.push({ at, notes: [] });
+        else if (isOfLast) rows[row - 1].notes.push(note);
+        else rows.push({ at, notes: [note] });
+    }
+    return { rows, arrows };
+}
+
+// The events as text, as on the tab of a node.
+function hearingLines(events) {
+    let heard = null;
+    return events.map((it) => {
+        if (it.kind !== 0) return outputLine(`${it.at} ${it.text}`, heard);
+        heard = it.frame;
+        return commandLine(`${it.at} rx ${hexOf(heard)}`);
+    });
+}
+
+const hearingOptions = () => ({ mac: find('capture-mac').value.trim().toLowerCase(), draws: find('capture-draws').value });
+
+// The frames of the capture with their moments at the host that is chosen.
+function framesHeard() {
+    const before = Math.trunc(Number(find('capture-before').value));
+    return timedFrames(capture, before >= 0 && before < 2 ** 32 ? before : 0);
+}
+
+// What was passed and sent, in one sentence.
+function hearingSum(timed, own, events) {
+    const mine = timed.filter(({ frame }) => sender(frame) === own).length, passed = timed.filter(({ frame }) => passes(frame, own)).length;
+    const left = [[mine, 'of its own'], [timed.length - mine - passed, 'for others'], [capture.length - timed.length, 'not whole or without a time']];
+    const without = left.filter(([count]) => count > 0).map(([count, what]) => `${count} ${what}`).join(', ');
+    const sent = events.filter((it) => it.kind === TX).length;
+    return `The host hears ${passed} of ${counted(capture.length, 'frame')}, and sends ${sent}.${without && ` Left out: ${without}.`}`;
+}
+
+async function showCapture() {
+    const mine = ++hearings, module = await compiled(), options = hearingOptions();
+    let events = [], said = 'No capture yet.';
+    try {
+        const timed = framesHeard(), node = await opened(module, { role: 'host', ...options });
+        if (timed.length > 0) {
+            if (longestGap(timed) > LONGEST_GAP) throw new Error('Two frames of this capture are more than two years apart.');
+            events = replayed(node, options.mac, timed, timed.at(-1).at + AFTER);
+            said = hearingSum(timed, options.mac, events);
+        } else if (capture.length > 0) said = 'This file has no whole frames of Ethernet with times.';
+    } catch (fault) {
+        said = fault.message;
+    }
+    if (mine !== hearings) return;
+    const shown = events.slice(0, MOST_EVENTS), more = events.length > MOST_EVENTS ? ` The first ${MOST_EVENTS} events of ${events.length} are shown.` : '';
+    find('capture-sum').textContent = said + more;
+    const picture = { name: 'capture', box: find('capture-diagram'), heads: ['the link', `host ${options.mac}`], wide: HEARING_WIDE,
+        label: 'the frames of the capture and of the host as arrows; the same is below as text', ...hearingPicture(shown) };
+    if (shown.length > 0) diagram(picture);
+    else find('capture-diagram').replaceChildren();
+    find('capture-lines').replaceChildren(...hearingLines(shown));
+}
+
+// Takes another capture: the host is one of those in it.
+function hearPackets(packets, before = 1500) {
+    capture = packets;
+    const known = stations(capture.filter(isWhole));
+    find('capture-mac').value = known[0] ?? PAIR_MAC;
+    find('capture-before').value = before;
+    find('stations').replaceChildren(...known.slice(0, 64).map((it) => Object.assign(made('option', ''), { value: it })));
+    return showCapture();
+}
+
+const packetsOfLink = (text) => [...text.matchAll(/(\d+)-((?:[0-9a-f]{2})+)/gi)].map(([, at, digits]) => {
+    const frame = bytesOf(digits);
+    return { frame, length: frame.length, time: BigInt(at) * MILLISECOND };
+});
+
+// Takes what is in a link, or else the example.
+async function takeCapture({ mac: own, draws = 'word:0', before = 1200, frames: linked }) {
+    await hearPackets(packetsOfLink(linked ?? HEARD_EXAMPLE), before);
+    find('capture-mac').value = own ?? PAIR_MAC;
+    find('capture-draws').value = draws;
+    return showCapture();
+}
+
+function captureState() {
+    const timed = timedFrames(capture, 0), of = () => timed.map(({ at, frame }) => `${at}-${hexOf(frame)}`).join('_');
+    return isForLink(timed.map((it) => it.frame)) ? { ...hearingOptions(), before: find('capture-before').value, frames: of() } : null;
+}
+
+// Puts what the host hears into a script, on the tab of a node.
+function hearingScript() {
+    const options = hearingOptions(), heard = framesHeard().filter(({ frame }) => passes(frame, options.mac));
+    const lines = heard.map(({ at, frame }) => `${at} rx ${hexOf(frame)}`), end = (heard.at(-1)?.at ?? 0) + AFTER;
+    return showTab('node', { ...options, script: [...lines, `${end} show addresses`].join('\n') });
+}
+
+function startCapture() {
+    for (const id of ['capture-mac', 'capture-draws', 'capture-before']) find(id).addEventListener('input', showCapture);
+    find('capture-example').addEventListener('click', async () => {
+        await takeCapture({});
+        bring(find('capture-sum'));
+        remember();
+    });
+    find('capture-script').addEventListener('click', hearingScript);
+}
