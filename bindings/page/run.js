@@ -25,13 +25,13 @@ function outputLine(line, heard) {
     element.dataset.line = line;
     element.append(at, made('span', 'line', made('b', '', word), ...explainedWords('output', `${word} ${short}`).slice(1)));
     if (word === 'tx') element.append(meaning(rest[0]));
-    if (word === 'drop') element.append(made('span', 'quiet', `${dropMeaning(line.slice(moment.length + 1))}: `, ...dropSection(rest[0], heard)));
+    if (word === 'drop') element.append(made('span', 'quiet', dropMeaning(line.slice(moment.length + 1)), ...dropSection(rest[0], heard)));
     return element;
 }
 
+// A link to the section of a reason. What isn't for a node by its addresses has none.
 function dropSection(reason, frame) {
-    const section = frame && sectionOf(reason, frame);
-    return section ? [sectionElement(section)] : [];
+    return frame && reason !== '19' ? [': ', sectionElement(sectionOf(reason, frame))] : [];
 }
 
 // The tables of a node at a moment, as they are now. Those without rows are left out.

@@ -77,10 +77,16 @@ function reasonText(number) {
     return find(`reason-${number}`)?.cells[1].textContent ?? '';
 }
 
-// What a line says of a frame that is dropped, or null if it drops none.
+// What a node says by dropping a frame, where it isn't what the role says, or is said by a node alone (docs/FORMATS.md).
+const AT_NODES = {
+    19: 'is not for this node: its role does not take it, it has another destination or target, or the link-local address is not assigned yet or a duplicate',
+    20: 'is a Redirect that is not from the first hop of its destination',
+};
+
+// What a line of a node says of a frame that is dropped, or null if it drops none.
 function dropMeaning(line) {
-    const dropped = /^drop (\d+) /.exec(line);
-    return dropped && `the frame ${reasonText(dropped[1]) || 'is a Redirect that is not from the first hop'}`;
+    const [, reason] = /^drop (\d+) /.exec(line) ?? [];
+    return reason ? `the frame ${AT_NODES[reason] ?? reasonText(reason)}` : null;
 }
 
 // Shows a reason in the table below.
