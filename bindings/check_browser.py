@@ -113,6 +113,13 @@ def check_opening_in_browser(browser, path):
               f"{arrows} {notes}")
 
 
+def check_late_frames_in_browser(browser, path):
+    """Lets a frame take 3 seconds, and the second host start at 8. RFC 4862, 5.4: a host tries an address for at most a second of delay and a second of
+    RetransTimer, so what host 1 sends while it tries arrives before host 2 is there, its answer arrives too late, and both use the address."""
+    said = text_of(part_of(browser.after(path, "", "#pair?start=8000&delay=3000"), "outcome"))
+    report_if("the page in a browser: two hosts whose frames are late", said.split(">")[1].startswith("Both hosts use the address:"), said[:100])
+
+
 def check_runs_in_browser(browser, path, room):
     """Chooses each script of the page, and compares what is shown with the output of the example of the command that it is, or with what `trace` prints."""
     for index, it in enumerate(sorted(page.scripts(), key=lambda it: it["role"])):
@@ -282,6 +289,7 @@ def check_browser(room):
     check_link_in_browser(browser, path)
     check_opening_in_browser(browser, path)
     check_runs_in_browser(browser, path, room)
-    for check in (check_fault_in_browser, check_reasons_in_browser, check_addresses_in_browser, check_capture_in_browser, check_narrow_in_browser):
+    for check in (check_late_frames_in_browser, check_fault_in_browser, check_reasons_in_browser, check_addresses_in_browser, check_capture_in_browser,
+                  check_narrow_in_browser):
         check(browser, path)
     return None

@@ -1,6 +1,6 @@
 // The tab of two hosts that have the same Ethernet address, and so try for the same address: what each does, and their frames as arrows between them.
 
-const PAIR_MAC = '34:56:78:9a:bc:de', PAIR_END = 9000;
+const PAIR_MAC = '34:56:78:9a:bc:de', PAIR_END = 9000, LONGEST_TRIAL = 2500;
 const PAIR_WIDE = { width: 800, lines: [250, 610] };
 const SHORT_NOTES = { assigned: 'uses the address', duplicate: 'finds a duplicate' };
 let pairRuns = 0;
@@ -8,6 +8,8 @@ let pairRuns = 0;
 // Lets two hosts run on a link whose frames take `delay` milliseconds or are lost. Returns what happened, in its order, and the frames.
 async function simulated(starts, delay, areLost) {
     const module = await compiled(), hosts = [null, null], happened = [], carried = [];
+    // By then the second host has an answer to its solicitation, or uses the address.
+    const end = Math.max(PAIR_END, starts[1] + LONGEST_TRIAL + 2 * delay);
     const gather = (which) => {
         for (const record of hosts[which].records()) {
             const at = Number(record.moment);
@@ -19,7 +21,7 @@ async function simulated(starts, delay, areLost) {
         const due = [...starts.filter((_, which) => !hosts[which]), ...hosts.filter(Boolean).map((host) => Number(host.nextDue())),
             ...carried.filter((it) => !it.isLost && !it.isCarried).map((it) => it.arrives)];
         const now = Math.min(...due);
-        if (now > PAIR_END) return { happened, carried };
+        if (now > end) return { happened, carried };
         for (const frame of carried.filter((it) => !it.isLost && !it.isCarried && it.arrives <= now)) {
             frame.isCarried = true;
             // A frame that arrives before a host starts passes it by.
