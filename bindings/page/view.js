@@ -190,7 +190,7 @@ function takeText() {
 }
 
 function takeFrames({ role = 'either', text = '' }) {
-    document.querySelector(`input[name=role][value="${role in ROLES ? role : 'either'}"]`).checked = true;
+    document.querySelector(`input[name=role][value="${Object.hasOwn(ROLES, role) ? role : 'either'}"]`).checked = true;
     find('text').value = text;
     takeText();
 }
@@ -222,5 +222,8 @@ function startFrames() {
     }
     find('text').addEventListener('input', takeText);
     find('role').addEventListener('change', show);
-    find('clear').addEventListener('click', () => takeFrames({ role: role() }));
+    find('clear').addEventListener('click', () => {
+        takeFrames({ role: role() });
+        remember();
+    });
 }
