@@ -1,12 +1,12 @@
 """check_dist: dist/, the node in C as it is committed. Its stamp has the sum of today's sources. Where the tools are those of the stamp, dist/ is made
 again, and has the same bytes. It compiles without a warning; the examples print what they print over the archive, and the rows of `ndpctl run`
-have their texts."""
+have their texts. A simulation of many nodes in one thread has the same lines as over the archive."""
 import os
 import sys
 import time
 
 from check_hostile import SEED
-from check_programs import BINDINGS, TESTS, check_host, check_lines, check_router, check_traces
+from check_programs import BINDINGS, FEW_NODES, TESTS, check_host, check_lines, check_many, check_router, check_traces, simulated
 from checking import IS_FULL, TOP, WARNINGS, has, read, report, report_if, run, skip
 
 sys.path.insert(0, f"{BINDINGS}/targets")
@@ -14,7 +14,7 @@ import build  # noqa: E402
 import stamp  # noqa: E402
 
 DIST = f"{TOP}/dist"
-EXAMPLES = ("host", "router", "hear")
+EXAMPLES = ("host", "router", "hear", "many")
 # The memory of nd.c for `fuzz`: enough for two nodes with the greatest limits, so that ND_NO_MEMORY is never returned.
 FUZZ_MEMORY = 1 << 26
 
@@ -51,6 +51,7 @@ def check_made(room, kept):
 def check_compiled(room, compiler):
     """Compiles nd.c and the examples, and requires that these print what they print over the archive."""
     what = f"dist/nd.c by {compiler}"
+    over_archive = f"{room}/many"
     room = f"{room}/{compiler}"
     os.mkdir(room)
     said = run([compiler, "-O2", f"-I{DIST}", "-c", f"{DIST}/nd.c", "-o", f"{room}/nd.o"])
@@ -59,13 +60,22 @@ def check_compiled(room, compiler):
     words = [compiler, "-std=c11", "-D_POSIX_C_SOURCE=200809L", "-O2", *WARNINGS, f"-I{DIST}"]
     sources = {name: [f"{TOP}/examples/c/{name}.c"] for name in EXAMPLES} | {"trace": [f"{TESTS}/trace.c", f"{TESTS}/uncounted.c"]}
     for name, files in sources.items():
-        said = run([*words, *files, f"{room}/nd.o", "-lm", "-o", f"{room}/{name}"])
+        said = run([*words, *files, f"{room}/nd.o", "-lm", "-pthread", "-o", f"{room}/{name}"])
         if not report_if(f"{name} over {what} is built", said.returncode == 0, said.stderr):
             return
     check_host(f"host over {what}", f"{room}/host")
     check_router(f"{room}/router", f"router over {what}")
     check_lines(f"hear over {what}", [f"{room}/hear"])
     check_traces(f"{room}/trace", f"trace over {what}")
+    check_simulated(f"many over {what}", f"{room}/many", over_archive)
+
+
+def check_simulated(what, program, over_archive):
+    """Checks a simulation over nd.c, and compares it with that over the archive, which is there if the archive is."""
+    said = check_many(program, FEW_NODES, what)
+    if not os.path.exists(over_archive):
+        return skip(f"{what}: as over the archive", "the archive is not there")
+    return report_if(f"{what}: as over the archive", said and said == simulated(over_archive, FEW_NODES), str(said))
 
 
 def over_dist(room, name, *more):

@@ -32,6 +32,9 @@ STEADY = "\n".join(frames.steady(1000)) + "\n"
 NAMED = hostile.named()[0]
 # The limits of a small node, in the order of nd.h.
 SMALL = [8, 2, 4, 4, 2, 2, 4, 8, 1, 1, 3]
+# A simulation whose nodes fit into the memory that dist/nd.c has unless another is asked for.
+FEW_NODES = {"hosts": 9, "links": 3, "routers": 2, "seconds": 120}
+MORE_NODES = {"hosts": 100, "links": 8, "routers": 4, "seconds": 300}
 
 
 def archive_of(crate, variable):
@@ -153,6 +156,54 @@ def check_keeping(program, what="stack"):
     wanted = read(f"{TOP}/examples/stack.txt")
     report_if(f"{what} prints the expected text", said == wanted and wanted.splitlines()[:len(sent)] == sent, said)
     check_last_line(what, [program, *HOST], with_a_moment(text))
+
+
+def simulated(program, numbers, **more):
+    """Returns what `many` prints for these arguments but for its time, by the names of its lines; or None if it fails."""
+    said = run([program, *(f"{name}={number}" for name, number in {**numbers, **more}.items())])
+    return dict(line.split() for line in said.stdout.splitlines()[:-2]) if said.returncode == 0 else None
+
+
+def check_many(program, numbers, what="many"):
+    """Requires that a simulation repeats itself, that another seed gives another one, and what the RFCs say of its end: each host has its link-local
+    address and one of each prefix, each router its link-local address and the one that it is given; each packet has arrived or is lost."""
+    first, again, other = simulated(program, numbers), simulated(program, numbers), simulated(program, numbers, seed=2)
+    if not report_if(f"{what}: {' '.join(map(str, numbers.values()))}", first and again and other, "it failed"):
+        return None
+    report_if(f"{what}: the same seed, the same lines", first == again, f"{first}\n{again}")
+    report_if(f"{what}: another seed, another hash", first["hash"] != other["hash"], first["hash"])
+    for counts in (first, other):
+        known = {name: int(number) for name, number in counts.items() if name != "hash"}
+        routers = numbers["links"] * numbers["routers"]
+        wanted = (numbers["hosts"] + routers, numbers["hosts"] * (1 + numbers["routers"]) + routers * 2, 0)
+        is_whole = (known["nodes"], known["addresses_assigned"], known["refusals"]) == wanted
+        report_if(f"{what}: {known['nodes']} nodes, {known['addresses_assigned']} addresses", is_whole, str(counts))
+        is_kept = known["packets_sent"] == known["packets_arrived"] + known["packets_lost"]
+        happened = min(known[name] for name in ("packets_arrived", "packets_lost", "neighbours_failed", "redirects_heard"))
+        report_if(f"{what}: {known['packets_sent']} packets, {known['redirects_heard']} Redirects", is_kept and happened > 0, str(counts))
+    return first
+
+
+def check_threads_of_many(program, numbers, wanted):
+    """Requires that a simulation is the same with one thread, with a few, and with a thread for each link."""
+    for threads in (2, numbers["links"]):
+        said = simulated(program, numbers, threads=threads)
+        report_if(f"many: {threads} threads, the lines of one", said == wanted, f"{said}\n{wanted}")
+
+
+def check_simulations(room, archive):
+    """Builds and checks `many` over the archive, with few nodes and with more, in one thread and in several."""
+    program = build(room, "many", [f"{TOP}/examples/c/many.c", HEAP, archive], "-pthread")
+    if not program:
+        return
+    for numbers in (FEW_NODES, MORE_NODES):
+        said = check_many(program, numbers)
+        if said:
+            check_threads_of_many(program, numbers, said)
+    words = [program, *(f"{name}={number}" for name, number in FEW_NODES.items()), f"threads={FEW_NODES['links']}"]
+    if has("valgrind", "many, under valgrind"):
+        report("many, under valgrind", run([*VALGRIND, *words]))
+        report("many, under helgrind", run(["valgrind", "--tool=helgrind", "-q", "--error-exitcode=99", *words]))
 
 
 def check_traces(program, what="trace"):
@@ -342,6 +393,7 @@ def check_examples(room, archive):
     stack = build(room, "stack", [f"{TOP}/examples/c/stack.c", HEAP, archive])
     if stack:
         check_keeping(stack)
+    check_simulations(room, archive)
     loop = build(room, "loop", [f"{TOP}/examples/c/loop.c", HEAP, archive])
     if loop and not os.environ.get("ND_LIVE"):
         skip("loop on a TAP device", "it takes the kernel's time: ND_LIVE=1 runs it")
