@@ -2,6 +2,7 @@
 the states of neighbours are bars at the right."""
 from __future__ import annotations
 
+import math
 from bisect import bisect_right
 from typing import Dict, List, Tuple
 from xml.sax.saxutils import escape
@@ -17,6 +18,8 @@ LEFT, TOP, LANE, ROW, BAR, BAR_GAP, LABEL = 100, 84, 150, 26, 14, 62, 560
 LONGEST_GAP = 3 * ROW          # between two rows, however long the time between them is
 MILLISECONDS_A_PIXEL = 20      # between these bounds
 LABEL_CHARACTERS = 80
+CHARACTER = 6.7                # the width of one of 11px monospace, 0.6 em in common fonts, rounded up
+SLANT = 30                     # degrees, of the names of neighbours
 COLOURS = {nd.Reachability.INCOMPLETE: "#d0d0d0", nd.Reachability.REACHABLE: "#4c9f70", nd.Reachability.STALE: "#e3b23c",
            nd.Reachability.DELAY: "#e07b39", nd.Reachability.PROBE: "#b13e53"}
 INK, SENT, DROPPED, GRID = "#222222", "#2459a8", "#b13e53", "#cccccc"
@@ -33,9 +36,9 @@ def _lanes(arrows: List[Arrow]) -> List[nd.Mac]:
     return list(seen)
 
 
-def _rows(arrows: List[Arrow]) -> List[float]:
+def _rows(arrows: List[Arrow], top: float) -> List[float]:
     """Returns the heights of arrows: in proportion to time, but at least ROW and at most LONGEST_GAP apart."""
-    heights, y = [], float(TOP + ROW)
+    heights, y = [], top + ROW
     for index, arrow in enumerate(arrows):
         passed = (arrow.time - arrows[index - 1].time) / MILLISECOND / MILLISECONDS_A_PIXEL if index > 0 else 0.0
         y += min(max(passed, ROW), LONGEST_GAP) if index > 0 else 0.0
@@ -50,16 +53,19 @@ class Drawing:
         self.picture = picture
         self.lanes = _lanes(picture.arrows)
         self.neighbours = sorted({bar.neighbour for bar in picture.bars})
-        self.rows = _rows(picture.arrows)
+        self.name_length = CHARACTER * max((len(address_text(neighbour)) for neighbour in self.neighbours), default=0)
+        self.top = max(TOP, 20 + self.name_length * math.sin(math.radians(SLANT)))
+        self.rows = _rows(picture.arrows, self.top)
         self.times = [arrow.time for arrow in picture.arrows]
         self.elements: List[str] = []
 
     def text(self) -> str:
         """Returns the SVG."""
-        last = self.rows[-1] if self.rows else TOP + ROW
+        last = self.rows[-1] if self.rows else self.top + ROW
         labels = LEFT + LANE * max(len(self.lanes), 1)
         bars = labels + LABEL
-        width, height = bars + (BAR_GAP * len(self.neighbours) + 60 if self.neighbours else 0), last + 2 * ROW
+        names = BAR_GAP * (len(self.neighbours) - 1) + 20 + self.name_length * math.cos(math.radians(SLANT)) if self.neighbours else 0
+        width, height = bars + names, last + 2 * ROW
         self.draw_lanes(last + ROW)
         for arrow, y in zip(self.picture.arrows, self.rows):
             self.draw_arrow(arrow, y, labels)
@@ -86,19 +92,21 @@ class Drawing:
         """Draws the line of each Ethernet address, with its name above."""
         sent = {arrow.source for arrow in self.picture.arrows if arrow.number == 0}
         for mac in self.lanes:
-            self.add_text(self.x_of(mac), TOP - 34, "the node" if mac in sent else "", "small", "middle")
-            self.add_text(self.x_of(mac), TOP - 18, str(mac), "mono", "middle")
-            self.add_line((self.x_of(mac), TOP - 8), (self.x_of(mac), bottom), GRID)
-        self.add_text(LEFT - 14, TOP - 18, "seconds", "small", "end")
+            self.add_text(self.x_of(mac), self.top - 34, "the node" if mac in sent else "", "small", "middle")
+            self.add_text(self.x_of(mac), self.top - 18, str(mac), "mono", "middle")
+            self.add_line((self.x_of(mac), self.top - 8), (self.x_of(mac), bottom), GRID)
+        self.add_text(LEFT - 14, self.top - 18, "seconds", "small", "end")
 
     def draw_arrow(self, arrow: Arrow, y: float, labels: float) -> None:
-        """Draws a frame: an arrow to its destination, or a line to all with an arrow at each, its time, and its line."""
+        """Draws a frame: an arrow to its destination, or a line to the last ones at both sides with a head at each; its time, and its line."""
         colour = DROPPED if arrow.line.startswith("drop ") else SENT if arrow.number == 0 else INK
         begin = self.x_of(arrow.source)
         reached = [mac for mac in self.lanes if mac != arrow.source] if arrow.destination.is_group else [arrow.destination]
         dash = ' stroke-dasharray="5 3"' if arrow.destination.is_group else ""
-        for end in map(self.x_of, reached):
+        ends = [self.x_of(mac) for mac in reached]
+        for end in sorted({min(ends + [begin]), max(ends + [begin])} - {begin}):
             self.add_line((begin, y), (end, y), colour, dash)
+        for end in ends:
             way = 1 if end > begin else -1
             self.elements.append(f'<path d="M {end:.1f} {y:.1f} l {-8 * way} -4 v 8 z" fill="{colour}"/>')
         self.elements.append(f'<circle cx="{begin:.1f}" cy="{y:.1f}" r="3" fill="{colour}"/>')
@@ -112,7 +120,7 @@ class Drawing:
         arrows, heights = self.picture.arrows, self.rows
         after = bisect_right(self.times, time)
         if after == 0:
-            return TOP
+            return self.top
         if after == len(arrows):
             return heights[-1] + (ROW if time > arrows[-1].time else 0)
         part = (time - arrows[after - 1].time) / (arrows[after].time - arrows[after - 1].time)
@@ -122,7 +130,7 @@ class Drawing:
         """Draws the states of each neighbour, and what the colours are."""
         for index, neighbour in enumerate(self.neighbours):
             x = left + BAR_GAP * index
-            place = f"translate({x + 4:.1f} {TOP - 4}) rotate(-30)"
+            place = f"translate({x + 4:.1f} {self.top - 4:.1f}) rotate({-SLANT})"
             self.elements.append(f'<text class="mono" transform="{place}">{escape(address_text(neighbour))}</text>')
             for bar in (bar for bar in self.picture.bars if bar.neighbour == neighbour):
                 begin, end = self.height_of(bar.begin), self.height_of(bar.end)

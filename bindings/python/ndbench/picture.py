@@ -31,7 +31,8 @@ class Arrow:
 
 
 class Picture:
-    """What is drawn: arrows, and bars. Times are shown since `begin`, that of the first packet. Packets above MOST_ROWS are left out, and counted."""
+    """What is drawn: arrows, and bars. Times are shown since `begin`, that of the first packet. Packets above MOST_ROWS are left out, and counted.
+    So are those of the node, without a count: what it sends itself is drawn in their place."""
 
     def __init__(self) -> None:
         self.arrows: List[Arrow] = []
@@ -39,10 +40,10 @@ class Picture:
         self.begin: Optional[int] = None
         self.left_out = 0
 
-    def add_packet(self, packet: Packet) -> None:
-        """Adds the arrow of a packet, unless it is skipped, too short for Ethernet addresses, or one too many."""
+    def add_packet(self, packet: Packet, is_drawn: bool = True) -> None:
+        """Adds the arrow of a packet, unless it is not to be drawn, skipped, too short for Ethernet addresses, or one too many."""
         self.begin = packet.time if self.begin is None else self.begin
-        if packet.skipped or len(packet.frame) < 12:
+        if not is_drawn or packet.skipped or len(packet.frame) < 12:
             return
         if len(self.arrows) < MOST_ROWS:
             self.arrows.append(arrow_of(packet.time, packet.frame, packet.number))
@@ -79,6 +80,5 @@ def picture_with_node(packets: Iterable[Packet], setup: Setup, before: int = 0, 
 
 def _drawn(packets: Iterable[Packet], setup: Setup, made: Picture) -> Iterator[Packet]:
     for packet in packets:
-        if not setup.is_own(packet.frame):
-            made.add_packet(packet)
+        made.add_packet(packet, is_drawn=not setup.is_own(packet.frame))
         yield packet

@@ -1,6 +1,8 @@
 """`picture`: where the arrows and bars of an SVG are."""
 from __future__ import annotations
 
+import math
+import re
 import unittest
 import xml.etree.ElementTree as ElementTree
 from typing import Dict, List, Tuple
@@ -33,6 +35,12 @@ def lines(root: ElementTree.Element) -> List[Tuple[float, float, float, str]]:
     return [(float(line["x1"]), float(line["x2"]), float(line["y1"]), line["stroke"]) for line in found if line["y1"] == line["y2"]]
 
 
+def heads(root: ElementTree.Element) -> List[Tuple[float, float]]:
+    """Returns where the points of the arrows are: from the left, and how far down."""
+    points = [re.match(r"M (\S+) (\S+) l", element.attrib["d"]) for element in root.iter(f"{SVG}path")]
+    return [(float(point[1]), float(point[2])) for point in points if point is not None]
+
+
 def bars(root: ElementTree.Element) -> List[Tuple[str, float, float]]:
     """Returns the states of neighbours, with where they begin and end."""
     found = []
@@ -61,12 +69,17 @@ class Arrows(unittest.TestCase):
         self.assertEqual(heights, sorted(heights))
 
     def test_a_group_is_reached_at_all_lanes(self) -> None:
-        """Of ten frames five go to a group, to the two other addresses each, and five to one address."""
+        """Of ten frames five go to a group, to the two other addresses each, and five to one address. Of the five, the first router, which is between
+        the others, sends one: it has a line to each side."""
         root = drawn(captured("failover"))
-        self.assertEqual(len(lines(root)), 5 * 2 + 5)
+        self.assertEqual((len(heads(root)), len(lines(root))), (5 * 2 + 5, 10 + 1))
         x = {element.text: float(element.attrib["x"]) for element in root.iter(f"{SVG}text")}
-        router = height_of(root, "6 other 17")
-        self.assertEqual([line[:2] for line in lines(root) if line[2] == router], [(x["34:56:78:9a:bc:de"], x["02:00:00:00:00:01"])])
+        host, first, second = (x[mac] for mac in ("34:56:78:9a:bc:de", "02:00:00:00:00:01", "02:00:00:00:00:02"))
+        for label, drawn_lines, reached in (("6 other 17", [(host, first)], [first]),
+                                            ("1 ns :: ff02::1:ff9a:bcde target fe80::3656:78ff:fe9a:bcde", [(host, second)], [first, second])):
+            height = height_of(root, label)
+            self.assertEqual([line[:2] for line in lines(root) if line[2] == height], drawn_lines)
+            self.assertEqual(sorted(point[0] for point in heads(root) if point[1] == height), reached)
 
     def test_rows_are_as_far_apart_as_their_times_within_bounds(self) -> None:
         frame = advertisement()
@@ -102,11 +115,30 @@ class Arrows(unittest.TestCase):
 class Bars(unittest.TestCase):
     """The states of RFC 4861, 7.3.3, with the constants of section 10."""
 
-    def solicitation(self) -> bytes:
+    def solicitation(self, source: str = "fe80::ff:fe00:1") -> bytes:
         """A neighbour's solicitation for the node's link-local address, with the neighbour's link-layer address."""
         target = bytes.fromhex("fe80000000000000365678fffe9abcde")
-        return message_frame(b"\x87" + bytes(7) + target + bytes.fromhex("0101020000000001"), "fe80::ff:fe00:1", "ff02::1:ff9a:bcde",
+        return message_frame(b"\x87" + bytes(7) + target + bytes.fromhex("0101020000000001"), source, "ff02::1:ff9a:bcde",
                              "3333ff9abcde020000000001")
+
+    def test_the_longest_name_is_within_the_picture(self) -> None:
+        """A character of a font of 11 pixels, in which all have one width, is 0.6 of these wide."""
+        address = "2001:db8:1234:5678:9abc:deff:fe12:3402"
+        root = drawn(pcap([(0, self.solicitation(address))]), *HOST, "--before", "2000")
+        name = next(element.attrib["transform"] for element in root.iter(f"{SVG}text") if element.text == address)
+        place = re.fullmatch(r"translate\((\S+) (\S+)\) rotate\(-(\d+)\)", name)
+        assert place is not None, name
+        x, y, slant = float(place[1]), float(place[2]), math.radians(float(place[3]))
+        length = len(address) * 0.6 * 11
+        self.assertGreater(y - length * math.sin(slant) - 11 * math.cos(slant), 0)
+        self.assertLess(x + length * math.cos(slant), float(root.attrib["width"]))
+
+    def test_times_are_since_the_first_packet_also_if_it_is_the_node_s(self) -> None:
+        own = message_frame(b"\x85" + bytes(7), "::", "ff02::2", "3333000000023456789abcde")
+        root = drawn(pcap([(0, own), (5_000_000_000, advertisement())]), *HOST, "--before", "2000")
+        shown = {element.get("y"): element.text for element in root.iter(f"{SVG}text") if element.get("text-anchor") == "end"}
+        label = next(element for element in root.iter(f"{SVG}text") if (element.text or "").startswith("2 ra"))
+        self.assertEqual(shown[label.attrib["y"]], "5.000")
 
     def test_a_neighbour_that_does_not_answer(self) -> None:
         """The node's answer uses the neighbour: DELAY for 5 s, then three probes, a second apart, and no entry."""
