@@ -70,6 +70,7 @@ struct link {
 };
 
 static const uint64_t FIRST_HASH = UINT64_C(14695981039346656037);
+static const char NO_MEMORY[] = "out of memory; over dist/nd.c, -DND_MEMORY_BYTES=N gives all nodes more";
 static struct link *links;
 static atomic_size_t taken; /* how many links the threads have taken */
 
@@ -156,7 +157,7 @@ static void settle(struct link *link, size_t number, uint64_t now, int32_t statu
     struct node *node = &link->nodes[number];
     uint8_t buffer[ND_BUFFER_BYTES];
     nd_out out;
-    require(status >= 0, status == ND_NO_MEMORY ? "out of memory" : "a call that nd.h does not allow");
+    require(status >= 0, status == ND_NO_MEMORY ? NO_MEMORY : "a call that nd.h does not allow");
     while (nd_poll(&node->node, &out, buffer, sizeof buffer) == ND_DONE) {
         node->hash = mix_record(node->hash, &out, buffer);
         link->counts[out.kind < EVENTS ? out.kind : 0]++;
@@ -250,7 +251,8 @@ static void open_node(struct link *link, size_t number)
     options.mac = mac_of(link, number);
     options.seed = draw(&link->random);
     options.limits = link->limits;
-    require(nd_open(&node->node, &options, sizeof options) == ND_DONE, "a node was not opened");
+    int32_t status = nd_open(&node->node, &options, sizeof options);
+    require(status == ND_DONE, status == ND_NO_MEMORY ? NO_MEMORY : "a node was not opened");
     node->hash = FIRST_HASH;
     node->acts = number < link->routers ? SETTLED_MS / 2 : next_packet(link, SETTLED_MS);
     put(link, number, number); /* it has an event at 0 */
