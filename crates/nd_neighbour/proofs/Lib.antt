@@ -21,3 +21,4 @@ pub mod Unique
 pub mod Second
 pub mod Planning
 pub mod Waiting
+pub mod GivingWay

@@ -9,6 +9,7 @@ use Rattle.nd_neighbour.specs.Story.{is_present}
 use Rattle.nd_neighbour.specs.StoryKept.{the_entry}
 use Rattle.nd_neighbour.specs.TableKept.{address, Stands}
 use Rattle.nd_neighbour.specs.Due.{Falls, falling, FirstDue}
+use Rattle.nd_neighbour.specs.GivingWay.{GivesWay}
 use Rattle.nd_neighbour.specs.Place.{IsStale, IsLongestStale, WouldBeFull}
 use Rattle.nd_neighbour.specs.PlaceKept.{stalest, NoPlace}
 use Rattle.nd_neighbour.proofs.Steps.{entry_absent}
@@ -62,3 +63,13 @@ full_by_history limit now key entries history s = (
         ap (λ b. b || is_some (stalest now entries)) few ∙ none_left entries history s now full.none_stale (stalest now entries) refl,
       )),
 )
+
+-- one neighbour gives way, or none
+pub one_gives_way : (limit now key : ℕ) (history : List Row) (a b : Option ℕ) → GivesWay limit now key history a → GivesWay limit now key history b → a ≡ b
+one_gives_way limit now key history None None h k = refl
+one_gives_way limit now key history None (Some y) h k = absurd (h k.0 y k.1.incomplete)
+one_gives_way limit now key history (Some x) None h k = absurd (k h.0 x h.1.incomplete)
+one_gives_way limit now key history (Some x) (Some y) h k = elim (h.1.longest y k.1.incomplete) [
+  | inl lt ↦ elim (k.1.longest x h.1.incomplete) [ inl lt' ↦ absurd (omega arith) | inr e ↦ let f = e.0 in absurd (omega arith) ]
+  | inr e ↦ elim (k.1.longest x h.1.incomplete) [ inl lt ↦ let f = e.0 in absurd (omega arith) | inr f ↦ ap Some (omega (arith, e.1, f.1)) ]
+]

@@ -21,6 +21,8 @@ pub mod DueKept
 pub mod Planned
 pub mod Place
 pub mod PlaceKept
+pub mod GivingWay
+pub mod GivingWayKept
 pub mod News
 pub mod NewsKept
 pub mod Sending

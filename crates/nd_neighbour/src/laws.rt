@@ -1,14 +1,16 @@
 //! Laws of the definitions, each the contract of a function that does nothing.
 
-ghost use Rattle.std.specs.Prelude.{◌⊎◌, ◌≡◌, ◌≤◌, ◌↔◌, ◌++◌, ◌∷◌, [], ℕ, Bool, true, List, Option, None, length};
+ghost use Rattle.std.specs.Prelude.{◌⊎◌, ◌≡◌, ◌≢◌, ◌≤◌, ◌↔◌, ◌++◌, ◌∷◌, [], ℕ, Bool, false, true, List, Option, None, Some, length};
 ghost use Rattle.std.specs.Option.{option_map, option_to_list};
 ghost use Rattle.nd_addr.specs.Number.{number_of};
 ghost use Rattle.nd_packet.specs.Waiting.{replaced, then_waits};
 ghost use Rattle.nd_neighbour.specs.declared.news.News.{News};
 ghost use Rattle.nd_neighbour.specs.declared.news.Times.{Times};
 ghost use Rattle.nd_neighbour.specs.News.{mac_given, news_row, released_by};
-ghost use Rattle.nd_neighbour.specs.Story.{is_awaited, mac_of};
-ghost use Rattle.nd_neighbour.specs.History.{Row, RowKind, Story, Used, Waits, story};
+ghost use Rattle.nd_neighbour.specs.Story.{is_awaited, is_present, mac_of};
+ghost use Rattle.nd_neighbour.specs.History.{Cause, Forgot, Row, RowKind, Story, Used, Waits, story};
+ghost use Rattle.nd_neighbour.specs.GivingWay.{GivesWay};
+ghost use Rattle.nd_neighbour.specs.declared.shown.Reachability.TheVariants.{Stale};
 ghost use Rattle.nd_neighbour.specs.Shown.{is_leased, state_of};
 ghost use Rattle.nd_neighbour.specs.RoomKept.{has_room};
 ghost use Rattle.nd_neighbour.specs.EntryKept.{NeighbourEntry};
@@ -36,6 +38,21 @@ pub fn none_overdue()
 /// Room is made by the end of one neighbour, or of none.
 pub fn one_is_pushed_out()
     ensures { (limit now key : ℕ) (enters : Bool) (history made : List Row) → Prepares limit now enters key history made → (pushed : Option ℕ) × (made ≡ pushing now pushed history) }
+{}
+
+/// A neighbour that has a link-layer address and isn't STALE is never evicted, nor does it fail for one that speaks: what makes room for another one leaves its
+/// story, and the one that gives way has no link-layer address.
+pub fn neighbours_in_use_stay()
+    ensures evicted { (limit now key : ℕ) (enters : Bool) (history made : List Row) (k mac : ℕ) → Prepares limit now enters key history made → mac_of (story k history) ≡ Some mac
+        → state_of (story k history) now ≢ Stale → story k made ≡ story k history }
+    ensures gave_way { (limit now key gone : ℕ) (history : List Row) → GivesWay limit now key history (Some gone) → mac_of (story gone history) ≡ None }
+    ensures one { (limit now key : ℕ) (history : List Row) (a b : Option ℕ) → GivesWay limit now key history a → GivesWay limit now key history b → a ≡ b }
+{}
+
+/// The end of a neighbour that isn't present changes nothing.
+pub fn an_end_ends_once()
+    ensures { (entries : List NeighbourEntry) (history : List Row) (at key : ℕ) (cause : Cause) → Stands entries history → is_present (story key history) ≡ false
+        → Stands entries ((at, key, Forgot cause) ∷ history) }
 {}
 
 /// If there is room for a neighbour, and after it for a second one, there is room for the first one.

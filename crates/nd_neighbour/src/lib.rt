@@ -9,6 +9,7 @@ mod address_resolution;
 mod cache;
 mod due;
 mod entry;
+mod giving_way;
 pub mod laws;
 mod lease;
 mod link_layer_address;
