@@ -1,11 +1,12 @@
 -- An event adds one thing, and a history has one chronicle.
-use Rattle.std.proofs.Common.{◌≡◌, ℕ, Bool, true, false, List, [], ◌∷◌, ◌++◌, Option, Some, None, sym, ◌∙◌, ap, subst}
-use Rattle.std.specs.Prelude.{MatchBool, map, bytes_eq, nat_lt, ◌==◌}
+use Rattle.std.proofs.Common.{◌≡◌, ℕ, Bool, true, false, List, [], ◌∷◌, ◌++◌, Option, Some, None, refl, sym, ◌∙◌, ap, subst}
+use Rattle.std.specs.Prelude.{MatchBool, MatchOption, map, bytes_eq, nat_lt, ◌==◌}
 use Rattle.std.specs.Option.{option_map}
 use Rattle.nd_addr.specs.declared.addr.Addr.{Addr}
 use Rattle.nd_addr.specs.Kind.{multicast_prefix, unspecified_address}
 use Rattle.nd_addr.specs.Ip6.{PacketParts}
-use Rattle.nd_addr.specs.Number.{number_of, holds}
+use Rattle.nd_addr.specs.Frame.{addressed}
+use Rattle.nd_addr.specs.Number.{mac_at, number_of, holds}
 use Rattle.nd_addr.specs.declared.role.Role.{Role}
 use Rattle.nd_addr.specs.declared.role.Role.TheVariants.{Host, Router}
 use Rattle.nd_addr.specs.Same.{same_addr, addrs_tell, same_prefix, prefixes_tell, bytes_tell}
@@ -16,6 +17,7 @@ use Rattle.nd_decode.specs.declared.body.Body.{Body}
 use Rattle.nd_decode.specs.declared.body.Body.TheVariants as bodies
 use Rattle.nd_table.proofs.UniqueKeys.{one_listing, one_shown}
 use Rattle.nd_table.proofs.Unique.{one_list}
+use Rattle.nd_neighbour.specs.GivingWay.{GivesWay}
 use Rattle.nd_neighbour.specs.History.{RowKind}
 use Rattle.nd_neighbour.specs.Shown as neighbours
 use Rattle.nd_neighbour.proofs.Unique as neighbour_proofs
@@ -27,9 +29,9 @@ use Rattle.nd_slaac.specs.State.{is_known}
 use Rattle.nd_slaac.proofs.Unique.{one_fit, one_room}
 use Rattle.nd_dns.specs.AnnouncedNames.{same_name}
 use Rattle.nd_chronicle.specs.Start.{Start, link_local_key}
-use Rattle.nd_chronicle.specs.Happening.{Chronicle, Heard, ClearedRedirects, RedirectMade, Shown, Limit, Refusal, Full, Passed, TooLate, last_moment}
+use Rattle.nd_chronicle.specs.Happening.{Chronicle, Heard, ClearedRedirects, RedirectMade, Sent, Shown, Limit, Refusal, Full, Passed, TooLate, last_moment}
 use Rattle.nd_chronicle.specs.Histories.{neighbour_history, prefix_history, address_history, server_history, name_history, route_history, router_history}
-use Rattle.nd_chronicle.specs.Message.{said, PlaceFor, releasing}
+use Rattle.nd_chronicle.specs.Message.{said, HasWay, PlaceFor, RoomFor, WayFor, failing_for, makes_way, releasing}
 use Rattle.nd_chronicle.specs.RouterAdvertisement.{forming, then_advertised}
 use Rattle.nd_chronicle.specs.ByHand.{FormsByHand, no_room, setting}
 use Rattle.nd_chronicle.specs.Resolve.{PathAdds, ResolveAdds, Wants, WantsIfPlaced}
@@ -37,7 +39,7 @@ use Rattle.nd_chronicle.specs.NeighborSolicitation as asked
 use Rattle.nd_chronicle.specs.NeighborSolicitation.{is_router}
 use Rattle.nd_compose.specs.Frames.{answer_frame}
 use Rattle.nd_chronicle.specs.OwnAddress.{is_own, refusal_unless_up, story_of}
-use Rattle.nd_chronicle.specs.Packet.{no_place, Goes, GoesIfPlaced}
+use Rattle.nd_chronicle.specs.Packet.{no_place, with_pushed, Goes, GoesIfPlaced}
 use Rattle.nd_chronicle.specs.Refused.{UnlessRefused, AtRouter}
 use Rattle.nd_chronicle.specs.Hearing.{Verdict, hears, goes_up, goes_on, drops}
 use Rattle.nd_chronicle.specs.Advertising.{planning, wants_answer, full_of_offers, full_of_routes}
@@ -69,17 +71,34 @@ module _ (start : Start) (c : Chronicle) (now : ℕ) where
   at_router Host A d e one h k = h ∙ sym k
   at_router Router A d e one h k = one h k
 
-  one_place_for : (news : Option (ℕ × RowKind)) (d e : Chronicle) → PlaceFor start c now news d → PlaceFor start c now news e → d ≡ e
-  one_place_for None d e h k = h ∙ sym k
-  one_place_for (Some news) d e h k = one_place start c now news.0 _ d e h k
+  one_place_for : (c : Chronicle) (news : Option (ℕ × RowKind)) (d e : Chronicle) → PlaceFor start c now news d → PlaceFor start c now news e → d ≡ e
+  one_place_for c None d e h k = h ∙ sym k
+  one_place_for c (Some news) d e h k = one_place start c now news.0 _ d e h k
 
-  pub one_placed : (need : Option (ℕ × Bool)) (a b : Bool) → Placed start c now need a → Placed start c now need b → a ≡ b
-  one_placed None a b h k = h ∙ sym k
-  one_placed (Some need) a b h k = one_has_place start c now need.0 need.1 a b h k
+  one_has_way : (key : ℕ) (enters a b : Bool) → HasWay start c now key enters a → HasWay start c now key enters b → a ≡ b
+  one_has_way key enters true true h k = refl
+  one_has_way key enters true false h k = absurd (h k.0 k.1)
+  one_has_way key enters false true h k = absurd (k h.0 h.1)
+  one_has_way key enters false false h k = refl
+
+  pub one_placed : (way : Bool) (need : Option (ℕ × Bool)) (a b : Bool) → Placed start c now way need a → Placed start c now way need b → a ≡ b
+  one_placed way None a b h k = h ∙ sym k
+  one_placed true (Some need) a b h k = one_has_way need.0 need.1 a b h k
+  one_placed false (Some need) a b h k = one_has_place start c now need.0 need.1 a b h k
+
+  -- one neighbour gives way, or none
+  one_way_by : (key : ℕ) (makes : Bool) (a b : Option ℕ) → MatchBool makes (GivesWay start.limits.neighbours now key (neighbour_history c) a) (a ≡ None)
+      → MatchBool makes (GivesWay start.limits.neighbours now key (neighbour_history c) b) (b ≡ None) → a ≡ b
+  one_way_by key true a b h k = neighbour_proofs.one_gives_way start.limits.neighbours now key (neighbour_history c) a b h k
+  one_way_by key false a b h k = h ∙ sym k
+
+  one_way : (news : Option (ℕ × RowKind)) (a b : Option ℕ) → WayFor start c now news a → WayFor start c now news b → a ≡ b
+  one_way None a b h k = h ∙ sym k
+  one_way (Some news) a b h k = one_way_by news.0 (makes_way start (Some news)) a b h k
 
   pub one_full : (source : Addr) (message : Parts) (body : Body) (a b : Option Limit) → Fills start c now source message body a → Fills start c now source message body b → a ≡ b
   one_full source message (bodies.Ra ra) a b h k =
-      let e1 = one_placed (needs c source message message.body) h.neighbours k.neighbours h.placed k.placed in
+      let e1 = one_placed (makes_way start (said c source message)) (needs c source message message.body) h.neighbours k.neighbours h.placed k.placed in
       let e2 = one_router_list c now h.routers k.routers h.those_routers k.those_routers in
       let e3 = one_listing same_prefix prefixes_tell (prefix_history c) now h.prefixes k.prefixes h.those_prefixes k.those_prefixes in
       let e4 = one_fit start.limits.addresses start.mac (address_history c) (prefixes_in message.options) h.forms k.forms h.those_addresses k.those_addresses in
@@ -88,38 +107,58 @@ module _ (start : Start) (c : Chronicle) (now : ℕ) where
       let f = h.first in
       let g = k.first in
       cc
-  one_full source message bodies.Rs a b h k = h.first ∙ ap no_place (one_placed (needs c source message message.body) h.neighbours k.neighbours h.placed k.placed) ∙ sym k.first
-  one_full source message (bodies.Ns ns) a b h k = h.first ∙ ap no_place (one_placed (needs c source message message.body) h.neighbours k.neighbours h.placed k.placed) ∙ sym k.first
-  one_full source message (bodies.Na na) a b h k = h.first ∙ ap no_place (one_placed (needs c source message message.body) h.neighbours k.neighbours h.placed k.placed) ∙ sym k.first
-  one_full source message (bodies.Redirect r) a b h k = h.first ∙ ap no_place (one_placed (needs c source message message.body) h.neighbours k.neighbours h.placed k.placed) ∙ sym k.first
+  one_full source message bodies.Rs a b h k = h.first ∙ ap no_place (one_placed (makes_way start (said c source message)) (needs c source message message.body) h.neighbours k.neighbours h.placed k.placed) ∙ sym k.first
+  one_full source message (bodies.Ns ns) a b h k = h.first ∙ ap no_place (one_placed (makes_way start (said c source message)) (needs c source message message.body) h.neighbours k.neighbours h.placed k.placed) ∙ sym k.first
+  one_full source message (bodies.Na na) a b h k = h.first ∙ ap no_place (one_placed (makes_way start (said c source message)) (needs c source message message.body) h.neighbours k.neighbours h.placed k.placed) ∙ sym k.first
+  one_full source message (bodies.Redirect r) a b h k = h.first ∙ ap no_place (one_placed (makes_way start (said c source message)) (needs c source message message.body) h.neighbours k.neighbours h.placed k.placed) ∙ sym k.first
 
   module _ (source destination : Addr) (message : Parts) where
-    abbrev answering : Addr → Chronicle → Chronicle → Type 0
-    answering target placed d =
-        Goes start (releasing now (said c source message) (neighbour_history placed) ((now, Heard source destination message) ∷ placed)) now
-        (number_of source.0) (answer_frame (is_router start.role) start.mac target source) d
+    -- the message behind the place for a neighbour, and behind it the failure of one that gave way
+    abbrev heard_behind : Option ℕ → Chronicle → Chronicle
+    heard_behind gone placed = failing_for now gone (neighbour_history c) ((now, Heard source destination message) ∷ placed)
+
+    -- there is one place, with one that gives way
+    one_room_for : (then' : Option ℕ → Chronicle → Type 0) (news : Option (ℕ × RowKind)) (a b : Option ℕ) (d e : Chronicle) → RoomFor start c now news a d → RoomFor start c now news b e → then' a d → then' b e
+    one_room_for then' news a b d e h k t =
+        let gone : a ≡ b = one_way news a b h.way k.way in
+        let place : PlaceFor start (with_pushed now b c) now news d = subst (λ (o : Option ℕ). PlaceFor start (with_pushed now o c) now news d) gone h.place in
+        subst (λ (x : Chronicle). then' b x) (one_place_for (with_pushed now b c) news d e place k.place) (subst (λ (o : Option ℕ). then' o d) gone t)
+
+    abbrev answering : Addr → Chronicle → Option ℕ → Chronicle → Type 0
+    answering target d gone placed =
+        asked.Replies start now (number_of source.0) (answer_frame (is_router start.role) start.mac target source)
+        (releasing now (said c source message) (neighbour_history placed) (heard_behind gone placed)) d
+
+    one_reply : (known : Option ℕ) (key : ℕ) (packet : List ℕ) (b d e : Chronicle) → MatchOption known (Goes start b now key packet d) (λ mac. d ≡ (now, Sent (addressed (mac_at mac) packet)) ∷ b)
+        → MatchOption known (Goes start b now key packet e) (λ mac. e ≡ (now, Sent (addressed (mac_at mac) packet)) ∷ b) → d ≡ e
+    one_reply None key packet b d e h k = one_goes start b now key packet d e h k
+    one_reply (Some mac) key packet b d e h k = h ∙ sym k
 
     one_answer : (target : Addr) (d e : Chronicle) → asked.Answers start now source destination target message c d → asked.Answers start now source destination target message c e → d ≡ e
     one_answer target d e h k =
-        let same : h.placed ≡ k.placed = one_place_for (said c source message) h.placed k.placed h.place k.place in
-        one_goes start (releasing now (said c source message) (neighbour_history k.placed) ((now, Heard source destination message) ∷ k.placed)) now (number_of source.0)
-        (answer_frame (is_router start.role) start.mac target source) d e
-        (subst (λ (x : Chronicle). answering target x d) same h.answer) k.answer
+        let b = releasing now (said c source message) (neighbour_history k.placed) (heard_behind k.gone k.placed) in
+        one_reply (asked.sent_alone_to start now (number_of source.0) b) (number_of source.0) (answer_frame (is_router start.role) start.mac target source) b d e
+        (one_room_for (λ gone placed. answering target d gone placed) (said c source message) h.gone k.gone h.placed k.placed h.room k.room h.answer) k.answer
 
     -- behind the place for a neighbour a function says the rest
     one_behind : (then' : Chronicle → Chronicle) (d e : Chronicle)
         → ((placed : Chronicle) × PlaceFor start c now (said c source message) placed × (d ≡ then' placed))
         → ((placed : Chronicle) × PlaceFor start c now (said c source message) placed × (e ≡ then' placed)) → d ≡ e
-    one_behind then' d e h k = h.2 ∙ ap then' (one_place_for (said c source message) h.0 k.0 h.1 k.1) ∙ sym k.2
+    one_behind then' d e h k = h.2 ∙ ap then' (one_place_for c (said c source message) h.0 k.0 h.1 k.1) ∙ sym k.2
+
+    one_behind_room : (then' : Option ℕ → Chronicle → Chronicle) (d e : Chronicle)
+        → ((gone : Option ℕ) × (placed : Chronicle) × RoomFor start c now (said c source message) gone placed × (d ≡ then' gone placed))
+        → ((gone : Option ℕ) × (placed : Chronicle) × RoomFor start c now (said c source message) gone placed × (e ≡ then' gone placed)) → d ≡ e
+    one_behind_room then' d e h k = one_room_for (λ gone placed. d ≡ then' gone placed) (said c source message) h.0 k.0 h.1 k.1 h.2 k.2 h.3 ∙ sym k.3
 
     one_message : (body : Body) (d e : Chronicle) → MessageAdds start now source destination message body c d → MessageAdds start now source destination message body c e → d ≡ e
     one_message (bodies.Ns ns) d e h k = by_test (bytes_eq source.0 unspecified_address) (λ x y. x ∙ sym y) (one_answer ns.target d e) h k
-    one_message (bodies.Ra ra) d e h k = one_behind (λ placed. then_advertised start now source destination ra message placed) d e h k
+    one_message (bodies.Ra ra) d e h k = one_behind_room (λ gone placed. then_advertised start now source destination ra message gone (neighbour_history c) placed) d e h k
     one_message (bodies.Na na) d e h k = one_behind (λ placed. then_neighbor_advertised now source destination na.target message placed) d e h k
     one_message bodies.Rs d e h k =
-        one_behind (λ placed. planning start now (wants_answer start c) (releasing now (said c source message) (neighbour_history placed) ((now, Heard source destination message) ∷ placed))) d e h k
+        one_behind_room (λ gone placed. planning start now (wants_answer start c) (releasing now (said c source message) (neighbour_history placed) (heard_behind gone placed))) d e h k
     one_message (bodies.Redirect r) d e h k =
-        one_behind (λ placed. releasing now (said c source message) (neighbour_history placed) ((now, Heard source destination message) ∷ placed)) d e h k
+        one_behind_room (λ gone placed. releasing now (said c source message) (neighbour_history placed) (heard_behind gone placed)) d e h k
 
   one_if_placed : (key : ℕ) (packet : List ℕ) (d e : Chronicle) → GoesIfPlaced start now key packet c d → GoesIfPlaced start now key packet c e → d ≡ e
   one_if_placed key packet d e h k =

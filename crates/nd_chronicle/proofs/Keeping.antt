@@ -2,12 +2,13 @@
 use Rattle.std.proofs.Common.{◌≡◌, ℕ, Bool, true, false, cond, List, [], ◌∷◌, Option, Some, None, refl, sym, ◌∙◌, ap, subst}
 use Rattle.std.proofs.lemmas.Bool.{true≢false}
 use Rattle.std.proofs.lemmas.Slice.Eq.{bytes_eq-Decides}
-use Rattle.std.specs.Prelude.{MatchBool, bytes_eq, ◌==◌, ◌&&◌, not}
+use Rattle.std.specs.Prelude.{MatchBool, MatchOption, bytes_eq, ◌==◌, ◌&&◌, not}
 use Rattle.std.specs.Option.{option_map, option_to_list}
 use Rattle.nd_addr.specs.declared.addr.Addr.{Addr}
 use Rattle.nd_addr.specs.Kind.{multicast_prefix, unspecified_address}
 use Rattle.nd_addr.specs.Ip6.{PacketParts}
-use Rattle.nd_addr.specs.Number.{number_of, holds}
+use Rattle.nd_addr.specs.Frame.{addressed}
+use Rattle.nd_addr.specs.Number.{mac_at, number_of, holds}
 use Rattle.nd_addr.specs.declared.role.Role.{Role}
 use Rattle.nd_addr.specs.declared.role.Role.TheVariants.{Host, Router}
 use Rattle.nd_advertiser.specs.Advertising.{tells_its_end}
@@ -36,7 +37,7 @@ use Rattle.nd_slaac.specs.History.{Lifetimes, Story}
 use Rattle.nd_slaac.specs.PrefixOption.{is_taken, prefixes_in, named_by, lifetimes_of}
 use Rattle.nd_slaac.specs.State as states
 use Rattle.nd_chronicle.specs.Start.{Start, link_local_key}
-use Rattle.nd_chronicle.specs.Happening.{Chronicle, Happening, Address, Heard, Neighbour, Sent, Path, Refused, Configured, Ceased, RedirectMade, Way, Forgotten, Loss, Refusal, WrongRole, Disabled, Tentative, Full}
+use Rattle.nd_chronicle.specs.Happening.{Chronicle, Happening, Address, Heard, Neighbour, Sent, Path, Refused, Configured, Ceased, RedirectMade, Way, Forgotten, Loss, Unreachable, Refusal, WrongRole, Disabled, Tentative, Full}
 use Rattle.nd_chronicle.specs.Histories.{neighbour_history, advertising_history, route_history}
 use Rattle.nd_chronicle.specs.InForce.{base_reachable_time, retrans_timer}
 use Rattle.nd_chronicle.specs.OwnAddress.{story_of, is_assigned, is_disabled, is_own, is_tentative, is_up, refusal_unless_up}
@@ -45,7 +46,7 @@ use Rattle.nd_chronicle.specs.Refused.{UnlessRefused, AtRouter}
 use Rattle.nd_chronicle.specs.Hearing.{Verdict, hears, goes_up, goes_on, drops, conflicts_with}
 use Rattle.nd_chronicle.specs.Advertising.{advertising_by, planning, telling_end, wants_answer, full_of_offers, full_of_routes}
 use Rattle.nd_chronicle.specs.Forwarding.{Redirects, SendsOn, FateAdds, redirect_to}
-use Rattle.nd_chronicle.specs.Message.{said, PlaceFor, sending_if_known, telling_if_known, releasing, leaving}
+use Rattle.nd_chronicle.specs.Message.{said, PlaceFor, RoomFor, failing_for, sending_if_known, telling_if_known, releasing, leaving}
 use Rattle.nd_chronicle.specs.RouterAdvertisement.{redrawing, with_delay, forming, naming, then_option, then_options, times_out, then_advertised}
 use Rattle.nd_chronicle.specs.NeighborSolicitation as asked
 use Rattle.nd_chronicle.specs.NeighborSolicitation.{then_tried}
@@ -119,6 +120,10 @@ module _ (start : Start) (at : ℕ) (Kept : Chronicle → Type 0) (plain : (what
   told_keeps key (Some mac) true c k = plain _ c refl k
   told_keeps key (Some mac) false c k = k
 
+  failing_keeps : (gone : Option ℕ) (history : List neighbours.Row) (c : Chronicle) → Kept c → Kept (failing_for at gone history c)
+  failing_keeps None history c k = k
+  failing_keeps (Some key) history c k = losing_keeps Unreachable (waits_of (story key history)) _ (plain _ c refl k)
+
   pub releasing_keeps : (news : Option (ℕ × RowKind)) (history : List neighbours.Row) (c : Chronicle) → Kept c → Kept (releasing at news history c)
   releasing_keeps None history c k = k
   releasing_keeps (Some news) history c k =
@@ -184,6 +189,9 @@ module _ (start : Start) (at : ℕ) (Kept : Chronicle → Type 0) (plain : (what
   place_for_keeps c None d m k = kept_to m k
   place_for_keeps c (Some news) d m k = place_keeps c news.0 _ d m k
 
+  room_keeps : (c : Chronicle) (news : Option (ℕ × RowKind)) (gone : Option ℕ) (d : Chronicle) → RoomFor start c at news gone d → Kept c → Kept d
+  room_keeps c news gone d m k = place_for_keeps (with_pushed at gone c) news d m.place (pushed_keeps gone c k)
+
   goes_keeps : (c : Chronicle) (key : ℕ) (packet : List ℕ) (d : Chronicle) → Goes start c at key packet d → Kept c → Kept d
   goes_keeps c key packet d g k = kept_to g.goes (packet_keeps key _ packet _ g.placed (place_keeps c key true g.placed g.place k))
 
@@ -234,11 +242,20 @@ module _ (start : Start) (at : ℕ) (Kept : Chronicle → Type 0) (plain : (what
       answers_keep : (target : Addr) (c d : Chronicle) → message.body ≡ bodies.Ns (record { target = target }) → bytes_eq source.0 unspecified_address ≡ false
           → asked.Answers start at source destination target message c d → Kept c → Kept d
       answers_keep target c d body named h k =
-          goes_keeps (releasing at (said c source message) (neighbour_history h.placed) ((at, Heard source destination message) ∷ h.placed)) _ _ d h.answer
-          (releasing_keeps (said c source message) (neighbour_history h.placed) ((at, Heard source destination message) ∷ h.placed)
+          let heard : Chronicle = (at, Heard source destination message) ∷ h.placed in
+          let behind : Chronicle = failing_for at h.gone (neighbour_history c) heard in
+          let b : Chronicle = releasing at (said c source message) (neighbour_history h.placed) behind in
+          replies_keep (asked.sent_alone_to start at (number_of source.0) b) _ _ b d h.answer
+          (releasing_keeps (said c source message) (neighbour_history h.placed) behind
+          (failing_keeps h.gone (neighbour_history c) heard
           (listens source destination message h.placed
           (λ address tentative. subst (λ (b : Body). conflicts_with address source b ≡ false) (sym body) (both_false (bytes_eq target.0 address) (bytes_eq source.0 unspecified_address) named))
-          (place_for_keeps c (said c source message) h.placed h.place k)))
+          (room_keeps c (said c source message) h.gone h.placed h.room k))))
+        where
+          replies_keep : (known : Option ℕ) (key : ℕ) (packet : List ℕ) (b d : Chronicle)
+              → MatchOption known (Goes start b at key packet d) (λ mac. d ≡ (at, Sent (addressed (mac_at mac) packet)) ∷ b) → Kept b → Kept d
+          replies_keep None key packet b d h k = goes_keeps b key packet d h k
+          replies_keep (Some mac) key packet b d h k = kept_to h (plain _ b refl k)
 
       solicited_keeps : (t : Bool) (target : Addr) (c d : Chronicle) → message.body ≡ bodies.Ns (record { target = target }) → bytes_eq source.0 unspecified_address ≡ t
           → MatchBool t (d ≡ then_tried start at target ((at, Heard source destination message) ∷ c)) (asked.Answers start at source destination target message c d) → Kept c → Kept d
@@ -249,13 +266,15 @@ module _ (start : Start) (at : ℕ) (Kept : Chronicle → Type 0) (plain : (what
       harmless : (body : Body) → message.body ≡ body → ((address : List ℕ) → conflicts_with address source body ≡ false) → (c : Chronicle) → Kept c → Kept ((at, Heard source destination message) ∷ c)
       harmless body is none c k = listens source destination message c (λ address tentative. subst (λ (b : Body). conflicts_with address source b ≡ false) (sym is) (none address)) k
 
-      advertised_keeps : (ra : RouterAdvertisement) → message.body ≡ bodies.Ra ra → (c : Chronicle) → Kept c → Kept (then_advertised start at source destination ra message c)
-      advertised_keeps ra body c k =
+      advertised_keeps : (ra : RouterAdvertisement) → message.body ≡ bodies.Ra ra → (gone : Option ℕ) (before : List neighbours.Row) (c : Chronicle) → Kept c
+          → Kept (then_advertised start at source destination ra message gone before c)
+      advertised_keeps ra body gone before c k =
           options_keep (holds multicast_prefix destination.0) (prefixes_in message.options) _
           (leaving_keeps (times_out start at c source ra) (number_of source.0) _
           (releasing_keeps (said c source message) (neighbour_history c) _
+          (failing_keeps gone before _
           (redrawing_keeps ra.reachable_time (redraws (base_reachable_time c) ra.reachable_time) _
-          (harmless (bodies.Ra ra) body (λ address. refl) c k))))
+          (harmless (bodies.Ra ra) body (λ address. refl) c k)))))
 
       -- an advertisement for a tentative address, or for another one
       conflicting_keeps : (body : Body) (target : Addr) → message.body ≡ body → ((address : List ℕ) → conflicts_with address source body ≡ bytes_eq target.0 address)
@@ -272,18 +291,19 @@ module _ (start : Start) (at : ℕ) (Kept : Chronicle → Type 0) (plain : (what
 
       pub message_keeps : (body : Body) → message.body ≡ body → (c d : Chronicle) → MessageAdds start at source destination message body c d → Kept c → Kept d
       message_keeps (bodies.Ns ns) is c d h k = solicited_keeps (bytes_eq source.0 unspecified_address) ns.target c d is refl h k
-      message_keeps (bodies.Ra ra) is c d h k = kept_to h.2 (advertised_keeps ra is h.0 (place_for_keeps c (said c source message) h.0 h.1 k))
+      message_keeps (bodies.Ra ra) is c d h k = kept_to h.3 (advertised_keeps ra is h.0 (neighbour_history c) h.1 (room_keeps c (said c source message) h.0 h.1 h.2 k))
       message_keeps (bodies.Na na) is c d h k =
           kept_to h.2 (leaving_keeps (ends_in_list at h.0 (said h.0 source message)) (number_of na.target.0) _
           (releasing_keeps (said h.0 source message) (neighbour_history h.0) _
           (conflicting_keeps (bodies.Na na) na.target is (λ address. refl) h.0 (is_tentative h.0 na.target.0) refl
           (place_for_keeps c (said c source message) h.0 h.1 k))))
       message_keeps bodies.Rs is c d h k =
-          kept_to h.2 (planning_keeps (wants_answer start c) _
-          (releasing_keeps (said c source message) (neighbour_history h.0) _ (harmless bodies.Rs is (λ address. refl) h.0 (place_for_keeps c (said c source message) h.0 h.1 k))))
+          kept_to h.3 (planning_keeps (wants_answer start c) _
+          (releasing_keeps (said c source message) (neighbour_history h.1) _
+          (failing_keeps h.0 (neighbour_history c) _ (harmless bodies.Rs is (λ address. refl) h.1 (room_keeps c (said c source message) h.0 h.1 h.2 k)))))
       message_keeps (bodies.Redirect r) is c d h k =
-          kept_to h.2 (releasing_keeps (said c source message) (neighbour_history h.0) _
-          (harmless (bodies.Redirect r) is (λ address. refl) h.0 (place_for_keeps c (said c source message) h.0 h.1 k)))
+          kept_to h.3 (releasing_keeps (said c source message) (neighbour_history h.1) _
+          (failing_keeps h.0 (neighbour_history c) _ (harmless (bodies.Redirect r) is (λ address. refl) h.1 (room_keeps c (said c source message) h.0 h.1 h.2 k))))
 
     -- ---- any event: an end is where its rows are kept, or its refusal comes alone
 

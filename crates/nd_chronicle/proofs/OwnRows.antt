@@ -1,13 +1,14 @@
 -- What happens to the own addresses: what comes, and what falls due, brings them few rows, and most of it none.
 use Rattle.std.proofs.Common.{◌≡◌, ℕ, Bool, true, false, cond, List, [], ◌∷◌, Option, Some, None, refl, sym, ◌∙◌, ap, subst}
-use Rattle.std.specs.Prelude.{MatchBool, bytes_eq, ◌||◌, ◌&&◌, ◌==◌, ◌≢◌, not}
+use Rattle.std.specs.Prelude.{MatchBool, MatchOption, bytes_eq, ◌||◌, ◌&&◌, ◌==◌, ◌≢◌, not}
 use Rattle.std.proofs.lemmas.Bool.{eq-eqb, true≢false}
 use Rattle.std.specs.Option.{option_map, option_to_list}
 use Rattle.nd_addr.specs.declared.addr.Addr.{Addr}
 use Rattle.nd_addr.specs.declared.mac.Mac.{Mac}
 use Rattle.nd_addr.specs.Kind.{multicast_prefix, unspecified_address}
 use Rattle.nd_addr.specs.Ip6.{PacketParts}
-use Rattle.nd_addr.specs.Number.{number_of, holds}
+use Rattle.nd_addr.specs.Frame.{addressed}
+use Rattle.nd_addr.specs.Number.{mac_at, number_of, holds}
 use Rattle.nd_addr.specs.Places.{payload_in}
 use Rattle.nd_addr.specs.declared.role.Role.{Role}
 use Rattle.nd_addr.specs.declared.role.Role.TheVariants.{Host, Router}
@@ -42,7 +43,7 @@ use Rattle.nd_slaac.specs.History.{Lifetimes}
 use Rattle.nd_slaac.specs.PrefixOption.{prefixes_in}
 use Rattle.nd_slaac.specs.State as states
 use Rattle.nd_chronicle.specs.Start.{Policies, Start, link_local, link_local_key}
-use Rattle.nd_chronicle.specs.Happening.{Chronicle, Address, Sent, Heard, Lost, Neighbour, Path, Ceased, RedirectMade, Way, Forgotten, Loss, Refusal, Disabled, Tentative, Full}
+use Rattle.nd_chronicle.specs.Happening.{Chronicle, Address, Sent, Heard, Lost, Neighbour, Path, Ceased, RedirectMade, Way, Forgotten, Loss, Unreachable, Refusal, Disabled, Tentative, Full}
 use Rattle.nd_chronicle.specs.Histories.{address_history, neighbour_history, advertising_history, route_history}
 use Rattle.nd_chronicle.specs.InForce.{base_reachable_time}
 use Rattle.nd_chronicle.specs.OwnAddress.{story_of, is_assigned, is_disabled, is_own, is_tentative, is_up, refusal_unless_up}
@@ -53,7 +54,7 @@ use Rattle.nd_chronicle.specs.Forwarding.{Redirects, SendsOn, FateAdds, redirect
 use Rattle.nd_chronicle.specs.Reading.{IsRead, read_outcome}
 use Rattle.nd_chronicle.proofs.Reading.{prefixes_as_said}
 use Rattle.nd_chronicle.specs.Hearing.{Verdict, hears, goes_up, goes_on, drops, IsForUs, Judges, IsTaken, takes_target, is_awake}
-use Rattle.nd_chronicle.specs.Message.{said, PlaceFor, sending_if_known, telling_if_known, releasing, leaving}
+use Rattle.nd_chronicle.specs.Message.{said, PlaceFor, RoomFor, failing_for, sending_if_known, telling_if_known, releasing, leaving}
 use Rattle.nd_chronicle.specs.RouterAdvertisement.{forming, redrawing, with_delay, then_options, times_out, then_advertised}
 use Rattle.nd_chronicle.specs.NeighborSolicitation as asked
 use Rattle.nd_chronicle.specs.NeighborSolicitation.{then_tried}
@@ -154,6 +155,13 @@ place_for_same : (start : Start) (c : Chronicle) (at : ℕ) (news : Option (ℕ 
 place_for_same start c at None d m = ap address_history m
 place_for_same start c at (Some news) d m = place_same start c at news.0 _ d m
 
+room_same : (start : Start) (c : Chronicle) (at : ℕ) (news : Option (ℕ × RowKind)) (gone : Option ℕ) (d : Chronicle) → RoomFor start c at news gone d → Same c d
+room_same start c at news gone d m = place_for_same start (with_pushed at gone c) at news d m.place ∙ pushed_same at gone c
+
+failing_same : (at : ℕ) (gone : Option ℕ) (history : List neighbours.Row) (c : Chronicle) → Same c (failing_for at gone history c)
+failing_same at None history c = refl
+failing_same at (Some key) history c = losing_same at Unreachable (waits_of (story key history)) ((at, Neighbour key (neighbours.Forgot neighbours.Failed)) ∷ c)
+
 goes_same : (start : Start) (c : Chronicle) (at key : ℕ) (packet : List ℕ) (d : Chronicle) → Goes start c at key packet d → Same c d
 goes_same start c at key packet d g = ap address_history g.goes ∙ packet_same at start key _ packet _ g.placed ∙ place_same start c at key true g.placed g.place
 
@@ -228,19 +236,30 @@ module _ (start : Start) (now : ℕ) (event : Event) (c : Chronicle) where
     brings_answer : (target : Addr) (d : Chronicle) → asked.Answers start now source destination target message c d → Brings start now event c d
     brings_answer target d h =
         let row = (now, Heard source destination message) ∷ h.placed in
-        Nothing (goes_same start (releasing now (said c source message) (neighbour_history h.placed) row) now _ _ d h.answer
-        ∙ releasing_same now (said c source message) (neighbour_history h.placed) row
-        ∙ place_for_same start c now (said c source message) h.placed h.place)
+        let behind = failing_for now h.gone (neighbour_history c) row in
+        let b = releasing now (said c source message) (neighbour_history h.placed) behind in
+        Nothing (reply_same (asked.sent_alone_to start now (number_of source.0) b) _ _ b d h.answer
+        ∙ releasing_same now (said c source message) (neighbour_history h.placed) behind
+        ∙ failing_same now h.gone (neighbour_history c) row
+        ∙ room_same start c now (said c source message) h.gone h.placed h.room)
+      where
+        reply_same : (known : Option ℕ) (key : ℕ) (packet : List ℕ) (b d : Chronicle)
+            → MatchOption known (Goes start b now key packet d) (λ mac. d ≡ (now, Sent (addressed (mac_at mac) packet)) ∷ b) → Same b d
+        reply_same None key packet b d h = goes_same start b now key packet d h
+        reply_same (Some mac) key packet b d h = ap address_history h
 
     brings_solicited : (t : Bool) (target : Addr) (d : Chronicle) → (is_assigned c target.0 ≡ false → is_tentative c target.0 ≡ true)
         → MatchBool t (d ≡ then_tried start now target ((now, Heard source destination message) ∷ c)) (asked.Answers start now source destination target message c d) → Brings start now event c d
     brings_solicited true target d tentative h = brings_tried target _ d (is_assigned c target.0) refl tentative h
     brings_solicited false target d tentative h = brings_answer target d h
 
-    known_place : (placed : Chronicle) → PlaceFor start c now (said c source message) placed
-        → Same c (releasing now (said c source message) (neighbour_history placed) ((now, Heard source destination message) ∷ placed))
-    known_place placed p =
-        releasing_same now (said c source message) (neighbour_history placed) ((now, Heard source destination message) ∷ placed) ∙ place_for_same start c now (said c source message) placed p
+    known_place : (gone : Option ℕ) (placed : Chronicle) → RoomFor start c now (said c source message) gone placed
+        → Same c (releasing now (said c source message) (neighbour_history placed) (failing_for now gone (neighbour_history c) ((now, Heard source destination message) ∷ placed)))
+    known_place gone placed p =
+        let row = (now, Heard source destination message) ∷ placed in
+        releasing_same now (said c source message) (neighbour_history placed) (failing_for now gone (neighbour_history c) row)
+        ∙ failing_same now gone (neighbour_history c) row
+        ∙ room_same start c now (said c source message) gone placed p
 
     brings_conflict : (target : Addr) (placed d : Chronicle) (t : Bool) → is_tentative placed target.0 ≡ t → Same c placed
         → Same (conflicting now t (number_of target.0) ((now, Heard source destination message) ∷ placed)) d → Brings start now event c d
@@ -266,27 +285,29 @@ module _ (start : Start) (now : ℕ) (event : Event) (c : Chronicle) where
     up_by false false h = absurd (let no : ⊥ = cc in no)
 
     module _ (frame : List ℕ) (received : event ≡ events.Receives frame) (s : IsSpelled frame message.options) where
-      brings_names : (ra : RouterAdvertisement) (placed d : Chronicle) → is_up start c ≡ true → PlaceFor start c now (said c source message) placed
-          → d ≡ then_advertised start now source destination ra message placed → Brings start now event c d
-      brings_names ra placed d up p h =
+      brings_names : (ra : RouterAdvertisement) (gone : Option ℕ) (placed d : Chronicle) → is_up start c ≡ true → RoomFor start c now (said c source message) gone placed
+          → d ≡ then_advertised start now source destination ra message gone (neighbour_history c) placed → Brings start now event c d
+      brings_names ra gone placed d up p h =
           let row = (now, Heard source destination message) ∷ placed in
-          let third = redrawing start now ra.reachable_time (redraws (base_reachable_time placed) ra.reachable_time) row in
+          let drawn = redrawing start now ra.reachable_time (redraws (base_reachable_time placed) ra.reachable_time) row in
+          let third = failing_for now gone (neighbour_history c) drawn in
           let second = releasing now (said placed source message) (neighbour_history placed) third in
           Announces frame s.spelling (holds multicast_prefix destination.0) (leaving now (times_out start now placed source ra) (number_of source.0) second) received s.spelled up
           (leaving_same now (times_out start now placed source ra) (number_of source.0) second
           ∙ releasing_same now (said placed source message) (neighbour_history placed) third
+          ∙ failing_same now gone (neighbour_history c) drawn
           ∙ redrawing_same now start ra.reachable_time (redraws (base_reachable_time placed) ra.reachable_time) row
-          ∙ place_for_same start c now (said c source message) placed p)
+          ∙ room_same start c now (said c source message) gone placed p)
           (subst (λ (infos : List PrefixInfo). d ≡ then_options start now (holds multicast_prefix destination.0) infos (leaving now (times_out start now placed source ra) (number_of source.0) second)) s.prefixes h)
 
       brings_message : (body : Body) → takes_target c source body ≡ true → is_awake start c source body ≡ true → (d : Chronicle) → MessageAdds start now source destination message body c d → Brings start now event c d
       brings_message (bodies.Ns ns) takes awake d h =
           brings_solicited (bytes_eq source.0 unspecified_address) ns.target d (tentative_else (is_assigned c ns.target.0) (is_tentative c ns.target.0) (bytes_eq source.0 unspecified_address) takes) h
-      brings_message (bodies.Ra ra) takes awake d h = brings_names ra h.0 d (up_by (is_up start c) (is_tentative c (link_local start).0) awake) h.1 h.2
+      brings_message (bodies.Ra ra) takes awake d h = brings_names ra h.0 h.1 d (up_by (is_up start c) (is_tentative c (link_local start).0) awake) h.2 h.3
       brings_message (bodies.Na na) takes awake d h = brings_advertised na.target h.0 d h.1 h.2
       brings_message bodies.Rs takes awake d h =
-          Nothing (ap address_history h.2 ∙ planning_same now start (wants_answer start c) _ ∙ known_place h.0 h.1)
-      brings_message (bodies.Redirect r) takes awake d h = Nothing (ap address_history h.2 ∙ known_place h.0 h.1)
+          Nothing (ap address_history h.3 ∙ planning_same now start (wants_answer start c) _ ∙ known_place h.0 h.1 h.2)
+      brings_message (bodies.Redirect r) takes awake d h = Nothing (ap address_history h.3 ∙ known_place h.0 h.1 h.2)
 
     -- what is heard is for this node, and the frame spells its prefixes
     heard : {outcome : Outcome} (frame : List ℕ) → Judges start c now frame outcome (hears source destination message) → IsRead start.policies start.mac frame start.role outcome

@@ -11,14 +11,14 @@ use Rattle.nd_routers.specs.Due as routers
 use Rattle.nd_slaac.specs.Due as addresses
 use Rattle.nd_slaac.specs.History as address_rows
 use Rattle.nd_chronicle.specs.Start.{Start, link_local, link_local_key}
-use Rattle.nd_chronicle.specs.Happening.{Chronicle, Drew, ForReachableTime, Neighbour, Address, LeftRouter, SolicitedRouters, Sent, Unreachable}
+use Rattle.nd_chronicle.specs.Happening.{Chronicle, Drew, ForReachableTime, Neighbour, Address, LeftRouter, SolicitedRouters, Sent}
 use Rattle.nd_chronicle.specs.Histories.{parameter_history, neighbour_history, router_history, address_history, advertising_history}
 use Rattle.nd_advertiser.specs.Advertising.{next_of}
 use Rattle.nd_chronicle.specs.Advertising.{then_advertising}
 use Rattle.nd_chronicle.specs.InForce.{base_reachable_time, next_redraw}
 use Rattle.nd_chronicle.specs.Generator.{stream_left, reachable_drawn}
 use Rattle.nd_compose.specs.Frames.{detection_frame, resolution_frame, probe_frame, router_solicitation_frame}
-use Rattle.nd_chronicle.specs.Packet.{losing}
+use Rattle.nd_chronicle.specs.Packet.{failing}
 
 -- ---- Router Solicitations (RFC 4861, section 6.3.7)
 
@@ -125,7 +125,7 @@ module _ (start : Start) (at : ℕ) where
       (at, Sent (resolution_frame start.mac (link_local start) (addr_at key))) ∷ (at, Neighbour key neighbour_rows.Solicited) ∷ c
   then_neighbour (neighbours.Unicasts key mac) c =
       (at, Sent (probe_frame start.mac (link_local start) (mac_at mac) (addr_at key))) ∷ (at, Neighbour key neighbour_rows.Probed) ∷ c
-  then_neighbour (neighbours.Fails key packets) c = losing at Unreachable packets ((at, Neighbour key (neighbour_rows.Forgot neighbour_rows.Failed)) ∷ c)
+  then_neighbour (neighbours.Fails key packets) c = failing at key packets c
   then_neighbour (neighbours.Ages key) c = (at, Neighbour key (neighbour_rows.Forgot neighbour_rows.Aged)) ∷ c
 
   -- its row, and what is sent, lost or drawn with it

@@ -36,7 +36,7 @@ use Rattle.nd_compose.specs.Frames.{multicast_mac, open_mac}
 use Rattle.nd_chronicle.specs.Packet.{losing, GoesIfPlaced}
 use Rattle.nd_chronicle.specs.NextHop.{IsHopOf}
 use Rattle.nd_chronicle.specs.Hearing.{Verdict, hears, goes_up, goes_on, drops, IsHeard}
-use Rattle.nd_chronicle.specs.Message.{said, PlaceFor, releasing}
+use Rattle.nd_chronicle.specs.Message.{said, PlaceFor, RoomFor, failing_for, releasing}
 use Rattle.nd_chronicle.specs.RouterAdvertisement.{then_advertised}
 use Rattle.nd_chronicle.specs.ByHand.{SetAdds, withdrawing}
 use Rattle.nd_chronicle.specs.NeighborSolicitation.{ThenSolicited}
@@ -102,15 +102,18 @@ module _ (start : Start) (now : ℕ) where
   abbrev pub MessageAdds : Addr → Addr → Parts → Body → Chronicle → Chronicle → Type 0
   MessageAdds source destination message (bodies.Ns ns) c d = ThenSolicited start now source destination ns.target message c d
   MessageAdds source destination message (bodies.Ra ra) c d =
-      (placed : Chronicle) × PlaceFor start c now (said c source message) placed × (d ≡ then_advertised start now source destination ra message placed)
+      (gone : Option ℕ) × (placed : Chronicle) × RoomFor start c now (said c source message) gone placed
+      × (d ≡ then_advertised start now source destination ra message gone (neighbour_history c) placed)
   MessageAdds source destination message (bodies.Na na) c d =
       (placed : Chronicle) × PlaceFor start c now (said c source message) placed × (d ≡ then_neighbor_advertised now source destination na.target message placed)
   MessageAdds source destination message (bodies.Redirect r) c d =
-      (placed : Chronicle) × PlaceFor start c now (said c source message) placed
-      × (d ≡ releasing now (said c source message) (neighbour_history placed) ((now, Heard source destination message) ∷ placed))
+      (gone : Option ℕ) × (placed : Chronicle) × RoomFor start c now (said c source message) gone placed
+      × (d ≡ releasing now (said c source message) (neighbour_history placed)
+      (failing_for now gone (neighbour_history c) ((now, Heard source destination message) ∷ placed)))
   MessageAdds source destination message bodies.Rs c d =
-      (placed : Chronicle) × PlaceFor start c now (said c source message) placed
-      × (d ≡ planning start now (wants_answer start c) (releasing now (said c source message) (neighbour_history placed) ((now, Heard source destination message) ∷ placed)))
+      (gone : Option ℕ) × (placed : Chronicle) × RoomFor start c now (said c source message) gone placed
+      × (d ≡ planning start now (wants_answer start c) (releasing now (said c source message) (neighbour_history placed)
+      (failing_for now gone (neighbour_history c) ((now, Heard source destination message) ∷ placed))))
 
   abbrev pub VerdictAdds : List ℕ → Verdict → Chronicle → Chronicle → Type 0
   VerdictAdds frame (drops why) c d = d ≡ (now, Dropped why) ∷ c

@@ -1,6 +1,6 @@
 -- Which table has no room for what a message says: the first one, in the order of their limits. Its parts are taken in order, and none may
 -- lead to more entries than there may be.
-use Rattle.std.specs.Prelude.{◌≡◌, ℕ, Bool, true, if◌then◌else◌, bytes_eq, List, [], ◌∷◌, Option, Some, None}
+use Rattle.std.specs.Prelude.{◌≡◌, ℕ, Bool, true, false, if◌then◌else◌, bytes_eq, List, [], ◌∷◌, Option, Some, None}
 use Rattle.nd_addr.specs.declared.addr.Addr.{Addr}
 use Rattle.nd_addr.specs.Kind.{unspecified_address}
 use Rattle.nd_addr.specs.Number.{number_of}
@@ -24,7 +24,7 @@ use Rattle.nd_chronicle.specs.Start.{Start}
 use Rattle.nd_chronicle.specs.Happening.{Chronicle, Limit, Neighbours, Routers, Prefixes, Addresses, Servers, Names}
 use Rattle.nd_chronicle.specs.Histories.{router_history, prefix_history, address_history, server_history, name_history}
 use Rattle.nd_chronicle.specs.Packet.{HasPlace, no_place}
-use Rattle.nd_chronicle.specs.Message.{said, lets_enter}
+use Rattle.nd_chronicle.specs.Message.{said, HasWay, lets_enter, makes_way}
 
 -- the neighbour for which there has to be room, and whether it enters
 abbrev pub entering : Option (ℕ × RowKind) → Option (ℕ × Bool)
@@ -39,10 +39,11 @@ abbrev pub needs : Chronicle → Addr → Parts → Body → Option (ℕ × Bool
 needs c source message (bodies.Ns ns) = asking source
 needs c source message _ = entering (said c source message)
 
--- whether there is room for it
-abbrev pub Placed : Start → Chronicle → ℕ → Option (ℕ × Bool) → Bool → Type 0
-Placed start c now None place = place ≡ true
-Placed start c now (Some need) place = HasPlace start c now need.0 need.1 place
+-- whether there is room for it, where another one may give way to it and where none may
+abbrev pub Placed : Start → Chronicle → ℕ → Bool → Option (ℕ × Bool) → Bool → Type 0
+Placed start c now way None place = place ≡ true
+Placed start c now true (Some need) place = HasWay start c now need.0 need.1 place
+Placed start c now false (Some need) place = HasPlace start c now need.0 need.1 place
 
 -- the first that has no room, of all tables
 abbrev pub first_full : Bool → Bool → Bool → Bool → Bool → Bool → Option Limit
@@ -62,7 +63,7 @@ first_full neighbours routers prefixes addresses servers names =
 -- a Router Advertisement may want room in each table
 pub record AdvertisementFills (start : Start) (c : Chronicle) (now : ℕ) (source : Addr) (ra : RouterAdvertisement) (message : Parts) (limit : Option Limit) : Type 0 where
   pub neighbours : Bool
-  pub placed : Placed start c now (needs c source message message.body) neighbours
+  pub placed : Placed start c now (makes_way start (said c source message)) (needs c source message message.body) neighbours
   pub routers : List (Lasting ℕ)
   pub those_routers : Lists same (announcements (router_history c)) now routers
   pub prefixes : List (Lasting PrefixValue)
@@ -83,7 +84,7 @@ pub record AdvertisementFills (start : Start) (c : Chronicle) (now : ℕ) (sourc
 -- any other message only a neighbour
 pub record MessageFills (start : Start) (c : Chronicle) (now : ℕ) (source : Addr) (message : Parts) (limit : Option Limit) : Type 0 where
   pub neighbours : Bool
-  pub placed : Placed start c now (needs c source message message.body) neighbours
+  pub placed : Placed start c now (makes_way start (said c source message)) (needs c source message message.body) neighbours
   pub first : limit ≡ no_place neighbours
 
 -- the table that the message would fill, if it would one

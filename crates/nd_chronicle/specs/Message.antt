@@ -1,18 +1,19 @@
 -- What every message adds that is heard: place for the neighbour that it makes known, the message itself, which each table takes for its
--- history, and the packets that waited for the link-layer address that it gives, or the caller that did (RFC 4861, sections 6.2.6, 6.3.4, 7.2.3,
--- 7.2.5 and 8.3).
-use Rattle.std.specs.Prelude.{◌≡◌, ℕ, Bool, true, false, if◌then◌else◌, List, ◌∷◌, Option, Some, None}
+-- history, the failure of the neighbour that gave way to that one, if one did, and the packets that waited for the link-layer address that it gives, or the
+-- caller that did (RFC 4861, sections 6.2.6, 6.3.4, 7.2.3, 7.2.5 and 8.3; RFC 6583, section 7).
+use Rattle.std.specs.Prelude.{◌≡◌, ℕ, Bool, true, false, ◌&&◌, if◌then◌else◌, MatchBool, List, ◌∷◌, Option, Some, None}
 use Rattle.nd_addr.specs.declared.addr.Addr.{Addr}
 use Rattle.nd_decode.specs.Message.{Parts}
 use Rattle.nd_neighbour.specs.History as neighbours
 use Rattle.nd_neighbour.specs.History.{RowKind, Story, story}
+use Rattle.nd_neighbour.specs.GivingWay.{GivesWay, IsFullOfSpeakers}
 use Rattle.nd_neighbour.specs.News.{released_by}
-use Rattle.nd_neighbour.specs.Story.{is_awaited, mac_of}
+use Rattle.nd_neighbour.specs.Story.{is_awaited, mac_of, waits_of}
 use Rattle.nd_chronicle.specs.Start.{Start}
 use Rattle.nd_chronicle.specs.Happening.{Chronicle, LeftRouter, Resolved}
-use Rattle.nd_chronicle.specs.Histories.{said_of_neighbour}
+use Rattle.nd_chronicle.specs.Histories.{neighbour_history, said_of_neighbour}
 use Rattle.nd_chronicle.specs.InForce.{reachable_time}
-use Rattle.nd_chronicle.specs.Packet.{MakesPlace, sending}
+use Rattle.nd_chronicle.specs.Packet.{MakesPlace, failing, sending, with_pushed}
 
 -- what it says of a neighbour at this place
 abbrev pub said : Chronicle → Addr → Parts → Option (ℕ × RowKind)
@@ -27,6 +28,37 @@ lets_enter _ = false
 abbrev pub PlaceFor : Start → Chronicle → ℕ → Option (ℕ × RowKind) → Chronicle → Type 0
 PlaceFor start c at None d = d ≡ c
 PlaceFor start c at (Some news) d = MakesPlace start c at news.0 (lets_enter news.1) d
+
+-- ---- the policy `speakers`
+
+-- a neighbour that gives its link-layer address speaks: another one may give way to it
+abbrev pub makes_way : Start → Option (ℕ × RowKind) → Bool
+makes_way start None = false
+makes_way start (Some news) = lets_enter news.1 && start.policies.speakers
+
+-- whether there is room for it so
+abbrev pub HasWay : Start → Chronicle → ℕ → ℕ → Bool → Bool → Type 0
+HasWay start c at key enters place =
+    MatchBool place (enters ≡ true → IsFullOfSpeakers start.limits.neighbours at key (neighbour_history c) → ⊥)
+    ((enters ≡ true) × IsFullOfSpeakers start.limits.neighbours at key (neighbour_history c))
+
+-- the neighbour that gives way, if one does
+abbrev pub WayFor : Start → Chronicle → ℕ → Option (ℕ × RowKind) → Option ℕ → Type 0
+WayFor start c at None gone = gone ≡ None
+WayFor start c at (Some news) gone =
+    MatchBool (makes_way start (Some news)) (GivesWay start.limits.neighbours at news.0 (neighbour_history c) gone) (gone ≡ None)
+
+-- there is room for the neighbour of which the message speaks: another one may give way, and place is made as ever where that one is gone
+pub record RoomFor (start : Start) (c : Chronicle) (at : ℕ) (news : Option (ℕ × RowKind)) (gone : Option ℕ) (placed : Chronicle) : Type 0 where
+  pub way : WayFor start c at news gone
+  pub place : PlaceFor start (with_pushed at gone c) at news placed
+
+-- the one that gave way has failed, with all that a failure brings, by the history before
+abbrev pub failing_for : ℕ → Option ℕ → List neighbours.Row → Chronicle → Chronicle
+failing_for at None history c = c
+failing_for at (Some gone) history c = failing at gone (waits_of (story gone history)) c
+
+-- ---- what is released
 
 -- packets are sent to an address, if one is known
 abbrev pub sending_if_known : ℕ → Option ℕ → List (List ℕ) → Chronicle → Chronicle

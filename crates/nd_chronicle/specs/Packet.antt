@@ -9,7 +9,7 @@ use Rattle.nd_neighbour.specs.Place.{Prepares, WouldBeFull, pushing}
 use Rattle.nd_neighbour.specs.Room.{HasRoom}
 use Rattle.nd_neighbour.specs.Sending.{Sending, Sends, Queues, sending_of_story}
 use Rattle.nd_chronicle.specs.Start.{Start, link_local}
-use Rattle.nd_chronicle.specs.Happening.{Chronicle, Neighbour, Sent, Lost, Loss, Replaced, Limit, Neighbours}
+use Rattle.nd_chronicle.specs.Happening.{Chronicle, Neighbour, Sent, Lost, Loss, Replaced, Unreachable, Limit, Neighbours}
 use Rattle.nd_chronicle.specs.Histories.{neighbour_history}
 use Rattle.nd_chronicle.specs.InForce.{retrans_timer}
 use Rattle.nd_chronicle.specs.Refused.{UnlessFull}
@@ -19,6 +19,10 @@ use Rattle.nd_compose.specs.Frames.{resolution_frame}
 abbrev pub losing : ℕ → Loss → List (List ℕ) → Chronicle → Chronicle
 losing at why [] c = c
 losing at why (packet ∷ packets) c = losing at why packets ((at, Lost why packet) ∷ c)
+
+-- a neighbour fails, and what waits for it is lost (RFC 4861, sections 7.2.2 and 7.3.3)
+abbrev pub failing : ℕ → ℕ → List (List ℕ) → Chronicle → Chronicle
+failing at key packets c = losing at Unreachable packets ((at, Neighbour key (neighbours.Forgot neighbours.Failed)) ∷ c)
 
 -- packets are sent to a link-layer address, in their order
 abbrev pub sending : ℕ → ℕ → List (List ℕ) → Chronicle → Chronicle

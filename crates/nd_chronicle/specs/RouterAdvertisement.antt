@@ -1,6 +1,6 @@
 -- What a Router Advertisement adds, in the order in which it is taken (RFC 4861, section 6.3.4; RFC 4862, section 5.5.3): the parameters,
 -- what it says of its sender, the list of routers, and its prefix options, each for the link and then for the addresses.
-use Rattle.std.specs.Prelude.{ℕ, Bool, true, false, ◌&&◌, ◌==◌, if◌then◌else◌, List, [], ◌∷◌, Some}
+use Rattle.std.specs.Prelude.{ℕ, Bool, true, false, ◌&&◌, ◌==◌, if◌then◌else◌, List, [], ◌∷◌, Option, Some}
 use Rattle.nd_addr.specs.declared.addr.Addr.{Addr}
 use Rattle.nd_addr.specs.Kind.{multicast_prefix}
 use Rattle.nd_addr.specs.Number.{number_of, holds}
@@ -11,6 +11,7 @@ use Rattle.nd_table.specs.Announcements.{stands}
 use Rattle.nd_params.specs.Params.{redraws}
 use Rattle.nd_routers.specs.History.{announcements}
 use Rattle.nd_routers.specs.Routers.{same}
+use Rattle.nd_neighbour.specs.History as neighbours
 use Rattle.nd_slaac.specs.History as addresses
 use Rattle.nd_slaac.specs.History.{Lifetimes}
 use Rattle.nd_slaac.specs.PrefixOption.{is_taken, named_by, lifetimes_of, prefixes_in}
@@ -21,7 +22,7 @@ use Rattle.nd_chronicle.specs.Histories.{neighbour_history, router_history}
 use Rattle.nd_chronicle.specs.InForce.{base_reachable_time, retrans_timer}
 use Rattle.nd_chronicle.specs.Generator.{stream_left, reachable_drawn, delay_drawn}
 use Rattle.nd_chronicle.specs.OwnAddress.{story_of}
-use Rattle.nd_chronicle.specs.Message.{said, releasing, leaving}
+use Rattle.nd_chronicle.specs.Message.{said, failing_for, releasing, leaving}
 
 module _ (start : Start) (at : ℕ) where
   -- "A new random value should be calculated when BaseReachableTime changes" (section 6.3.2)
@@ -63,10 +64,12 @@ module _ (start : Start) (at : ℕ) where
   abbrev pub times_out : Chronicle → Addr → RouterAdvertisement → Bool
   times_out c source ra = (ra.router_lifetime == 0) && stands same (number_of source.0) (announcements (router_history c)) at
 
-  abbrev pub then_advertised : Addr → Addr → RouterAdvertisement → Parts → Chronicle → Chronicle
-  then_advertised source destination ra message c =
+  -- one that gave way to its sender fails, with what waited for it by this history
+  abbrev pub then_advertised : Addr → Addr → RouterAdvertisement → Parts → Option ℕ → List neighbours.Row → Chronicle → Chronicle
+  then_advertised source destination ra message gone before c =
       then_options (holds multicast_prefix destination.0) (prefixes_in message.options)
       (leaving at (times_out c source ra) (number_of source.0)
       (releasing at (said c source message) (neighbour_history c)
+      (failing_for at gone before
       (redrawing ra.reachable_time (redraws (base_reachable_time c) ra.reachable_time)
-      ((at, Heard source destination message) ∷ c))))
+      ((at, Heard source destination message) ∷ c)))))

@@ -1,6 +1,6 @@
 -- Each event adds something.
 use Rattle.std.proofs.Common.{◌≡◌, ℕ, Bool, true, false, cond, eqb, List, [], ◌∷◌, ◌++◌, Option, Some, None, refl, sym, ◌∙◌, ap, subst}
-use Rattle.std.specs.Prelude.{MatchBool, map, bytes_eq, length, nat_lt, ◌==◌}
+use Rattle.std.specs.Prelude.{MatchBool, MatchOption, ◌&&◌, map, bytes_eq, length, nat_lt, ◌==◌}
 use Rattle.std.proofs.lemmas.Bool.Decides.{eqb_tells}
 use Rattle.std.proofs.lemmas.Bool.{cond-true, cond-false, eq-eqb, true≢false}
 use Rattle.nd_addr.specs.declared.addr.Addr.{Addr}
@@ -9,7 +9,7 @@ use Rattle.nd_addr.specs.declared.role.Role.{Role}
 use Rattle.nd_addr.specs.declared.role.Role.TheVariants.{Host, Router}
 use Rattle.nd_addr.specs.Ip6.{PacketParts}
 use Rattle.nd_addr.specs.Kind.{multicast_prefix, unspecified_address}
-use Rattle.nd_addr.specs.Number.{number_of, holds}
+use Rattle.nd_addr.specs.Number.{mac_at, number_of, holds}
 use Rattle.nd_addr.specs.Same.{same_addr, addrs_tell, same_prefix, prefixes_tell, bytes_tell}
 use Rattle.nd_decode.specs.Message.{Parts}
 use Rattle.nd_decode.specs.Option.{Said}
@@ -21,6 +21,8 @@ use Rattle.nd_dns.specs.AnnouncedServers.{servers_told}
 use Rattle.nd_compose.specs.Frames.{answer_frame, multicast_mac, open_mac}
 use Rattle.nd_table.specs.Listing.{fits}
 use Rattle.nd_table.specs.Shown as shown_lifetimes
+use Rattle.nd_addr.specs.Frame.{addressed}
+use Rattle.nd_neighbour.specs.GivingWay.{GivesWay}
 use Rattle.nd_neighbour.specs.History as neighbours
 use Rattle.nd_neighbour.specs.History.{RowKind, Row, story}
 use Rattle.nd_neighbour.specs.Place.{WouldBeFull}
@@ -51,7 +53,7 @@ use Rattle.nd_chronicle.specs.InForce.{reachable_time}
 use Rattle.nd_chronicle.specs.OwnAddress.{is_own, refusal_unless_up, story_of}
 use Rattle.nd_chronicle.specs.Packet.{sending, Goes, GoesIfPlaced, HavePlace}
 use Rattle.nd_chronicle.specs.NextHop.{IsHopOf}
-use Rattle.nd_chronicle.specs.Message.{said, lets_enter, PlaceFor, sending_if_known, telling_if_known, releasing}
+use Rattle.nd_chronicle.specs.Message.{said, failing_for, lets_enter, makes_way, PlaceFor, RoomFor, WayFor, sending_if_known, telling_if_known, releasing}
 use Rattle.nd_chronicle.specs.RouterAdvertisement.{forming, then_advertised}
 use Rattle.nd_chronicle.specs.ByHand.{no_room, setting, FormsByHand, AddressAdds, SetAdds, withdrawing}
 use Rattle.nd_chronicle.specs.Resolve.{PathAdds, ResolveAdds, WantsIfPlaced}
@@ -97,25 +99,60 @@ releasing_rows at (Some news) h c =
     told_rows at news.0 (mac_of ((at, news.1) ∷ story news.0 h)) (is_awaited (story news.0 h)) _
     ∙ known_rows at (mac_of ((at, news.1) ∷ story news.0 h)) (released_by at news.1 (story news.0 h)) c
 
-module _ (start : Start) (c : Chronicle) (now : ℕ) where
+and_false : (a : Bool) → (a && false) ≡ false
+and_false true = refl
+and_false false = refl
+
+module _ (start : Start) (plain : start.policies.speakers ≡ false) (c : Chronicle) (now : ℕ) where
+  -- ---- no neighbour gives way to another one without the policy `speakers`
+
+  without : (news : Option (ℕ × RowKind)) → makes_way start news ≡ false
+  without None = refl
+  without (Some news) = ap (λ b. lets_enter news.1 && b) plain ∙ and_false (lets_enter news.1)
+
+  way_by : (b : Bool) (key : ℕ) (gone : Option ℕ) → b ≡ false → gone ≡ None → MatchBool b (GivesWay start.limits.neighbours now key (neighbour_history c) gone) (gone ≡ None)
+  way_by true key gone is none = absurd (true≢false is)
+  way_by false key gone is none = none
+
+  none_gives_way : (news : Option (ℕ × RowKind)) → WayFor start c now news None
+  none_gives_way None = refl
+  none_gives_way (Some news) = way_by (makes_way start (Some news)) news.0 None (without (Some news)) refl
+
+  plainly : (news : Option (ℕ × RowKind)) (need : Option (ℕ × Bool)) (place : Bool) → Placed start c now false need place → Placed start c now (makes_way start news) need place
+  plainly news need place q = subst (λ (b : Bool). Placed start c now b need place) (sym (without news)) q
+
+  -- and an answer is a use
+  used_by_answer : (key : ℕ) (packet : List ℕ) (e d : Chronicle) → Goes start e now key packet d → asked.Replies start now key packet e d
+  used_by_answer key packet e d goes =
+      subst (λ (o : Option ℕ). MatchOption o (Goes start e now key packet d) (λ mac. d ≡ (now, Sent (addressed (mac_at mac) packet)) ∷ e))
+      (sym (cond-false start.policies.speakers (mac_of (story key (neighbour_history e))) None plain)) goes
+
   -- ---- a message is heard
 
-  placed : (need : Option (ℕ × Bool)) → (place : Bool) × Placed start c now need place
+  placed : (need : Option (ℕ × Bool)) → (place : Bool) × Placed start c now false need place
   placed None = (true, refl)
   placed (Some need) = place_told start c now need.0 need.1
 
-  place_for : (news : Option (ℕ × RowKind)) → Placed start c now (entering news) true → (d : Chronicle) × PlaceFor start c now news d
+  place_for : (news : Option (ℕ × RowKind)) → Placed start c now false (entering news) true → (d : Chronicle) × PlaceFor start c now news d
   place_for None p = (c, refl)
   place_for (Some news) p = place_made start c now news.0 (lets_enter news.1) p
+
+  room_for : (news : Option (ℕ × RowKind)) → Placed start c now false (entering news) true → (d : Chronicle) × RoomFor start c now news None d
+  room_for news p = let f = place_for news p in (f.0, record { way = none_gives_way news; place = f.1 })
 
   module _ (source destination : Addr) (options : List Said) where
     abbrev message : Body → Parts
     message body = record { body = body; options = options }
 
     -- behind the place for a neighbour
-    behind : (body : Body) (then' : Chronicle → Chronicle) → Placed start c now (entering (said c source (message body))) true
+    behind : (body : Body) (then' : Chronicle → Chronicle) → Placed start c now false (entering (said c source (message body))) true
         → (d : Chronicle) × ((made : Chronicle) × PlaceFor start c now (said c source (message body)) made × (d ≡ then' made))
     behind body then' p = let f = place_for (said c source (message body)) p in (then' f.0, (f.0, f.1, refl))
+
+    -- and behind the failure of one that would give way to it
+    behind_room : (body : Body) (then' : Option ℕ → Chronicle → Chronicle) → Placed start c now false (entering (said c source (message body))) true
+        → (d : Chronicle) × ((gone : Option ℕ) × (made : Chronicle) × RoomFor start c now (said c source (message body)) gone made × (d ≡ then' gone made))
+    behind_room body then' p = let f = room_for (said c source (message body)) p in (then' None f.0, (None, f.0, f.1, refl))
 
     -- ---- a Neighbor Solicitation
 
@@ -153,24 +190,30 @@ module _ (start : Start) (c : Chronicle) (now : ℕ) where
             (subst (λ (h : List Row). WouldBeFull start.limits.neighbours now (number_of source.0) h)
             (ap (λ o. then_neighbour now o (neighbour_history p.0)) is) full))
 
-      solicited : (t : Bool) → bytes_eq source.0 unspecified_address ≡ t → Placed start c now (asking source) true
+      solicited : (t : Bool) → bytes_eq source.0 unspecified_address ≡ t → Placed start c now false (asking source) true
           → (d : Chronicle) × MatchBool t (d ≡ then_tried start now target (heard_over c)) (asked.Answers start now source destination target solicitation c d)
       solicited true is p = (then_tried start now target (heard_over c), refl)
       solicited false is p =
-          let has = subst (λ (b : Bool). Placed start c now (cond b None (Some (number_of source.0, true))) true) is p in
+          let has = subst (λ (b : Bool). Placed start c now false (cond b None (Some (number_of source.0, true))) true) is p in
           let news : said c source solicitation ≡ given_or_marked (number_of source.0) (first_slla options) None =
           cond-false (bytes_eq source.0 unspecified_address) None (given_or_marked (number_of source.0) (first_slla options) None) is in
           let a = answered_by (has refl) (first_slla options) news in
           let b = subst (λ o. FollowsBy o a.0) (sym news) a.1 in
-          (a.0, record { placed = b.0; place = b.1; answer = b.2 })
+          (a.0, record {
+            gone = None;
+            placed = b.0;
+            room = record { way = none_gives_way (said c source solicitation); place = b.1 };
+            answer = used_by_answer (number_of source.0) (answer_frame (is_router start.role) start.mac target source)
+                (releasing now (said c source solicitation) (neighbour_history b.0) (heard_over b.0)) a.0 b.2;
+          })
 
     -- ---- any message, which may have no room
 
     abbrev Filled : Body → Chronicle → Type 0
     Filled body d = (full : Option Limit) × Fills start c now source (message body) body full × UnlessFull now full (MessageAdds start now source destination (message body) body c) c d
 
-    filled : (need : Option (ℕ × Bool)) (A : Chronicle → Type 0) (MayFill : Option Limit → Type 0) → ((place : Bool) → Placed start c now need place → MayFill (cond place None (Some Neighbours)))
-        → (Placed start c now need true → (d : Chronicle) × A d) → (place : Bool) → Placed start c now need place → (d : Chronicle) × ((full : Option Limit) × MayFill full × UnlessFull now full A c d)
+    filled : (need : Option (ℕ × Bool)) (A : Chronicle → Type 0) (MayFill : Option Limit → Type 0) → ((place : Bool) → Placed start c now false need place → MayFill (cond place None (Some Neighbours)))
+        → (Placed start c now false need true → (d : Chronicle) × A d) → (place : Bool) → Placed start c now false need place → (d : Chronicle) × ((full : Option Limit) × MayFill full × UnlessFull now full A c d)
     filled need A MayFill fills f true p = let d = f p in (d.0, (None, fills true p, d.1))
     filled need A MayFill fills f false p = ((now, Refused (Full Neighbours)) ∷ c, (Some Neighbours, fills false p, refl))
 
@@ -179,7 +222,7 @@ module _ (start : Start) (c : Chronicle) (now : ℕ) where
       abbrev advertisement : Parts
       advertisement = message (bodies.Ra ra)
 
-      advertised : (place : Bool) → Placed start c now (entering (said c source advertisement)) place → (d : Chronicle) × Filled (bodies.Ra ra) d
+      advertised : (place : Bool) → Placed start c now false (entering (said c source advertisement)) place → (d : Chronicle) × Filled (bodies.Ra ra) d
       advertised place p =
           let routers = listed same eqb_tells (announcements (router_history c)) now in
           let prefixes = listed same_prefix prefixes_tell (prefix_history c) now in
@@ -195,7 +238,7 @@ module _ (start : Start) (c : Chronicle) (now : ℕ) where
           (fits same_name start.limits.names now (names_told options) names.0) in
           let all : AdvertisementFills start c now source ra advertisement full = record {
             neighbours = place;
-            placed = p;
+            placed = plainly (said c source advertisement) (entering (said c source advertisement)) place p;
             routers = routers.0;
             those_routers = routers.1;
             prefixes = prefixes.0;
@@ -209,11 +252,11 @@ module _ (start : Start) (c : Chronicle) (now : ℕ) where
             first = refl;
           } in
           let d = unless_full now full (MessageAdds start now source destination advertisement (bodies.Ra ra) c) c
-          (λ none. behind (bodies.Ra ra) (λ made. then_advertised start now source destination ra advertisement made) (has_place place _ p none)) in
+          (λ none. behind_room (bodies.Ra ra) (λ gone made. then_advertised start now source destination ra advertisement gone (neighbour_history c) made) (has_place place _ p none)) in
           (d.0, (full, all, d.1))
         where
-          has_place : (q : Bool) (rest : Option Limit) → Placed start c now (entering (said c source advertisement)) q → cond q rest (Some Neighbours) ≡ None
-              → Placed start c now (entering (said c source advertisement)) true
+          has_place : (q : Bool) (rest : Option Limit) → Placed start c now false (entering (said c source advertisement)) q → cond q rest (Some Neighbours) ≡ None
+              → Placed start c now false (entering (said c source advertisement)) true
           has_place true rest h none = h
           has_place false rest h none = absurd (let never : ⊥ = cc in never)
 
@@ -222,23 +265,25 @@ module _ (start : Start) (c : Chronicle) (now : ℕ) where
     message_adds (bodies.Ns ns) =
         let p = placed (asking source) in
         filled (asking source) (MessageAdds start now source destination (message (bodies.Ns ns)) (bodies.Ns ns) c) (MessageFills start c now source (message (bodies.Ns ns)))
-        (λ place q. record { neighbours = place; placed = q; first = refl })
+        (λ place q. record { neighbours = place; placed = plainly (said c source (message (bodies.Ns ns))) (asking source) place q; first = refl })
         (λ q. solicited ns.target (bytes_eq source.0 unspecified_address) refl q) p.0 p.1
     message_adds (bodies.Na na) =
         let p = placed (entering (said c source (message (bodies.Na na)))) in
         filled (entering (said c source (message (bodies.Na na)))) (MessageAdds start now source destination (message (bodies.Na na)) (bodies.Na na) c) (MessageFills start c now source (message (bodies.Na na)))
-        (λ place q. record { neighbours = place; placed = q; first = refl })
+        (λ place q. record { neighbours = place; placed = plainly (said c source (message (bodies.Na na))) (entering (said c source (message (bodies.Na na)))) place q; first = refl })
         (λ q. behind (bodies.Na na) (λ made. then_neighbor_advertised now source destination na.target (message (bodies.Na na)) made) q) p.0 p.1
     message_adds (bodies.Redirect r) =
         let p = placed (entering (said c source (message (bodies.Redirect r)))) in
         filled (entering (said c source (message (bodies.Redirect r)))) (MessageAdds start now source destination (message (bodies.Redirect r)) (bodies.Redirect r) c) (MessageFills start c now source (message (bodies.Redirect r)))
-        (λ place q. record { neighbours = place; placed = q; first = refl })
-        (λ q. behind (bodies.Redirect r) (λ made. releasing now (said c source (message (bodies.Redirect r))) (neighbour_history made) ((now, Heard source destination (message (bodies.Redirect r))) ∷ made)) q) p.0 p.1
+        (λ place q. record { neighbours = place; placed = plainly (said c source (message (bodies.Redirect r))) (entering (said c source (message (bodies.Redirect r)))) place q; first = refl })
+        (λ q. behind_room (bodies.Redirect r) (λ gone made. releasing now (said c source (message (bodies.Redirect r))) (neighbour_history made)
+        (failing_for now gone (neighbour_history c) ((now, Heard source destination (message (bodies.Redirect r))) ∷ made))) q) p.0 p.1
     message_adds bodies.Rs =
         let p = placed (entering (said c source (message bodies.Rs))) in
         filled (entering (said c source (message bodies.Rs))) (MessageAdds start now source destination (message bodies.Rs) bodies.Rs c) (MessageFills start c now source (message bodies.Rs))
-        (λ place q. record { neighbours = place; placed = q; first = refl })
-        (λ q. behind bodies.Rs (λ made. planning start now (wants_answer start c) (releasing now (said c source (message bodies.Rs)) (neighbour_history made) ((now, Heard source destination (message bodies.Rs)) ∷ made))) q) p.0 p.1
+        (λ place q. record { neighbours = place; placed = plainly (said c source (message bodies.Rs)) (entering (said c source (message bodies.Rs))) place q; first = refl })
+        (λ q. behind_room bodies.Rs (λ gone made. planning start now (wants_answer start c) (releasing now (said c source (message bodies.Rs)) (neighbour_history made)
+        (failing_for now gone (neighbour_history c) ((now, Heard source destination (message bodies.Rs)) ∷ made)))) q) p.0 p.1
 
   -- ---- a packet in transit
 

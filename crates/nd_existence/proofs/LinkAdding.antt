@@ -1,5 +1,5 @@
 -- Each event on a link adds something.
-use Rattle.std.proofs.Common.{◌≡◌, ℕ, zero, suc, ◌<◌, Bool, true, false, List, [], ◌∷◌, ◌++◌, refl, subst, arith, inl, inr}
+use Rattle.std.proofs.Common.{◌≡◌, ℕ, zero, suc, ◌<◌, Bool, true, false, List, [], ◌∷◌, ◌++◌, Option, Some, refl, subst, arith, inl, inr}
 use Rattle.std.specs.Prelude.{◌==◌, nat_lt, MatchBool}
 use Rattle.std.proofs.lemmas.Bool.{cond_both}
 use Rattle.std.proofs.lemmas.Bool.Decides.{nat_tests, eqb_tells}
@@ -11,7 +11,7 @@ use Rattle.nd_chronicle.specs.Event.{EventAdds}
 use Rattle.nd_chronicle.proofs.Growth.{event_grows}
 use Rattle.nd_link_log.specs.Log.{Entry, Log, NoNode, NoFrame, Own, Full, Begins, Adds, Carries, Reaches, Refuses, nodes, start_of, chronicle_of, adding, sent, IsFrame}
 use Rattle.nd_link_log.specs.Event.{Event, Passes, Starts, Comes, Delivers, max_nodes, passing, AddsRows, AddsDelivery, EventHappens}
-use Rattle.nd_link_log.proofs.Nodes.{is_there}
+use Rattle.nd_link_log.proofs.Nodes.{Numbered, is_there}
 use Rattle.nd_existence.specs.Intervals as nodes
 use Rattle.nd_existence.specs.Intervals.{AreTimed}
 use Rattle.nd_existence.proofs.Adding.{event_adds}
@@ -51,11 +51,25 @@ fine_passing now log (suc k) fine =
     let before = fine_passing now log k fine in
     record {
       numbered = before.numbered;
+      plain = before.plain;
       timed = λ i. cond_both (k == i) ((now, Passed) ∷ chronicle_of i (passing now k log)) (chronicle_of i (passing now k log)) AreTimed (λ own. before.timed i) (λ other. before.timed i);
     }
 
 pub fine_reached : (now : ℕ) (log : Log) → IsFine log → IsFine (Reaches now ∷ log)
-fine_reached now log fine = record { numbered = fine.numbered; timed = fine.timed }
+fine_reached now log fine = record { numbered = fine.numbered; timed = fine.timed; plain = fine.plain }
+
+-- a node without the policy leaves the log fine
+pub fine_begun : (node : ℕ) (start : Start) (log : Log) → Numbered (Begins node start ∷ log) → start.policies.speakers ≡ false → IsFine log → IsFine (Begins node start ∷ log)
+fine_begun node start log numbered plain fine = record {
+  numbered = numbered;
+  timed = fine.timed;
+  plain = λ i s is.
+      cond_both (node == i) (Some start) (start_of i log) (λ (o : Option Start). o ≡ Some s → s.policies.speakers ≡ false)
+      (λ own e. subst (λ (x : Start). x.policies.speakers ≡ false) (same_start start s e) plain) (λ other e. fine.plain i s e) is;
+}
+  where
+    same_start : (a b : Start) → Some a ≡ Some b → a ≡ b
+    same_start a b e = cc
 
 module _ (limits : Limits) (now : ℕ) where
   abbrev Adds' : (Log → Type 0) → Type 0
@@ -67,7 +81,7 @@ module _ (limits : Limits) (now : ℕ) where
   rows_added i event log fine lt fits =
       let s = there_is (start_of i log) (is_there i log fine.numbered lt) in
       let c = chronicle_of i log in
-      let a = event_adds s.0 c now event in
+      let a = event_adds s.0 (fine.plain i s.0 s.1) c now event in
       let g = event_grows s.0 now c event a.0 a.1 in
       let timed : AreTimed (g.newer ++ c) = subst AreTimed g.all (event_timed s.0 now c event a.0 fits a.1 (fine.timed i)) in (
         adding i g.newer log,
@@ -82,7 +96,7 @@ module _ (limits : Limits) (now : ℕ) where
       )
 
   refused : (why : _) (log : Log) → IsFine log → IsFine (Refuses now why ∷ log)
-  refused why log fine = record { numbered = fine.numbered; timed = fine.timed }
+  refused why log fine = record { numbered = fine.numbered; timed = fine.timed; plain = fine.plain }
 
   -- ---- a delivery
 
@@ -90,7 +104,7 @@ module _ (limits : Limits) (now : ℕ) where
       → Adds' (λ d. MatchBool own (d ≡ Refuses now Own ∷ log) (AddsRows limits now i (chronicle.Receives frame) (Carries i now number ∷ log) d))
   delivered_by true i number frame log fine lt = (Refuses now Own ∷ log, refl, refused Own log fine)
   delivered_by false i number frame log fine lt =
-      rows_added i (chronicle.Receives frame) (Carries i now number ∷ log) (record { numbered = fine.numbered; timed = fine.timed }) lt (λ settings e. let never : ⊥ = cc in absurd never)
+      rows_added i (chronicle.Receives frame) (Carries i now number ∷ log) (record { numbered = fine.numbered; timed = fine.timed; plain = fine.plain }) lt (λ settings e. let never : ⊥ = cc in absurd never)
 
   delivered : (t : Bool) (i number : ℕ) (log : Log) → nat_lt number (sent log) ≡ t → IsFine log → i < nodes log
       → Adds' (λ d. MatchBool t (AddsDelivery limits now i number log d) (d ≡ Refuses now NoFrame ∷ log))
@@ -109,19 +123,19 @@ module _ (limits : Limits) (now : ℕ) where
 
   -- ---- a node starts
 
-  started : (t : Bool) (start : Start) (log : Log) → IsFine log
+  started : (t : Bool) (start : Start) (log : Log) → start.policies.speakers ≡ false → IsFine log
       → Adds' (λ d. MatchBool t (d ≡ adding (nodes log) (beginning start) (Begins (nodes log) start ∷ log)) (d ≡ Refuses now Full ∷ log))
-  started true start log fine =
-      let before : IsFine (Begins (nodes log) start ∷ log) = record { numbered = (refl, fine.numbered); timed = fine.timed } in
+  started true start log plain fine =
+      let before = fine_begun (nodes log) start log (refl, fine.numbered) plain fine in
       (adding (nodes log) (beginning start) (Begins (nodes log) start ∷ log), refl, fine_with (nodes log) (beginning start) (Begins (nodes log) start ∷ log) before (fine.timed (nodes log)))
-  started false start log fine = (Refuses now Full ∷ log, refl, refused Full log fine)
+  started false start log plain fine = (Refuses now Full ∷ log, refl, refused Full log fine)
 
   -- ---- the event
 
   pub event_happens : (event : Event) (log : Log) → LeavesTime event → IsFine log → Adds' (EventHappens limits now event log)
   event_happens Passes log fits fine = (log, refl, fine)
   event_happens (Starts role mac transmits stream) log fits fine =
-      started (nat_lt (nodes log) max_nodes) (record { at = now; role = role; mac = mac; transmits = transmits; stream = stream; limits = limits; policies = no_policies }) log fine
+      started (nat_lt (nodes log) max_nodes) (record { at = now; role = role; mac = mac; transmits = transmits; stream = stream; limits = limits; policies = no_policies }) log refl fine
   event_happens (Comes i event) log fits fine =
       if_there (nat_lt i (nodes log)) i log (AddsRows limits now i event log) refl fine (λ lt. rows_added i event log fine lt fits)
   event_happens (Delivers i number) log fits fine =

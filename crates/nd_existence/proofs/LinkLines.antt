@@ -17,7 +17,7 @@ use Rattle.nd_link_log.specs.Event.{Event, Starts, Comes, Delivers}
 use Rattle.nd_link_log.specs.Told.{text}
 use Rattle.nd_existence.specs.LinkIntervals.{LeavesTime}
 use Rattle.nd_existence.proofs.LinkRunning.{run}
-use Rattle.nd_existence.proofs.LinkWalking.{IsFine}
+use Rattle.nd_existence.proofs.LinkWalking.{fine_nothing}
 use Rattle.ndpctl_link.specs.declared.command.LinkCommand.{LinkCommand}
 use Rattle.ndpctl_link.specs.declared.command.LinkCommand.TheVariants.{Node, On, Deliver}
 use Rattle.ndpctl_link.specs.Command.{link_word, AreLinkArguments, IsLinkCommand}
@@ -133,6 +133,5 @@ said_leaves (line ∷ lines) n said found (says at event {later = later} {found 
 pub text_of : (n : ℕ) (lines : List (List ℕ)) → (told : List ℕ) × (found : Option ℕ) × IsLinkText n lines told found
 text_of n lines =
     let read = all_read lines n in
-    let empty : IsFine [] = record { numbered = tt; timed = λ i. tt } in
-    let r = run usual_limits read.0 [] (said_leaves lines n read.0 read.1 read.2) empty in
+    let r = run usual_limits read.0 [] (said_leaves lines n read.0 read.1 read.2) fine_nothing in
     (text r.0, read.1, record { said = read.0; say = read.2; end = r.0; runs = r.1; text_is = refl })

@@ -1,5 +1,5 @@
 -- Each millisecond of a link ends, and so does a walk up to a moment.
-use Rattle.std.proofs.Common.{◌≡◌, ℕ, zero, suc, ◌+◌, ◌<◌, ◌≤◌, true, false, ◌++◌, Option, Some, None, refl, sym, ◌∙◌, ap, subst, arith, inl, inr}
+use Rattle.std.proofs.Common.{◌≡◌, ℕ, zero, suc, ◌+◌, ◌<◌, ◌≤◌, true, false, [], ◌++◌, Option, Some, None, refl, sym, ◌∙◌, ap, subst, arith, inl, inr}
 use Rattle.std.specs.Prelude.{◌==◌, is_some}
 use Rattle.std.proofs.lemmas.Bool.{true≢false, cases_lt, cases_Bool}
 use Rattle.std.proofs.lemmas.Bool.Decides.{Decides-eqb, nat_tests}
@@ -16,10 +16,15 @@ use Rattle.nd_existence.specs.Intervals.{AreTimed}
 use Rattle.nd_existence.proofs.Walking.{walked}
 use Rattle.nd_existence.proofs.Timing.{comes_timed}
 
--- the nodes are numbered, and the settings of each leave some time
+-- the nodes are numbered, the settings of each leave some time, and none has the policy `speakers`
 pub record IsFine (log : Log) : Type 0 where
   pub numbered : Numbered log
   pub timed : (i : ℕ) → AreTimed (chronicle_of i log)
+  pub plain : (i : ℕ) (start : Start) → start_of i log ≡ Some start → start.policies.speakers ≡ false
+
+-- where nothing happened all is fine
+pub fine_nothing : IsFine []
+fine_nothing = record { numbered = tt; timed = λ i. tt; plain = λ i start is. absurd (let never : ⊥ = cc in never) }
 
 pub there_is : (o : Option Start) → is_some o ≡ true → (start : Start) × (o ≡ Some start)
 there_is None is = absurd (true≢false (sym is))
@@ -30,7 +35,11 @@ differs a b other = grind (arith, nat_tests, other)
 
 -- rows of a node leave the log fine where its chronicle is
 pub fine_with : (at : ℕ) (rows : Chronicle) (log : Log) → IsFine log → AreTimed (rows ++ chronicle_of at log) → IsFine (adding at rows log)
-fine_with at rows log fine own = record { numbered = numbered_with at rows log fine.numbered; timed = each }
+fine_with at rows log fine own = record {
+  numbered = numbered_with at rows log fine.numbered;
+  timed = each;
+  plain = λ i start is. fine.plain i start (sym (start_with i at rows log) ∙ is);
+}
   where
     each : (i : ℕ) → AreTimed (chronicle_of i (adding at rows log))
     each i = elim (cases_Bool (at == i)) [

@@ -1,5 +1,5 @@
 -- What a Router Advertisement does to a node: the one place where its tables meet.
-use Rattle.std.proofs.Common.{◌≡◌, ℕ, ◌+◌, ◌*◌, ◌<◌, ◌≤◌, Bool, true, false, List, [], ◌∷◌, ◌++◌, append-nil, Option, Some, None, refl, sym, ◌∙◌, ap, subst, cond, arith}
+use Rattle.std.proofs.Common.{◌≡◌, ℕ, ◌+◌, ◌*◌, ◌<◌, ◌≤◌, Bool, true, false, List, [], ◌∷◌, ◌++◌, append-nil, append_assoc, Option, Some, None, refl, sym, ◌∙◌, ap, subst, cond, arith}
 use Rattle.std.specs.Prelude.{◌==◌, ◌&&◌, ◌||◌, ◌↔◌, not, nat_lt, if◌then◌else◌}
 use Rattle.std.specs.Option.{option_map}
 use Rattle.std.specs.List.{flat_map}
@@ -25,6 +25,7 @@ use Rattle.nd_params.specs.ParamsKept as parameters
 use Rattle.nd_params.specs.Params.{redraws}
 use Rattle.nd_neighbour.specs.History as neighbour_rows
 use Rattle.nd_neighbour.specs.DueKept as neighbour_dates
+use Rattle.nd_neighbour.specs.Place.{pushing}
 use Rattle.nd_neighbour.specs.TableKept as cache
 use Rattle.nd_routers.specs.History as router_rows
 use Rattle.nd_routers.specs.History.{announcements}
@@ -44,7 +45,7 @@ use Rattle.nd_dns.specs.AnnouncedNames.{names_told}
 use Rattle.nd_dns.specs.AnnouncedServers.{servers_told}
 use Rattle.nd_nexthop.specs.History as redirect_rows
 use Rattle.nd_nexthop.specs.Choice as choice
-use Rattle.nd_chronicle.specs.Start.{Start, link_local_key}
+use Rattle.nd_chronicle.specs.Start.{Policies, Start, link_local_key}
 use Rattle.nd_chronicle.specs.Happening as happenings
 use Rattle.nd_chronicle.specs.Happening.{Chronicle, Happening, Passed, Heard, last_moment}
 use Rattle.nd_chronicle.specs.Histories.{parameter_history, neighbour_history, router_history, prefix_history, address_history, server_history, name_history, redirect_history, given_or_marked, then_neighbour}
@@ -54,12 +55,16 @@ use Rattle.nd_chronicle.specs.Generator.{stream_left}
 use Rattle.nd_chronicle.specs.OwnAddress.{story_of}
 use Rattle.nd_chronicle.specs.Due.{solicited_routers, assigned_at, max_rtr_solicitations, rtr_solicitation_interval}
 use Rattle.nd_chronicle.specs.Due as chronicle_due
-use Rattle.nd_chronicle.specs.Message.{releasing, leaving}
+use Rattle.nd_chronicle.specs.Message.{failing_for, releasing, leaving}
+use Rattle.nd_chronicle.specs.Packet.{with_pushed}
 use Rattle.nd_chronicle.specs.RouterAdvertisement.{redrawing, with_delay, forming, naming, then_option, then_options, times_out}
 use Rattle.nd_chronicle.specs.Told.{Told, items_at, items}
 use Rattle.nd_out.specs.declared.out.Out.{Out}
 use Rattle.nd_steps.specs.DefaultRouterList.{with_left, with_gone, left_told}
-use Rattle.nd_steps.specs.NeighbourCache.{PreparesFor, released_rows, HearsOf}
+use Rattle.nd_steps.specs.GivingWay.{HearsGiver, WayBy, told_of_way, with_router_gone, with_target_gone}
+use Rattle.nd_steps.specs.NeighbourCache.{PreparesFor, released_rows}
+use Rattle.nd_steps.proofs.Failing.{Fails, fails, with_failed}
+use Rattle.nd_steps.proofs.GivingWay.{EndsOnce, none_before_giver, stands_failed}
 use Rattle.nd_steps.specs.Parameters.{then_parameters, HearsParameters}
 use Rattle.nd_steps.specs.OwnAddresses.{Forms}
 use Rattle.nd_nexthop.specs.Memo.{is_asked}
@@ -76,7 +81,8 @@ use Rattle.nd_steps.specs.RouterTables.{next_advertisement, router_side}
 use Rattle.nd_steps.specs.declared.router_tables.RouterTables.{RouterTables}
 use Rattle.nd_steps.proofs.RouterSide.{side_stands}
 use Rattle.nd_steps.proofs.Quiet.{Quiet}
-use Rattle.nd_steps.proofs.Saying.{OneGoes, OverdueByTable, NoneOverdueStill, Placed, placed_by, none_before_said, releasing_is_quiet, releasing_items, released_kept}
+use Rattle.nd_steps.proofs.Saying.{OneGoes, Others, OverdueByTable, NoneOverdueStill, Placed, items_of_both, others_pushed, others_then, placed_by, pushed_history, releasing_is_quiet, releasing_items, released_kept}
+use Rattle.nd_node.proofs.Givers.{way_for}
 use Rattle.nd_steps.proofs.Telling.{Tells-then}
 use Rattle.nd_node.specs.declared.node.Node.{Node}
 use Rattle.nd_node.specs.NodeKept.{Stands, next_of}
@@ -362,8 +368,8 @@ pub record Takes {R A : Type 0} (stream : R → Stream) (old new : Node R A) (be
   pub router : new.router ≡ old.router
   pub solicitations : new.solicitations ≡ record old.solicitations { heard = not (ra.router_lifetime == 0) || old.solicitations.heard }
   pub between : List (ℕ × Out A)
-  pub ends : Bool
-  pub neighbours : HearsOf old.neighbours.limit now (given_or_marked (number_of source.0) (first_slla options) (Some true)) old.neighbours.entries new.neighbours.entries before between ends
+  pub gone : Option ℕ
+  pub neighbours : HearsGiver old.policies.speakers old.neighbours.limit now (given_or_marked (number_of source.0) (first_slla options) (Some true)) old.neighbours.entries new.neighbours.entries before between gone
   pub neighbour_limit : new.neighbours.limit ≡ old.neighbours.limit
   pub waiting : new.neighbours.waiting ≡ old.neighbours.waiting
   pub router_limit : new.routers.limit ≡ old.routers.limit
@@ -373,8 +379,8 @@ pub record Takes {R A : Type 0} (stream : R → Stream) (old new : Node R A) (be
   pub room : KeepsRoom old.choice new.choice
   pub left_list : Bool
   pub times_out : (history : List router_rows.RouterRow) → router_list.Stands old.routers history → left_list ≡ ((ra.router_lifetime == 0) && lifetimes.stands same (number_of source.0) (announcements history) now)
-  pub routers : (history : List router_rows.RouterRow) → router_list.Stands old.routers history → router_list.Stands new.routers (with_left now left_list (number_of source.0) (router_rows.Heard now (number_of source.0) ra.router_lifetime ra.preference ∷ history))
-  pub redirects : (history : List redirect_rows.RedirectRow) → choice.Stands old.choice history → choice.Stands new.choice (with_gone now left_list (number_of source.0) history)
+  pub routers : (history : List router_rows.RouterRow) → router_list.Stands old.routers history → router_list.Stands new.routers (with_left now left_list (number_of source.0) (with_router_gone now gone (router_rows.Heard now (number_of source.0) ra.router_lifetime ra.preference ∷ history)))
+  pub redirects : (history : List redirect_rows.RedirectRow) → choice.Stands old.choice history → choice.Stands new.choice (with_gone now left_list (number_of source.0) (with_target_gone now gone history))
   -- the choice behind the news of the sender, behind the routers, and behind the prefixes
   pub first : choice.Table
   pub second : choice.Table
@@ -404,6 +410,7 @@ pub record Laws : Type 0 where
   pub one_goes : OneGoes
   pub neighbours_overdue : OverdueByTable
   pub neighbours_still : NoneOverdueStill
+  pub once : EndsOnce
   pub addresses_overdue : AddressesOverdue
   pub addresses_still : AddressesStill
 
@@ -419,24 +426,47 @@ module _ {R A : Type 0} (stream : R → Stream) (old new : Node R A) (before aft
   abbrev c : Chronicle
   c = (now, Passed) ∷ below
 
-  meets : (made : List neighbour_rows.Row) × PreparesFor start.limits.neighbours now of_sender (neighbour_history c) made × cache.Stands new.neighbours.entries (then_neighbour now of_sender made)
-      × (told.happenings t.between ≡ told.happenings before ++ at_moment now (released_rows now of_sender (neighbour_history c)))
-  meets =
-      let h = t.neighbours.each (neighbour_history c) s.neighbours in
-      (h.0, subst (λ (n : ℕ). PreparesFor n now of_sender (neighbour_history c) h.0) s.limits.neighbours h.1, h.2, h.3)
+  abbrev history : List neighbour_rows.Row
+  history = neighbour_history c
 
-  place : Placed start c now of_sender meets.0
-  place = placed_by start c now of_sender meets.0 laws.one_goes (λ at. refl) meets.1
+  abbrev speakers : Bool
+  speakers = old.policies.speakers
+
+  meets : WayBy speakers start.limits.neighbours now of_sender history t.gone
+      × ((made : List neighbour_rows.Row) × PreparesFor start.limits.neighbours now of_sender (pushing now t.gone history) made × cache.Stands new.neighbours.entries (then_neighbour now of_sender made))
+      × (told.happenings t.between ≡ told.happenings before ++ at_moment now (told_of_way t.gone history ++ released_rows now of_sender (pushing now t.gone history)))
+  meets =
+      (subst (λ (n : ℕ). HearsGiver speakers n now of_sender old.neighbours.entries new.neighbours.entries before t.between t.gone) s.limits.neighbours t.neighbours).each history s.neighbours
+
+  abbrev made : List neighbour_rows.Row
+  made = meets.1.0
+
+  -- without the one that gives way
+  abbrev base : Chronicle
+  base = with_pushed now t.gone c
+
+  without : Others c base
+  without = others_pushed now t.gone c (λ at. refl)
+
+  place : Placed start base now of_sender made
+  place = placed_by start base now of_sender made laws.one_goes without.last
+      (subst (λ (l : List neighbour_rows.Row). PreparesFor start.limits.neighbours now of_sender l made) (sym (pushed_history now t.gone c)) meets.1.1)
 
   abbrev placed : Chronicle
   placed = place.placed
+
+  others : Others c placed
+  others = others_then without place.others
 
   -- the stages of what is added
   abbrev begun : Chronicle
   begun = then_parameters start now source destination ra options placed
 
+  abbrev failed : Chronicle
+  failed = failing_for now t.gone history begun
+
   abbrev released : Chronicle
-  released = releasing now of_sender (neighbour_history placed) begun
+  released = releasing now of_sender (neighbour_history placed) failed
 
   abbrev leaves : Bool
   leaves = times_out start now placed source ra
@@ -450,8 +480,11 @@ module _ {R A : Type 0} (stream : R → Stream) (old new : Node R A) (before aft
   message_adds : Begun start now source destination ra options placed begun
   message_adds = begun_by start now source destination ra options (redraws (base_reachable_time placed) ra.reachable_time) placed
 
-  frames_add : Quiet begun released
-  frames_add = releasing_is_quiet now of_sender (neighbour_history placed) begun message_adds.last
+  fails_add : Fails now t.gone history begun failed
+  fails_add = fails now t.gone history begun message_adds.last
+
+  frames_add : Quiet failed released
+  frames_add = releasing_is_quiet now of_sender (neighbour_history placed) failed fails_add.last
 
   leaving_adds : Leaves now source_key leaves released left
   leaving_adds = leaves_by now source_key leaves released
@@ -460,32 +493,32 @@ module _ {R A : Type 0} (stream : R → Stream) (old new : Node R A) (before aft
   options_add = options_beside start.transmits now laws.addresses_still start (holds multicast_prefix destination.0) (prefixes_in options) left
 
   released_last : (at : ℕ) → last_moment at released ≡ now
-  released_last at = frames_add.last at ∙ message_adds.last at
+  released_last at = frames_add.last at ∙ fails_add.last at
 
   all_last : (at : ℕ) → last_moment at all ≡ now
   all_last = options_add.last (leaving_adds.last released_last)
 
   leaves_is : t.left_list ≡ leaves
-  leaves_is = t.times_out (router_history c) s.routers ∙ ap (λ (h : List router_rows.RouterRow). (ra.router_lifetime == 0) && lifetimes.stands same source_key (announcements h) now) (sym place.others.routers)
+  leaves_is = t.times_out (router_history c) s.routers ∙ ap (λ (h : List router_rows.RouterRow). (ra.router_lifetime == 0) && lifetimes.stands same source_key (announcements h) now) (sym others.routers)
 
   -- ---- the parameters and the generator
 
   params_placed : parameters.Stands old.params (parameter_history placed)
-  params_placed = subst (λ (h : List parameter_rows.Row). parameters.Stands old.params h) (sym place.others.parameters) s.params
+  params_placed = subst (λ (h : List parameter_rows.Row). parameters.Stands old.params h) (sym others.parameters) s.params
 
   generator_placed : stream old.generator ≡ stream_left start placed
-  generator_placed = s.generator ∙ sym (place.others.stream start)
+  generator_placed = s.generator ∙ sym (others.stream start)
 
   params_begun : parameters.Stands new.params (parameter_history begun)
   params_begun = t.params.params start placed source destination params_placed generator_placed
 
   parameters_are : parameter_history all ≡ parameter_history begun
-  parameters_are = options_add.parameters ∙ (leaving_adds.parameters ∙ frames_add.parameters)
+  parameters_are = options_add.parameters ∙ (leaving_adds.parameters ∙ (frames_add.parameters ∙ fails_add.parameters))
 
   -- ---- the addresses
 
   addresses_are : address_history left ≡ address_history c
-  addresses_are = leaving_adds.addresses ∙ (frames_add.addresses ∙ (message_adds.addresses ∙ place.others.addresses))
+  addresses_are = leaving_adds.addresses ∙ (frames_add.addresses ∙ (fails_add.addresses ∙ (message_adds.addresses ∙ others.addresses)))
 
   forms_left : Forms start old.addresses t.left t.retrans left
   forms_left = record {
@@ -493,8 +526,8 @@ module _ {R A : Type 0} (stream : R → Stream) (old new : Node R A) (before aft
     mac = s.address_mac;
     limit = s.limits.addresses;
     transmits = s.address_transmits;
-    generator = t.params.generator start placed source destination params_placed generator_placed ∙ sym (leaving_adds.stream start ∙ frames_add.stream start);
-    in_force = t.in_force ∙ (params_begun.retrans_timer ∙ ap (λ (h : List parameter_rows.Row). parameter_rows.retrans_of h) (sym (leaving_adds.parameters ∙ frames_add.parameters)));
+    generator = t.params.generator start placed source destination params_placed generator_placed ∙ sym (leaving_adds.stream start ∙ (frames_add.stream start ∙ fails_add.stream start));
+    in_force = t.in_force ∙ (params_begun.retrans_timer ∙ ap (λ (h : List parameter_rows.Row). parameter_rows.retrans_of h) (sym (leaving_adds.parameters ∙ (frames_add.parameters ∙ fails_add.parameters))));
   }
 
   forms_all : Forms start new.addresses (stream new.generator) t.retrans all
@@ -502,25 +535,28 @@ module _ {R A : Type 0} (stream : R → Stream) (old new : Node R A) (before aft
 
   -- ---- the other tables
 
-  routers_are : router_history all ≡ with_left now t.left_list source_key (router_rows.Heard now source_key ra.router_lifetime ra.preference ∷ router_history c)
+  routers_are : router_history all ≡ with_left now t.left_list source_key (with_router_gone now t.gone (router_rows.Heard now source_key ra.router_lifetime ra.preference ∷ router_history c))
   routers_are = options_add.routers ∙ (leaving_adds.routers ∙ (ap (λ (x : Bool). with_left now x source_key (router_history released)) (sym leaves_is)
-      ∙ ap (λ (h : List router_rows.RouterRow). with_left now t.left_list source_key h) (frames_add.routers ∙ (message_adds.routers ∙ ap (λ (h : List router_rows.RouterRow). router_rows.Heard now source_key ra.router_lifetime ra.preference ∷ h) place.others.routers))))
+      ∙ ap (λ (h : List router_rows.RouterRow). with_left now t.left_list source_key h) (frames_add.routers ∙ (fails_add.routers
+      ∙ ap (λ (h : List router_rows.RouterRow). with_router_gone now t.gone h) (message_adds.routers ∙ ap (λ (h : List router_rows.RouterRow). router_rows.Heard now source_key ra.router_lifetime ra.preference ∷ h) others.routers)))))
 
-  redirects_are : redirect_history all ≡ with_gone now t.left_list source_key (redirect_history c)
+  redirects_are : redirect_history all ≡ with_gone now t.left_list source_key (with_target_gone now t.gone (redirect_history c))
   redirects_are = options_add.redirects ∙ (leaving_adds.redirects ∙ (ap (λ (x : Bool). with_gone now x source_key (redirect_history released)) (sym leaves_is)
-      ∙ ap (λ (h : List redirect_rows.RedirectRow). with_gone now t.left_list source_key h) (frames_add.redirects ∙ (message_adds.redirects ∙ place.others.redirects))))
+      ∙ ap (λ (h : List redirect_rows.RedirectRow). with_gone now t.left_list source_key h) (frames_add.redirects ∙ (fails_add.redirects
+      ∙ ap (λ (h : List redirect_rows.RedirectRow). with_target_gone now t.gone h) (message_adds.redirects ∙ others.redirects)))))
 
-  neighbours_are : neighbour_history all ≡ then_neighbour now of_sender meets.0
-  neighbours_are = options_add.neighbours ∙ (leaving_adds.neighbours ∙ (frames_add.neighbours ∙ (message_adds.neighbours ∙ ap (λ (h : List neighbour_rows.Row). then_neighbour now of_sender h) place.history)))
+  neighbours_are : neighbour_history all ≡ with_failed now t.gone (then_neighbour now of_sender made)
+  neighbours_are = options_add.neighbours ∙ (leaving_adds.neighbours ∙ (frames_add.neighbours ∙ (fails_add.neighbours
+      ∙ ap (λ (h : List neighbour_rows.Row). with_failed now t.gone h) (message_adds.neighbours ∙ ap (λ (h : List neighbour_rows.Row). then_neighbour now of_sender h) place.history))))
 
   prefixes_are : prefix_history all ≡ then_announced now (on_link.prefixes_in options) (prefix_history c)
-  prefixes_are = options_add.prefixes ∙ (leaving_adds.prefixes ∙ (frames_add.prefixes ∙ (message_adds.prefixes ∙ ap (λ (h : List (lifetimes.Row PrefixValue)). then_announced now (on_link.prefixes_in options) h) place.others.prefixes)))
+  prefixes_are = options_add.prefixes ∙ (leaving_adds.prefixes ∙ (frames_add.prefixes ∙ (fails_add.prefixes ∙ (message_adds.prefixes ∙ ap (λ (h : List (lifetimes.Row PrefixValue)). then_announced now (on_link.prefixes_in options) h) others.prefixes))))
 
   servers_are : server_history all ≡ then_announced now (servers_told options) (server_history c)
-  servers_are = options_add.servers ∙ (leaving_adds.servers ∙ (frames_add.servers ∙ (message_adds.servers ∙ ap (λ (h : List (lifetimes.Row Addr)). then_announced now (servers_told options) h) place.others.servers)))
+  servers_are = options_add.servers ∙ (leaving_adds.servers ∙ (frames_add.servers ∙ (fails_add.servers ∙ (message_adds.servers ∙ ap (λ (h : List (lifetimes.Row Addr)). then_announced now (servers_told options) h) others.servers))))
 
   names_are : name_history all ≡ then_announced now (names_told options) (name_history c)
-  names_are = options_add.names ∙ (leaving_adds.names ∙ (frames_add.names ∙ (message_adds.names ∙ ap (λ (h : List (lifetimes.Row (List ℕ))). then_announced now (names_told options) h) place.others.names)))
+  names_are = options_add.names ∙ (leaving_adds.names ∙ (frames_add.names ∙ (fails_add.names ∙ (message_adds.names ∙ ap (λ (h : List (lifetimes.Row (List ℕ))). then_announced now (names_told options) h) others.names))))
 
   prefixes_came : lifetimes.last_moment (prefix_history c) ≤ now
   prefixes_came = omega (arith, s.prefixes_by_then, le)
@@ -536,13 +572,13 @@ module _ {R A : Type 0} (stream : R → Stream) (old new : Node R A) (before aft
   heard_is : chronicle_due.heard_router (parameter_history all) ≡ (not (ra.router_lifetime == 0) || chronicle_due.heard_router (parameter_history c))
   heard_is = ap (λ (h : List parameter_rows.Row). chronicle_due.heard_router h) parameters_are
       ∙ (heard_router_by start now ra.reachable_time (redraws (base_reachable_time placed) ra.reachable_time) source destination ra options placed
-      ∙ ap (λ (h : List parameter_rows.Row). not (ra.router_lifetime == 0) || chronicle_due.heard_router h) place.others.parameters)
+      ∙ ap (λ (h : List parameter_rows.Row). not (ra.router_lifetime == 0) || chronicle_due.heard_router h) others.parameters)
 
   solicitations_stand : soliciting.Stands start new.solicitations all
   solicitations_stand = record {
     assigned = ap (λ (x : Solicitations). x.assigned) t.solicitations ∙ (s.solicitations.assigned
         ∙ sym (options_add.assigned (link_local_key start) ∙ ap (λ (h : List address_rows.Row). assigned_at (link_local_key start) h) addresses_are));
-    sent = ap (λ (x : Solicitations). x.sent) t.solicitations ∙ (s.solicitations.sent ∙ sym (options_add.solicited ∙ (leaving_adds.solicited ∙ (frames_add.solicited ∙ (message_adds.solicited ∙ place.others.solicited)))));
+    sent = ap (λ (x : Solicitations). x.sent) t.solicitations ∙ (s.solicitations.sent ∙ sym (options_add.solicited ∙ (leaving_adds.solicited ∙ (frames_add.solicited ∙ (fails_add.solicited ∙ (message_adds.solicited ∙ others.solicited))))));
     heard = ap (λ (x : Solicitations). x.heard) t.solicitations ∙ (ap (λ (x : Bool). not (ra.router_lifetime == 0) || x) s.solicitations.heard ∙ sym heard_is);
   }
 
@@ -550,7 +586,7 @@ module _ {R A : Type 0} (stream : R → Stream) (old new : Node R A) (before aft
 
   router_stands : router_only.Stands start new.router all
   router_stands = subst (λ (tables : RouterTables A). router_only.Stands start tables all) (sym t.router) (side_stands start old.router c all
-      (options_add.router start ∙ (leaving_adds.router start ∙ (frames_add.router start ∙ (message_adds.router start ∙ place.others.router start)))) (side_stands start old.router below c refl s.router))
+      (options_add.router start ∙ (leaving_adds.router start ∙ (frames_add.router start ∙ (fails_add.router start ∙ (message_adds.router start ∙ others.router start))))) (side_stands start old.router below c refl s.router))
 
   -- ---- nothing is due in the past
 
@@ -564,7 +600,7 @@ module _ {R A : Type 0} (stream : R → Stream) (old new : Node R A) (before aft
 
   neighbours_in_time : neighbour_dates.NoneBefore new.neighbours.entries now
   neighbours_in_time =
-      none_before_said laws.neighbours_overdue laws.neighbours_still laws.one_goes start.limits.neighbours now of_sender old.neighbours.entries new.neighbours.entries (neighbour_history c) meets.0 s.neighbours meets.1 meets.2
+      none_before_giver laws.neighbours_overdue laws.neighbours_still laws.one_goes start.limits.neighbours now of_sender t.gone old.neighbours.entries new.neighbours.entries history made s.neighbours meets.1.1 meets.1.2
       (neighbours_before old now not_past)
 
   draws_in_time : now ≤ new.params.drawn_at + redraw_after
@@ -586,17 +622,23 @@ module _ {R A : Type 0} (stream : R → Stream) (old new : Node R A) (before aft
   -- ---- what is told
 
   items_begun : items begun ≡ items ((now, Heard source destination (advertised ra options)) ∷ c)
-  items_begun = message_adds.told ∙ ap (λ (x : List (ℕ × Told)). x ++ items_at (now, Heard source destination (advertised ra options))) place.others.told
+  items_begun = message_adds.told ∙ ap (λ (x : List (ℕ × Told)). x ++ items_at (now, Heard source destination (advertised ra options))) others.told
 
   tells_released : Tells ((now, Heard source destination (advertised ra options)) ∷ c) released before t.between
-  tells_released = record {
-    newer = at_moment now (released_rows now of_sender (neighbour_history c));
-    told = releasing_items now of_sender (neighbour_history placed) begun
-        ∙ (ap (λ (x : List (ℕ × Told)). x ++ flat_map items_at (at_moment now (released_rows now of_sender (neighbour_history placed)))) items_begun
-        ∙ ap (λ (f : List Happening). items ((now, Heard source destination (advertised ra options)) ∷ c) ++ flat_map items_at (at_moment now f))
-        (ap (λ (h : List neighbour_rows.Row). released_rows now of_sender h) place.history ∙ released_kept start.limits.neighbours now of_sender (neighbour_history c) meets.0 meets.1));
-    outs = meets.3;
-  }
+  tells_released =
+      let heard : Chronicle = (now, Heard source destination (advertised ra options)) ∷ c in
+      let way : List Happening = told_of_way t.gone history in
+      let rest : List Happening = released_rows now of_sender (neighbour_history placed) in
+      let kept : rest ≡ released_rows now of_sender (pushing now t.gone history) =
+      ap (λ (h : List neighbour_rows.Row). released_rows now of_sender h) place.history ∙ released_kept start.limits.neighbours now of_sender (pushing now t.gone history) made meets.1.1 in
+      record {
+        newer = at_moment now (way ++ rest);
+        told = releasing_items now of_sender (neighbour_history placed) failed
+            ∙ (ap (λ (x : List (ℕ × Told)). x ++ flat_map items_at (at_moment now rest)) (fails_add.told ∙ ap (λ (x : List (ℕ × Told)). x ++ flat_map items_at (at_moment now way)) items_begun)
+            ∙ (append_assoc (items heard) (flat_map items_at (at_moment now way)) (flat_map items_at (at_moment now rest))
+            ∙ ap (λ (x : List (ℕ × Told)). items heard ++ x) (sym (items_of_both now way rest))));
+        outs = meets.2 ∙ ap (λ (l : List Happening). told.happenings before ++ at_moment now (way ++ l)) (sym kept);
+      }
 
   tells_left : Tells released all t.between after
   tells_left = record {
@@ -609,7 +651,7 @@ module _ {R A : Type 0} (stream : R → Stream) (old new : Node R A) (before aft
 
   recalls : Recalls now new
   recalls =
-      recalls_refreshed old new old.last now (omega (arith, s.last, le)) s.memo t.first t.second t.third t.own t.may t.listed t.linked t.redirects_third t.redirects_then t.hops t.until (neighbour_history c) s.neighbours
+      recalls_refreshed old new old.last now (omega (arith, s.last, le)) s.memo t.first t.second t.third t.own t.may t.listed t.linked t.redirects_third t.redirects_then t.hops t.until history s.neighbours
       (λ mine. own_by old.addresses.addresses new.addresses.addresses (address_history c) (address_history all) s.addresses forms_all.addresses
       (own_refreshed start now (holds multicast_prefix destination.0) c left old.addresses.mac old.addresses.addresses (prefixes_in options) s.address_mac
       (λ key. is_known_by key old.addresses.addresses (address_history c) s.addresses) addresses_are (sym t.own_is ∙ mine)))
@@ -639,7 +681,8 @@ module _ {R A : Type 0} (stream : R → Stream) (old new : Node R A) (before aft
     routers = subst (λ (h : List router_rows.RouterRow). router_list.Stands new.routers h) (sym routers_are) (t.routers (router_history c) s.routers);
     prefixes = subst (λ (h : List (lifetimes.Row PrefixValue)). lists.Stands same_prefix new.prefixes.entries h) (sym prefixes_are) (t.prefixes (prefix_history c) prefixes_came s.prefixes);
     addresses = forms_all.addresses;
-    neighbours = subst (λ (h : List neighbour_rows.Row). cache.Stands new.neighbours.entries h) (sym neighbours_are) meets.2;
+    neighbours = subst (λ (h : List neighbour_rows.Row). cache.Stands new.neighbours.entries h) (sym neighbours_are)
+        (stands_failed laws.once laws.one_goes speakers start.limits.neighbours now of_sender t.gone new.neighbours.entries history made meets.0 meets.1.1 meets.1.2);
     dns = subst (λ (h : List (lifetimes.Row Addr)). known.Stands new.dns h (name_history all)) (sym servers_are)
         (subst (λ (h : List (lifetimes.Row (List ℕ))). known.Stands new.dns (then_announced now (servers_told options) (server_history c)) h) (sym names_are) (t.dns (server_history c) (name_history c) servers_came names_came s.dns));
     redirects = subst (λ (h : List redirect_rows.RedirectRow). choice.Stands new.choice h) (sym redirects_are) (t.redirects (redirect_history c) s.redirects);
@@ -656,8 +699,9 @@ module _ {R A : Type 0} (stream : R → Stream) (old new : Node R A) (before aft
 
   advertises : Advertises stream new before after now source destination ra options start c
   advertises = record {
+    gone = t.gone;
     placed = placed;
-    place = place.place;
+    room = record { way = way_for start c now speakers of_sender t.gone (ap (λ (p : Policies). p.speakers) s.policies) meets.0; place = place.place };
     stands = stands_all;
     tells = Tells-then ((now, Heard source destination (advertised ra options)) ∷ c) released all before t.between after tells_released tells_left;
   }

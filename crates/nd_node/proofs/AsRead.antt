@@ -32,7 +32,7 @@ use Rattle.nd_chronicle.specs.InForce.{base_reachable_time}
 use Rattle.nd_chronicle.specs.Generator.{stream_left}
 use Rattle.nd_chronicle.specs.RouterAdvertisement.{redrawing, then_options}
 use Rattle.nd_chronicle.specs.Reading.{read_options}
-use Rattle.nd_chronicle.proofs.Reading.{links_as_said, mtu_as_said, names_as_said, prefixes_as_said, servers_as_said}
+use Rattle.nd_chronicle.proofs.Reading.{links_as_said, names_as_said, prefixes_as_said, servers_as_said}
 use Rattle.nd_steps.specs.Parameters.{HearsParameters}
 use Rattle.nd_steps.specs.OwnAddresses.{Forms}
 use Rattle.nd_steps.specs.DestinationCache.{forms_none}

@@ -24,6 +24,7 @@ use Rattle.nd_chronicle.specs.LinkLayerAddress.{first_slla}
 use Rattle.nd_chronicle.specs.OwnAddress.{is_assigned, is_tentative}
 use Rattle.nd_chronicle.specs.NeighborSolicitation.{is_router, then_tried, Answers}
 use Rattle.nd_chronicle.specs.Full.{Placed}
+use Rattle.nd_chronicle.specs.Message.{makes_way, said}
 use Rattle.nd_chronicle.specs.Event.{VerdictAdds}
 use Rattle.nd_chronicle.specs.Hearing.{hears}
 use Rattle.nd_chronicle.specs.Told.{items_at, items}
@@ -101,8 +102,11 @@ adds_by start now source destination ns options c d from is = (
   subst (λ (b : Bool). MatchBool b (d ≡ then_tried start now ns.target ((now, Heard source destination (solicitation ns options)) ∷ c)) (Answers start now source destination ns.target (solicitation ns options) c d)) (sym from) is,
 )
   where
-    placed_alone : Placed start c now (if bytes_eq source.0 unspecified_address then None else Some (number_of source.0, true)) true
-    placed_alone = subst (λ (b : Bool). Placed start c now (if b then None else Some (number_of source.0, true)) true) (sym from) refl
+    way : Bool
+    way = makes_way start (said c source (solicitation ns options))
+
+    placed_alone : Placed start c now way (if bytes_eq source.0 unspecified_address then None else Some (number_of source.0, true)) true
+    placed_alone = subst (λ (b : Bool). Placed start c now way (if b then None else Some (number_of source.0, true)) true) (sym from) refl
 
 -- a row that isn't told, and two that are
 two : {A : Type 0} (before first second : List A) → ((before ++ []) ++ first) ++ second ≡ before ++ (first ++ (second ++ []))

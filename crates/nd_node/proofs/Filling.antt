@@ -24,6 +24,7 @@ use Rattle.nd_chronicle.specs.Start.{Start}
 use Rattle.nd_chronicle.specs.Happening as happenings
 use Rattle.nd_chronicle.specs.Happening.{Chronicle, last_moment}
 use Rattle.nd_chronicle.specs.Histories.{router_history, prefix_history, server_history, name_history}
+use Rattle.nd_chronicle.specs.Message.{makes_way, said}
 use Rattle.nd_chronicle.specs.Full.{first_full, needs, Placed, AdvertisementFills}
 use Rattle.nd_node.specs.declared.node.Node.{Node}
 use Rattle.nd_node.specs.NodeKept.{Stands}
@@ -130,7 +131,7 @@ module _ {R A : Type 0} (stream : R → Stream) (node : Node R A) (now : ℕ) (s
     first_by : (r r' p p' a v v' n n' : Bool) → r ≡ r' → p ≡ p' → v ≡ v' → n ≡ n' → first_full place r p a v n ≡ first_full place r' p' a v' n'
     first_by r r' p p' a v v' n n' er ep ev en = rw (er, ep, ev, en) refl
 
-    pub advertisement_fills : Placed start c now (needs c source message message.body) place → AdvertisementFills start c now source ra message limit
+    pub advertisement_fills : Placed start c now (makes_way start (said c source message)) (needs c source message message.body) place → AdvertisementFills start c now source ra message limit
     advertisement_fills placed = record {
       neighbours = place;
       placed = placed;

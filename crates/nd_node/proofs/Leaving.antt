@@ -1,5 +1,5 @@
 -- What leaves the paths of a node leaves their leases.
-use Rattle.std.proofs.Common.{◌≡◌, ◌<◌, ◌≤◌, ◌+◌, ℕ, Bool, true, false, List, Option, Some, None, refl, sym, ◌∙◌, ap, subst, arith, inl, inr, ⊎_elim}
+use Rattle.std.proofs.Common.{◌≡◌, ◌<◌, ◌≤◌, ◌+◌, ℕ, Bool, true, false, List, Option, Some, None, refl, sym, ◌∙◌, ap, subst, arith, inl, inr}
 use Rattle.std.specs.Prelude.{◌&&◌, ◌-◌, ◌⊎◌, if◌then◌else◌, is_some, nat_lt}
 use Rattle.std.specs.Option.{option_map}
 use Rattle.std.proofs.lemmas.Bool.Decides.{nat_tests}
@@ -22,7 +22,7 @@ use Rattle.nd_neighbour.specs.DueKept.{date_of, next_in}
 use Rattle.nd_neighbour.specs.EntryKept.{Known, NeighbourEntry, Resolving, Stage}
 use Rattle.nd_neighbour.specs.declared.unreachability_detection.Probing.{Probing}
 use Rattle.nd_neighbour.specs.LeaseKept.{LeavesLeases, leased_to, leased_until, mac_at}
-use Rattle.nd_neighbour.specs.Shown.{Seen, is_leased}
+use Rattle.nd_neighbour.specs.Shown.{is_leased}
 use Rattle.nd_neighbour.specs.ShownKept.{left_in, seen, state_in}
 use Rattle.nd_neighbour.specs.TableKept.{Table, address, entry_in}
 use Rattle.nd_neighbour.proofs.Leases.{in_lease, leased_fresh, not_after}
@@ -35,7 +35,7 @@ use Rattle.nd_nexthop.specs.NextHop.{NextHop, direct, hop, no_route, via}
 use Rattle.nd_chronicle.specs.Happening.{Chronicle, last_moment}
 use Rattle.nd_chronicle.specs.Start.{Start}
 use Rattle.nd_steps.specs.DestinationCache.{linked_by, own_in}
-use Rattle.nd_steps.specs.NextHop.{candidates_in, is_resolved}
+use Rattle.nd_steps.specs.NextHop.{is_resolved}
 use Rattle.nd_steps.specs.RouterTables.{next_advertisement}
 use Rattle.nd_steps.specs.SolicitRouters.{next_solicitation}
 use Rattle.nd_steps.proofs.Remembering.{candidates_same, open_before}

@@ -13,6 +13,7 @@ pub mod Standing
 pub mod Packets
 pub mod NextHops
 pub mod Detections
+pub mod Givers
 pub mod Asking
 pub mod Advertisements
 pub mod PlainMessages

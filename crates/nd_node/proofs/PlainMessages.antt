@@ -1,5 +1,5 @@
 -- A message that says something of a neighbour, and perhaps redirects a destination, and the chronicle that a node stands for.
-use Rattle.std.proofs.Common.{◌≡◌, ℕ, ◌<◌, ◌≤◌, Bool, true, false, List, [], ◌∷◌, ◌++◌, append-nil, Option, Some, None, refl, sym, ◌∙◌, ap, subst, arith}
+use Rattle.std.proofs.Common.{◌≡◌, ℕ, ◌<◌, ◌≤◌, Bool, true, false, List, [], ◌∷◌, ◌++◌, append-nil, Option, Some, None, refl, sym, ◌∙◌, ap, subst}
 use Rattle.std.specs.Prelude.{◌&&◌, MatchBool, if◌then◌else◌}
 use Rattle.std.specs.Option.{option_map}
 use Rattle.rand_core.specs.Stream.{Stream, next_u32}
@@ -18,58 +18,43 @@ use Rattle.nd_decode.specs.declared.redirect.Redirect.{Redirect}
 use Rattle.nd_neighbour.specs.declared.news.News.{News}
 use Rattle.nd_neighbour.specs.declared.news.Times.{Times}
 use Rattle.nd_neighbour.specs.History as rows
-use Rattle.nd_neighbour.specs.TableKept as neighbours
-use Rattle.nd_params.specs.ReachableTime.{reachable_of}
-use Rattle.nd_routers.specs.RoutersKept as routers
-use Rattle.nd_nexthop.specs.History as redirect_rows
-use Rattle.nd_nexthop.specs.Choice as choice
 use Rattle.nd_forwarding.specs.History as route_rows
-use Rattle.nd_slaac.specs.TableKept as addresses
 use Rattle.nd_chronicle.specs.Start.{Start}
 use Rattle.nd_chronicle.specs.Happening.{Chronicle, Drew, ForAnswer, Heard, Passed, Planned, Refused, Full, Limit, Neighbours, last_moment}
-use Rattle.nd_chronicle.specs.Histories.{advertising_history, neighbour_history, router_history, redirect_history, said_of_neighbour, then_neighbour, then_redirect}
-use Rattle.nd_chronicle.specs.Due.{assigned_at}
+use Rattle.nd_chronicle.specs.Histories.{advertising_history, neighbour_history, router_history, said_of_neighbour}
 use Rattle.nd_chronicle.specs.Full.{entering, needs, Placed, MessageFills, Fills}
 use Rattle.nd_chronicle.specs.Packet.{no_place}
-use Rattle.nd_chronicle.specs.Message.{said, PlaceFor, releasing}
+use Rattle.nd_chronicle.specs.Message.{said, RoomFor, failing_for, makes_way, releasing}
 use Rattle.nd_chronicle.specs.Event.{MessageAdds}
 use Rattle.nd_chronicle.specs.Advertising.{planning, wants_answer}
 use Rattle.nd_chronicle.specs.Generator.{answer_delay_drawn, stream_left}
 use Rattle.nd_chronicle.specs.NeighborSolicitation.{is_router}
-use Rattle.nd_chronicle.specs.Told.{items_at, items}
+use Rattle.nd_chronicle.specs.Told.{items}
 use Rattle.nd_out.specs.declared.out.Out.{Out}
-use Rattle.nd_out.specs.Out.{happening}
-use Rattle.nd_steps.specs.NeighbourCache.{said_by, HearsOf, released_rows}
+use Rattle.nd_steps.specs.NeighbourCache.{said_by}
 use Rattle.nd_steps.specs.RouterTables.{Plans, plans}
 use Rattle.nd_steps.specs.declared.router_tables.RouterTables.{RouterTables}
-use Rattle.nd_steps.specs.Outputs.{at_moment, happenings, Tells}
-use Rattle.nd_steps.proofs.Quiet.{Quiet}
-use Rattle.nd_steps.proofs.Saying.{NoneOverdueStill, OneGoes, Others, OverdueByTable, none_before_said, placed_by, released_kept, releasing_is_quiet, releasing_items}
-use Rattle.nd_steps.proofs.Telling.{one, Tells-then, one_more}
+use Rattle.nd_steps.specs.Outputs.{Tells}
 use Rattle.nd_chronicle.specs.Answer as answers
 use Rattle.nd_chronicle.proofs.Answering.{message_done}
 use Rattle.nd_node.specs.declared.node.Node.{Node}
 use Rattle.nd_node.specs.Hearing.{AddsMessage}
 use Rattle.nd_node.specs.NodeKept.{Stands, next_of}
 use Rattle.nd_node.specs.Frame.{AddsAlone}
-use Rattle.nd_node.proofs.Quiet.{stands_quiet}
+use Rattle.nd_node.proofs.Givers.{TakesGiver, message_of, said_is}
 use Rattle.nd_node.proofs.RouterRows.{DrawsDelay, PlansAnswer, aside, aside_same, aside_then, stands_advertising, stands_aside}
-use Rattle.nd_node.proofs.Recalling.{Recalls}
-use Rattle.nd_node.proofs.Standing.{Apart, Still, apart_then, stands_at}
+use Rattle.nd_node.proofs.Standing.{Apart}
 use Rattle.nd_chronicle.proofs.Events.{one_placed}
-use Rattle.nd_node.proofs.Turns.{addresses_before, advertisement_before, neighbours_before, routers_before}
-
--- a message
-abbrev pub message_of : Body → List Said → Parts
-message_of body options = record { body = body; options = options }
+use Rattle.nd_node.proofs.Turns.{advertisement_before}
 
 -- a message that wants place for a neighbour alone, concerns the neighbours and the redirects alone, and has something happen behind it
 pub record IsPlain (now : ℕ) (source destination : Addr) (body : Body) (options : List Said) (behind : Start → Chronicle → Chronicle → Chronicle) : Type 0 where
   pub needs_is : (c : Chronicle) → needs c source (message_of body options) body ≡ entering (said c source (message_of body options))
   pub fills : (start : Start) (c : Chronicle) (limit : Option Limit) → MessageFills start c now source (message_of body options) limit → Fills start c now source (message_of body options) body limit
-  pub adds : (start : Start) (c placed : Chronicle) → PlaceFor start c now (said c source (message_of body options)) placed
+  pub adds : (start : Start) (c : Chronicle) (gone : Option ℕ) (placed : Chronicle) → RoomFor start c now (said c source (message_of body options)) gone placed
       → MessageAdds start now source destination (message_of body options) body c
-      (behind start c (releasing now (said c source (message_of body options)) (neighbour_history placed) ((now, Heard source destination (message_of body options)) ∷ placed)))
+      (behind start c (releasing now (said c source (message_of body options)) (neighbour_history placed)
+      (failing_for now gone (neighbour_history c) ((now, Heard source destination (message_of body options)) ∷ placed))))
   pub apart : (c : Chronicle) → Apart c ((now, Heard source destination (message_of body options)) ∷ c)
   pub routers : (c : Chronicle) → router_history ((now, Heard source destination (message_of body options)) ∷ c) ≡ router_history c
 
@@ -85,7 +70,7 @@ pub plain_redirect : (now : ℕ) (source destination : Addr) (r : Redirect) (opt
 plain_redirect now source destination r options = record {
   needs_is = λ c. refl;
   fills = λ start c limit f. f;
-  adds = λ start c placed place. (placed, place, refl);
+  adds = λ start c gone placed room. (gone, placed, room, refl);
   apart = λ c. record { parameters = refl; prefixes = refl; servers = refl; names = refl; assigned = λ k. refl; solicited = refl; router = λ start'. refl; stream = λ start. refl };
   routers = λ c. refl;
 }
@@ -94,31 +79,21 @@ pub plain_solicitation : (now : ℕ) (source destination : Addr) (options : List
 plain_solicitation now source destination options = record {
   needs_is = λ c. refl;
   fills = λ start c limit f. f;
-  adds = λ start c placed place. (placed, place, refl);
+  adds = λ start c gone placed room. (gone, placed, room, refl);
   apart = λ c. record { parameters = refl; prefixes = refl; servers = refl; names = refl; assigned = λ k. refl; solicited = refl; router = λ start'. refl; stream = λ start. refl };
   routers = λ c. refl;
 }
 
 -- time that passed makes no place
-placed_later : (start : Start) (c : Chronicle) (now : ℕ) (o : Option (ℕ × rows.RowKind)) (place : Bool) → Placed start c now (entering o) place → Placed start ((now, Passed) ∷ c) now (entering o) place
-placed_later start c now None place h = h
-placed_later start c now (Some said') true h = h
-placed_later start c now (Some said') false h = h
+pub passed_placed : (start : Start) (c : Chronicle) (now : ℕ) (way : Bool) (need : Option (ℕ × Bool)) (place : Bool) → Placed start c now way need place → Placed start ((now, Passed) ∷ c) now way need place
+passed_placed start c now way None place h = h
+passed_placed start c now true (Some need) true h = h
+passed_placed start c now true (Some need) false h = h
+passed_placed start c now false (Some need) true h = h
+passed_placed start c now false (Some need) false h = h
 
-apart_passed : (now : ℕ) (c : Chronicle) → Apart c ((now, Passed) ∷ c)
-apart_passed now c = record { parameters = refl; prefixes = refl; servers = refl; names = refl; assigned = λ k. refl; solicited = refl; router = λ start'. refl; stream = λ start. refl }
-
-apart_others : {c d : Chronicle} → Others c d → Apart c d
-apart_others o = record {
-  parameters = o.parameters;
-  prefixes = o.prefixes;
-  servers = o.servers;
-  names = o.names;
-  assigned = λ key. ap (λ l. assigned_at key l) o.addresses;
-  solicited = o.solicited;
-  router = o.router;
-  stream = o.stream;
-}
+pub placed_later : (start : Start) (c : Chronicle) (now : ℕ) (o : Option (ℕ × rows.RowKind)) (place : Bool) → Placed start c now (makes_way start o) (entering o) place → Placed start ((now, Passed) ∷ c) now (makes_way start o) (entering o) place
+placed_later start c now o place h = passed_placed start c now (makes_way start o) (entering o) place h
 
 -- what is told of a chronicle is told of one with the same items
 told_too : {A : Type 0} {c d : Chronicle} {x z : List (ℕ × Out A)} (e : Chronicle) → items e ≡ items d → Tells c d x z → Tells c e x z
@@ -161,20 +136,20 @@ module _ {R A : Type 0} (stream : R → Stream) (old : Node R A) (now : ℕ) (so
     (settled : now < next_of old) (times : Times) (news : Option News)
     (news_is : option_map (said_by times) news ≡ said_of_neighbour source body options times.reachable) (reachable_is : times.reachable ≡ old.params.reachable_time) where
   -- what is said is that of the chronicle
-  said_is : (start : Start) (c : Chronicle) → Stands stream start old c → option_map (said_by times) news ≡ said c source (message_of body options)
-  said_is start c s = news_is ∙ ap (λ (t : ℕ). said_of_neighbour source body options t) (reachable_is ∙ s.params.reachable_time)
+  this_is : (start : Start) (c : Chronicle) → Stands stream start old c → option_map (said_by times) news ≡ said c source (message_of body options)
+  this_is start c s = said_is stream old now source destination body options settled times news news_is reachable_is start c s
 
   -- its target has no place
   pub message_refused : (new : Node R A) (x y : List (ℕ × Out A))
-      → ((start : Start) (c : Chronicle) → Stands stream start old c → Placed start c now (entering (option_map (said_by times) news)) false)
+      → ((start : Start) (c : Chronicle) → Stands stream start old c → Placed start c now (makes_way start (option_map (said_by times) news)) (entering (option_map (said_by times) news)) false)
       → AddsAlone stream old new x y now (Refused (Full Neighbours))
       → AddsMessage stream old new x y now source destination (message_of body options) (answers.Refused (Full Neighbours))
   message_refused new x y placed adds = record {
     each = λ start c s le takes.
         let later : Chronicle = (now, Passed) ∷ c in
         let a = adds.each start c s le in
-        let placed' : Placed start later now (entering (said later source (message_of body options))) false =
-        subst (λ (o : Option (ℕ × rows.RowKind)). Placed start later now (entering o) false) (said_is start c s) (placed_later start c now (option_map (said_by times) news) false (placed start c s)) in (
+        let placed' : Placed start later now (makes_way start (said later source (message_of body options))) (entering (said later source (message_of body options))) false =
+        subst (λ (o : Option (ℕ × rows.RowKind)). Placed start later now (makes_way start o) (entering o) false) (this_is start c s) (placed_later start c now (option_map (said_by times) news) false (placed start c s)) in (
           (now, Refused (Full Neighbours)) ∷ later,
           (Some Neighbours, plain.fills start later (Some Neighbours) (record { neighbours = false; placed = rw (plain.needs_is later) placed'; first = refl }), refl),
           a.0,
@@ -184,76 +159,39 @@ module _ {R A : Type 0} (stream : R → Stream) (old : Node R A) (now : ℕ) (so
   }
 
   -- its target has place, so that no table is full
-  pub none_full : ((start : Start) (c : Chronicle) → Stands stream start old c → Placed start c now (entering (option_map (said_by times) news)) true)
+  pub none_full : ((start : Start) (c : Chronicle) → Stands stream start old c → Placed start c now (makes_way start (option_map (said_by times) news)) (entering (option_map (said_by times) news)) true)
       → (start : Start) (c : Chronicle) (limit : Limit) → Stands stream start old c → MessageFills start ((now, Passed) ∷ c) now source (message_of body options) (Some limit) → ⊥
   none_full placed start c limit s fills =
       let later : Chronicle = (now, Passed) ∷ c in
-      let placed' : Placed start later now (entering (said later source (message_of body options))) true =
-      subst (λ (o : Option (ℕ × rows.RowKind)). Placed start later now (entering o) true) (said_is start c s) (placed_later start c now (option_map (said_by times) news) true (placed start c s)) in
-      let here : Placed start later now (needs later source (message_of body options) body) true = rw (plain.needs_is later) placed' in
-      let same : fills.neighbours ≡ true = one_placed start later now (needs later source (message_of body options) body) fills.neighbours true fills.placed here in
+      let placed' : Placed start later now (makes_way start (said later source (message_of body options))) (entering (said later source (message_of body options))) true =
+      subst (λ (o : Option (ℕ × rows.RowKind)). Placed start later now (makes_way start o) (entering o) true) (this_is start c s) (placed_later start c now (option_map (said_by times) news) true (placed start c s)) in
+      let way : Bool = makes_way start (said later source (message_of body options)) in
+      let here : Placed start later now way (needs later source (message_of body options) body) true = rw (plain.needs_is later) placed' in
+      let same : fills.neighbours ≡ true = one_placed start later now way (needs later source (message_of body options) body) fills.neighbours true fills.placed here in
       let first : Some limit ≡ no_place fills.neighbours = fills.first in
       let never : ⊥ = cc in
       never
 
-  module _ (new final : Node R A) (x room y z : List (ℕ × Out A)) (ends : Bool) (heard : Out A)
-      (still : NoneOverdueStill) (table : OverdueByTable) (one_goes : OneGoes) (same : Still old new now) (routers_same : new.routers ≡ old.routers) (addresses_same : new.addresses ≡ old.addresses)
-      (recalls : (start : Start) (c : Chronicle) → Stands stream start old c → last_moment start.at c ≤ now → Recalls now new)
-      (placed : (start : Start) (c : Chronicle) → Stands stream start old c → Placed start c now (entering (option_map (said_by times) news)) true)
-      (reserved : room ≡ x) (told : y ≡ room ++ (now, heard) ∷ []) (heard_is : happening heard ≡ Heard source destination (record { body = body; options = [] }))
-      (redirects : (history : List redirect_rows.RedirectRow) → choice.Stands old.choice history → choice.Stands new.choice (then_redirect now body history))
-      (hears : HearsOf old.neighbours.limit now (option_map (said_by times) news) old.neighbours.entries new.neighbours.entries y z ends)
+  module _ (new final : Node R A) (gone : Option ℕ) (x z : List (ℕ × Out A))
+      (placed : (start : Start) (c : Chronicle) → Stands stream start old c → Placed start c now (makes_way start (option_map (said_by times) news)) (entering (option_map (said_by times) news)) true)
+      (takes : (start : Start) (c : Chronicle) → Stands stream start old c → last_moment start.at c ≤ now → TakesGiver stream old now source destination body options settled times news news_is reachable_is new gone x z start c)
       (follows : (start : Start) (before d : Chronicle) → advertising_history start d ≡ advertising_history start before → last_moment start.at d ≡ now → Stands stream start new d → Stands stream start final (behind start before d))
       (silent : (start : Start) (before d : Chronicle) → items (behind start before d) ≡ items d) where
     pub adds_message : AddsMessage stream old final x z now source destination (message_of body options) answers.Done
     adds_message = record {
-      each = λ start c s le takes.
+      each = λ start c s le heard.
           let later : Chronicle = (now, Passed) ∷ c in
           let message : Parts = message_of body options in
-          let history : List rows.Row = neighbour_history c in
-          let limit : ℕ = start.limits.neighbours in
           let this : Option (ℕ × rows.RowKind) = said later source message in
-          let this_is : option_map (said_by times) news ≡ this = said_is start c s in
-          let hears' : HearsOf limit now this old.neighbours.entries new.neighbours.entries y z ends =
-          subst (λ (l : ℕ). HearsOf l now this old.neighbours.entries new.neighbours.entries y z ends) s.limits.neighbours
-          (subst (λ (o : Option (ℕ × rows.RowKind)). HearsOf old.neighbours.limit now o old.neighbours.entries new.neighbours.entries y z ends) this_is hears) in
-          let h = hears'.each history s.neighbours in
-          let made : List rows.Row = h.0 in
-          let p = placed_by start later now this made one_goes (λ a. refl) h.1 in
-          let before : Chronicle = (now, Heard source destination message) ∷ p.placed in
-          let after : Chronicle = releasing now this (neighbour_history p.placed) before in
-          let q : Quiet before after = releasing_is_quiet now this (neighbour_history p.placed) before (λ a. refl) in
-          let not_past : now ≤ next_of old = omega (arith, settled) in
-          let said_now : neighbour_history before ≡ then_neighbour now this made =
-          ap (λ (t : ℕ). then_neighbour now (said_of_neighbour source body options t) (neighbour_history p.placed)) (ap (λ l. reachable_of l) p.others.parameters)
-          ∙ ap (λ (l : List rows.Row). then_neighbour now this l) p.history in
-          let neighbours' : neighbours.Stands new.neighbours.entries (neighbour_history before) = subst (λ (l : List rows.Row). neighbours.Stands new.neighbours.entries l) (sym said_now) h.2 in
-          let none = none_before_said table still one_goes limit now this old.neighbours.entries new.neighbours.entries history made s.neighbours h.1 h.2 (neighbours_before old now not_past) in
-          let apart : Apart c before = apart_then c later before (apart_passed now c) (apart_then later p.placed before (apart_others p.others) (plain.apart p.placed)) in
-          let redirects' : choice.Stands new.choice (redirect_history before) =
-          subst (λ l. choice.Stands new.choice (then_redirect now body l)) (sym p.others.redirects) (redirects (redirect_history c) s.redirects) in
-          let stands_before : Stands stream start new before = stands_at stream start old new c before now same apart s le not_past refl
-          (subst (λ l. routers.Stands new.routers l) (sym (plain.routers p.placed ∙ p.others.routers)) (rw routers_same s.routers)) (rw routers_same (routers_before old now not_past))
-          (subst (λ l. addresses.Stands new.addresses.addresses l) (sym p.others.addresses) (rw addresses_same s.addresses)) (rw addresses_same (addresses_before old now not_past))
-          neighbours' none redirects' (recalls start c s le) in
-          let kept : released_rows now this (neighbour_history p.placed) ≡ released_rows now this history =
-          ap (λ (l : List rows.Row). released_rows now this l) p.history ∙ released_kept limit now this history made h.1 in
-          let heard_items : Tells c before x y = record {
-            newer = (now, Heard source destination (record { body = body; options = [] })) ∷ [];
-            told = ap (λ t. t ++ items_at (now, Heard source destination message)) (p.others.told ∙ append-nil (items c)) ∙ one (items c) (items_at (now, Heard source destination message));
-            outs = ap happenings told ∙ (ap (λ l. happenings (l ++ (now, heard) ∷ [])) reserved ∙ (one_more x (x ++ (now, heard) ∷ []) now heard refl ∙ ap (λ w. happenings x ++ (now, w) ∷ []) heard_is));
-          } in
-          let frames_items : Tells before after y z = record {
-            newer = at_moment now (released_rows now this (neighbour_history p.placed));
-            told = releasing_items now this (neighbour_history p.placed) before;
-            outs = h.3 ∙ ap (λ l. happenings y ++ at_moment now l) (sym kept);
-          } in
-          let placed' : Placed start later now (entering this) true =
-          subst (λ (o : Option (ℕ × rows.RowKind)). Placed start later now (entering o) true) this_is (placed_later start c now (option_map (said_by times) news) true (placed start c s)) in (
+          let t = takes start c s le in
+          let after : Chronicle = releasing now this (neighbour_history t.placed) (failing_for now gone (neighbour_history c) ((now, Heard source destination message) ∷ t.placed)) in
+          let adds = plain.adds start later gone t.placed t.room in
+          let placed' : Placed start later now (makes_way start this) (entering this) true =
+          subst (λ (o : Option (ℕ × rows.RowKind)). Placed start later now (makes_way start o) (entering o) true) (this_is start c s) (placed_later start c now (option_map (said_by times) news) true (placed start c s)) in (
             behind start later after,
-            (None, plain.fills start later None (record { neighbours = true; placed = rw (plain.needs_is later) placed'; first = refl }), plain.adds start later p.placed p.place),
-            follows start later after (ap (λ (p : List advertising_rows.Row × List route_rows.Row). p.0) (q.router start ∙ apart.router start)) (q.last start.at) (stands_quiet stream start new before after q stands_before),
-            told_too {d = after} (behind start later after) (silent start later after) (Tells-then c before after x y z heard_items frames_items),
-            sym (message_done start now source destination message later (behind start later after) refl (plain.adds start later p.placed p.place)),
+            (None, plain.fills start later None (record { neighbours = true; placed = rw (plain.needs_is later) placed'; first = refl }), adds),
+            follows start later after (ap (λ (p : List advertising_rows.Row × List route_rows.Row). p.0) (t.apart.router start)) (t.last start.at) t.stands,
+            told_too {d = after} (behind start later after) (silent start later after) t.tells,
+            sym (message_done start now source destination message later (behind start later after) refl adds),
           );
     }

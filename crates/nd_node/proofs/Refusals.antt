@@ -1,13 +1,14 @@
 -- What adds a refusal alone, and what doesn't.
 use Rattle.std.proofs.Common.{◌≡◌, ℕ, Bool, true, false, List, [], ◌∷◌, Option, Some, None, refl, sym, ◌∙◌, ap, subst}
-use Rattle.std.specs.Prelude.{MatchBool, bytes_eq, if◌then◌else◌}
+use Rattle.std.specs.Prelude.{MatchOption, MatchBool, bytes_eq, if◌then◌else◌}
 use Rattle.std.specs.Option.{option_to_list}
 use Rattle.rand_core.specs.Stream.{Stream}
 use Rattle.nd_addr.specs.declared.addr.Addr.{Addr}
 use Rattle.nd_addr.specs.declared.mac.Mac.{Mac}
 use Rattle.nd_addr.specs.declared.role.Role.{Role}
 use Rattle.nd_addr.specs.Kind.{multicast_prefix, unspecified_address}
-use Rattle.nd_addr.specs.Number.{holds, number_of}
+use Rattle.nd_addr.specs.Frame.{addressed}
+use Rattle.nd_addr.specs.Number.{mac_at, holds, number_of}
 use Rattle.nd_decode.specs.Message.{Parts}
 use Rattle.nd_decode.specs.declared.body.Body.{Body}
 use Rattle.nd_decode.specs.declared.body.Body.TheVariants as bodies
@@ -24,15 +25,15 @@ use Rattle.nd_slaac.specs.State.{is_by_hand, is_known}
 use Rattle.nd_nexthop.specs.NextHop.{NextHop, direct}
 use Rattle.nd_chronicle.specs.Start.{Policies, Start}
 use Rattle.nd_chronicle.specs.Reading.{read_outcome}
-use Rattle.nd_chronicle.specs.Happening.{Chronicle, Heard, Limit, Loss, Lost, Passed, Refusal, Refused, Forgotten, Neighbour}
+use Rattle.nd_chronicle.specs.Happening.{Chronicle, Heard, Limit, Loss, Lost, Passed, Refusal, Refused, Forgotten, Neighbour, Sent, Unreachable}
 use Rattle.nd_chronicle.specs.Advertising.{planning, wants_answer}
 use Rattle.nd_chronicle.specs.Event as events
 use Rattle.nd_chronicle.specs.Event.{EventAdds, MessageAdds, PacketAdds, packet_frame, refusal_of_packet, VerdictAdds, FrameAdds, packet_bytes, Clearable, clearing}
 use Rattle.nd_chronicle.specs.Histories.{neighbour_history, route_history}
 use Rattle.nd_chronicle.specs.InForce.{base_reachable_time, retrans_timer}
-use Rattle.nd_chronicle.specs.Message.{leaving, releasing, said, sending_if_known, telling_if_known}
+use Rattle.nd_chronicle.specs.Message.{failing_for, leaving, makes_way, releasing, said, sending_if_known, telling_if_known}
 use Rattle.nd_chronicle.specs.NeighborAdvertisement.{conflicting, ends_in_list}
-use Rattle.nd_chronicle.specs.NeighborSolicitation.{Answers, then_tried}
+use Rattle.nd_chronicle.specs.NeighborSolicitation.{Answers, is_router, sent_alone_to, then_tried}
 use Rattle.nd_chronicle.specs.Resolve.{PathAdds, Wants, WantsIfPlaced}
 use Rattle.nd_chronicle.specs.OwnAddress.{refusal_unless_up, is_assigned, is_tentative, story_of, is_own}
 use Rattle.nd_chronicle.specs.Packet.{Goes, GoesIfPlaced, HasPlace, losing, no_place, sending, then_packet, HavePlace}
@@ -41,7 +42,7 @@ use Rattle.nd_chronicle.specs.Refused.{UnlessFull, UnlessRefused}
 use Rattle.nd_chronicle.specs.RouterAdvertisement.{forming, naming, redrawing, then_option, then_options, times_out}
 use Rattle.nd_chronicle.proofs.Hops.{one_hop}
 use Rattle.nd_chronicle.proofs.Places.{one_has_place}
-use Rattle.nd_compose.specs.Frames.{open_mac}
+use Rattle.nd_compose.specs.Frames.{answer_frame, open_mac}
 use Rattle.nd_params.specs.Params.{redraws}
 use Rattle.nd_addr.specs.Ip6.{PacketParts}
 use Rattle.nd_decode.specs.Option.{Said}
@@ -105,6 +106,10 @@ module _ (at : ℕ) where
       let known = mac_of ((at, news.1) ∷ this) in
       telling_adds news.0 known (is_awaited this) (sending_if_known at known (released_by at news.1 this) c) (sending_known_adds known (released_by at news.1 this) c h)
 
+  failing_adds : (gone : Option ℕ) (history : List rows.Row) (c : Chronicle) → is_refusal c ≡ false → is_refusal (failing_for at gone history c) ≡ false
+  failing_adds None history c h = h
+  failing_adds (Some key) history c h = losing_adds Unreachable (waits_of (story key history)) _ refl
+
   leaving_adds : (leaves : Bool) (key : ℕ) (c : Chronicle) → is_refusal c ≡ false → is_refusal (leaving at leaves key c) ≡ false
   leaving_adds true key c h = refl
   leaving_adds false key c h = h
@@ -146,21 +151,30 @@ module _ (at : ℕ) where
       solicited_adds : (target : Addr) (unspecified : Bool) (c d : Chronicle)
           → MatchBool unspecified (d ≡ then_tried start at target ((at, Heard source destination message) ∷ c)) (Answers start at source destination target message c d) → is_refusal d ≡ false
       solicited_adds target true c d h = ap is_refusal h ∙ either (is_assigned ((at, Heard source destination message) ∷ c) target.0) _ _ refl refl
-      solicited_adds target false c d h = goes_adds _ _ _ d h.answer
+      solicited_adds target false c d h =
+          let heard : Chronicle = (at, Heard source destination message) ∷ h.placed in
+          let behind : Chronicle = releasing at (said c source message) (neighbour_history h.placed) (failing_for at h.gone (neighbour_history c) heard) in
+          reply_adds (sent_alone_to start at (number_of source.0) behind) (number_of source.0) (answer_frame (is_router start.role) start.mac target source) behind d h.answer
+        where
+          reply_adds : (known : Option ℕ) (key : ℕ) (packet : List ℕ) (c d : Chronicle) → MatchOption known (Goes start c at key packet d) (λ mac. d ≡ (at, Sent (addressed (mac_at mac) packet)) ∷ c) → is_refusal d ≡ false
+          reply_adds None key packet c d h = goes_adds key packet c d h
+          reply_adds (Some mac) key packet c d h = ap is_refusal h
 
       -- a message that is heard is no refusal
       pub message_adds : (body : Body) (c d : Chronicle) → MessageAdds start at source destination message body c d → is_refusal d ≡ false
       message_adds (bodies.Ns ns) c d h = solicited_adds ns.target (bytes_eq source.0 unspecified_address) c d h
       message_adds (bodies.Ra ra) c d h =
-          let placed : Chronicle = h.0 in
+          let placed : Chronicle = h.1 in
           let heard : Chronicle = (at, Heard source destination message) ∷ placed in
           let drawn : Chronicle = redrawing start at ra.reachable_time (redraws (base_reachable_time placed) ra.reachable_time) heard in
-          let released : Chronicle = releasing at (said placed source message) (neighbour_history placed) drawn in
-          ap is_refusal h.2
+          let failed : Chronicle = failing_for at h.0 (neighbour_history c) drawn in
+          let released : Chronicle = releasing at (said placed source message) (neighbour_history placed) failed in
+          ap is_refusal h.3
           ∙ options_add (holds multicast_prefix destination.0) (prefixes_in message.options) (leaving at (times_out start at placed source ra) (number_of source.0) released)
           (leaving_adds (times_out start at placed source ra) (number_of source.0) released
-          (releasing_adds (said placed source message) (neighbour_history placed) drawn
-          (redrawing_adds ra.reachable_time (redraws (base_reachable_time placed) ra.reachable_time) heard refl)))
+          (releasing_adds (said placed source message) (neighbour_history placed) failed
+          (failing_adds h.0 (neighbour_history c) drawn
+          (redrawing_adds ra.reachable_time (redraws (base_reachable_time placed) ra.reachable_time) heard refl))))
       message_adds (bodies.Na na) c d h =
           let placed : Chronicle = h.0 in
           let heard : Chronicle = (at, Heard source destination message) ∷ placed in
@@ -169,8 +183,10 @@ module _ (at : ℕ) where
           ap is_refusal h.2
           ∙ leaving_adds (ends_in_list at placed (said placed source message)) (number_of na.target.0) released
           (releasing_adds (said placed source message) (neighbour_history placed) claimed (conflicting_adds (is_tentative placed na.target.0) (number_of na.target.0) heard refl))
-      message_adds (bodies.Redirect r) c d h = ap is_refusal h.2 ∙ releasing_adds (said c source message) (neighbour_history h.0) _ refl
-      message_adds bodies.Rs c d h = ap is_refusal h.2 ∙ planning_adds (wants_answer start c) _ (releasing_adds (said c source message) (neighbour_history h.0) _ refl)
+      message_adds (bodies.Redirect r) c d h =
+          ap is_refusal h.3 ∙ releasing_adds (said c source message) (neighbour_history h.1) _ (failing_adds h.0 (neighbour_history c) _ refl)
+      message_adds bodies.Rs c d h =
+          ap is_refusal h.3 ∙ planning_adds (wants_answer start c) _ (releasing_adds (said c source message) (neighbour_history h.1) _ (failing_adds h.0 (neighbour_history c) _ refl))
 
 -- ---- what is full
 
@@ -315,11 +331,14 @@ module _ (start : Start) (now : ℕ) (source destination : Addr) (message : Part
 module _ (start : Start) (now : ℕ) (source : Addr) (options : List Said) (c : Chronicle) (limit : Limit) where
   -- a solicitation from an address wants place for the asker
   pub asker_full : (ns : NeighborSolicitation) → bytes_eq source.0 unspecified_address ≡ false → MessageFills start c now source (record { body = bodies.Ns ns; options = options }) (Some limit)
-      → HasPlace start c now (number_of source.0) true false
+      → Placed start c now (makes_way start (said c source (record { body = bodies.Ns ns; options = options }))) (Some (number_of source.0, true)) false
   asker_full ns specified fills = full (bytes_eq source.0 unspecified_address) specified fills.neighbours fills.placed fills.first
     where
-      full : (none : Bool) → none ≡ false → (place : Bool) → Placed start c now (if none then None else Some (number_of source.0, true)) place → Some limit ≡ no_place place
-          → HasPlace start c now (number_of source.0) true false
+      way : Bool
+      way = makes_way start (said c source (record { body = bodies.Ns ns; options = options }))
+
+      full : (none : Bool) → none ≡ false → (place : Bool) → Placed start c now way (if none then None else Some (number_of source.0, true)) place → Some limit ≡ no_place place
+          → Placed start c now way (Some (number_of source.0, true)) false
       full true is place placed first = let never : ⊥ = cc in absurd never
       full false is true placed first = let never : ⊥ = cc in absurd never
       full false is false placed first = placed

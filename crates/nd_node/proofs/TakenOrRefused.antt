@@ -10,11 +10,12 @@ use Rattle.nd_neighbour.specs.declared.news.News.{News}
 use Rattle.nd_neighbour.specs.declared.news.Times.{Times}
 use Rattle.nd_neighbour.specs.History.{RowKind}
 use Rattle.nd_neighbour.specs.TableKept as cache
-use Rattle.nd_chronicle.specs.Start.{Start}
+use Rattle.nd_chronicle.specs.Start.{Policies, Start}
 use Rattle.nd_chronicle.specs.Happening as happenings
 use Rattle.nd_chronicle.specs.Happening.{Chronicle, Happening, Passed, Heard, Refused, Full, last_moment}
 use Rattle.nd_chronicle.specs.Histories.{neighbour_history, said_of_neighbour}
 use Rattle.nd_chronicle.specs.Full.{entering, needs, Placed, AdvertisementFills}
+use Rattle.nd_chronicle.specs.Message.{makes_way, said}
 use Rattle.nd_chronicle.specs.RouterAdvertisement.{then_advertised}
 use Rattle.nd_chronicle.specs.Told.{Told, items_at, items}
 use Rattle.nd_out.specs.declared.out.Out.{Out}
@@ -65,11 +66,12 @@ module _ {R A : Type 0} (stream : R → Stream) (now : ℕ) (source destination 
   -- whether its sender has a place
   pub sender_placed : (node : Node R A) (news : Option News) (place : Bool)
       → ((times : Times) → option_map (said_by times) news ≡ said_of_neighbour source (bodies.Ra ra) options times.reachable)
-      → ((start : Start) (c : Chronicle) (times : Times) → node.neighbours.limit ≡ start.limits.neighbours → cache.Stands node.neighbours.entries (neighbour_history c) → Placed start c now (entering (option_map (said_by times) news)) place)
-      → (start : Start) (c : Chronicle) → Stands stream start node c → Placed start c now (needs c source (advertised ra options) (bodies.Ra ra)) place
+      → ((start : Start) (c : Chronicle) (times : Times) → node.neighbours.limit ≡ start.limits.neighbours → node.policies.speakers ≡ start.policies.speakers → cache.Stands node.neighbours.entries (neighbour_history c) → Placed start c now (makes_way start (option_map (said_by times) news)) (entering (option_map (said_by times) news)) place)
+      → (start : Start) (c : Chronicle) → Stands stream start node c → Placed start c now (makes_way start (said c source (advertised ra options))) (needs c source (advertised ra options) (bodies.Ra ra)) place
   sender_placed node news place is placed start c s =
       let times : Times = record { retrans = 0; reachable = 0 } in
-      subst (λ (said : Option (ℕ × RowKind)). Placed start c now (entering said) place) (is times) (placed start c times s.limits.neighbours s.neighbours)
+      subst (λ (said : Option (ℕ × RowKind)). Placed start c now (makes_way start said) (entering said) place) (is times)
+      (placed start c times s.limits.neighbours (ap (λ (p : Policies). p.speakers) s.policies) s.neighbours)
 
   -- it is refused, since a table has no room
   pub refuses : (old new : Node R A) (x y : List (ℕ × Out A)) (limit : happenings.Limit)
@@ -94,12 +96,12 @@ module _ {R A : Type 0} (stream : R → Stream) (now : ℕ) (source destination 
   takes old new x same y z out out_is fills same_is told_is taken = record {
     each = λ start c s le target.
         let a = taken.each start c s le in (
-          then_advertised start now source destination ra (advertised ra options) a.placed,
-          (None, fills_later now source ra options start c None (fills start c s le), (a.placed, a.place, refl)),
+          then_advertised start now source destination ra (advertised ra options) a.gone (neighbour_history c) a.placed,
+          (None, fills_later now source ra options start c None (fills start c s le), (a.gone, a.placed, a.room, refl)),
           a.stands,
           Tells-then c ((now, Heard source destination (advertised ra options)) ∷ (now, Passed) ∷ c) _ x y z
               (tells_one c now (Heard source destination (record { body = bodies.Ra ra; options = [] })) (Heard source destination (advertised ra options)) x y out (ap happening out_is) refl
               (told_is ∙ ap (λ (l : List (ℕ × Out A)). l ++ (now, out) ∷ []) same_is)) a.tells,
-          sym (message_done start now source destination (advertised ra options) ((now, Passed) ∷ c) _ refl (a.placed, a.place, refl)),
+          sym (message_done start now source destination (advertised ra options) ((now, Passed) ∷ c) _ refl (a.gone, a.placed, a.room, refl)),
         );
   }

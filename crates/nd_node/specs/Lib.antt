@@ -5,6 +5,7 @@ pub mod NodeKept
 pub mod Counts
 pub mod Time
 pub mod Packet
+pub mod Asker
 pub mod Hearing
 pub mod Fullness
 pub mod RouterAdvertisement

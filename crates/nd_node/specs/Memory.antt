@@ -1,5 +1,5 @@
 -- Which events are taken whatever memory there is, once all that is due up to them is done: those that report no more than there is room for.
-use Rattle.std.specs.Prelude.{◌≡◌, true, is_some, ℕ, ◌+◌, ◌≤◌, ◌⊎◌, List, [], ◌∷◌, length}
+use Rattle.std.specs.Prelude.{◌≡◌, true, is_some, if◌then◌else◌, ℕ, ◌+◌, ◌≤◌, ◌⊎◌, List, [], ◌∷◌, length}
 use Rattle.nd_addr.specs.declared.addr.Addr.{Addr}
 use Rattle.nd_addr.specs.declared.why.Why.{Why}
 use Rattle.nd_addr.specs.Kind.{multicast_prefix}
@@ -13,6 +13,7 @@ use Rattle.nd_neighbour.specs.EntryKept.{NeighbourEntry}
 use Rattle.nd_neighbour.specs.NewsKept.{told_at}
 use Rattle.nd_neighbour.specs.Removal.{waiting_at}
 use Rattle.nd_neighbour.specs.TableKept.{entry_in}
+use Rattle.nd_packet.specs.Waiting.{max_waiting}
 use Rattle.nd_nexthop.specs.NextHop.{NextHop, direct, no_route, via}
 use Rattle.nd_chronicle.specs.Start.{Start}
 use Rattle.nd_chronicle.specs.Happening.{Chronicle, Passed, Refusal, Refused}
@@ -28,10 +29,10 @@ pub record IsDropped (start : Start) (c : Chronicle) (now : ℕ) (frame : List �
   pub told : 1 ≤ places
 
 -- an advertisement that adds no search name: there are places for itself, a router that leaves, the packets that wait for its sender, and its address,
--- if a caller waits for that
+-- if a caller waits for that, and with the policy `speakers` for a neighbour that gives way, and what waits for that one
 pub record AddsNoName {R A : Type 0} (node : Node R A) (now : ℕ) (source : Addr) (options : List Said) (places : ℕ) : Type 0 where
   pub names : new_names now options node.dns ≡ []
-  pub told : told_at (entry_in (number_of source.0) node.neighbours.entries) + 2 ≤ places
+  pub told : told_at (entry_in (number_of source.0) node.neighbours.entries) + 2 + (if node.policies.speakers then max_waiting + 1 else 0) ≤ places
 
 -- the frame is such an advertisement
 pub record IsNameless {R A : Type 0} (node : Node R A) (now : ℕ) (frame : List ℕ) (places : ℕ) : Type 0 where

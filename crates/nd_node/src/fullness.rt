@@ -7,6 +7,7 @@ ghost use Rattle.nd_table.specs.Listing.{fits};
 ghost use Rattle.nd_dns.specs.AnnouncedNames.{same_name, names_told};
 ghost use Rattle.nd_out.specs.Out.{limit_of};
 ghost use Rattle.nd_chronicle.specs.Full.{first_full, needs, Placed, AdvertisementFills};
+ghost use Rattle.nd_chronicle.specs.Message.{makes_way, said};
 
 use crate::node::Node;
 use nd_addr::Addr;
@@ -37,7 +38,7 @@ impl<R: Rng + Drop, A: Allocator + Clone> Node<R, A> {
     ) -> Option<Limit>
         requires { known ≡ true → fits same_name self.now.dns.name_limit now (names_told (options_left options)) self.now.dns.names ≡ true }
         ensures fills { let message = advertised ra.now (options_read self.now options.entry) in (start : Start) (c : Chronicle) → Stands R.stream start self.now c → last_moment start.at c ≤ now
-            → Placed start c now (needs c source message message.body) place → AdvertisementFills start c now source ra.now message (option_map limit_of result) }
+            → Placed start c now (makes_way start (said c source message)) (needs c source message message.body) place → AdvertisementFills start c now source ra.now message (option_map limit_of result) }
         ensures room { result ≡ None → HasRoom self.now now source ra.now (options_left options.entry) place }
     {
         if !place {

@@ -1,13 +1,22 @@
 //! Handles a Neighbor Solicitation (RFC 4861, sections 7.2.3 and 7.2.4; RFC 4862, section 5.4.3).
 
-ghost use Rattle.std.specs.Prelude.{◌≡◌, ◌∷◌, ◌+◌, ◌<◌, ◌≤◌, List, None, Some, IfOk, IsOk, OnOk, OnErr, bytes_eq, false, true, is_some, vec_len, vec_capacity};
+ghost use Rattle.std.specs.Prelude.{◌≡◌, ◌∷◌, ◌+◌, ◌<◌, ◌≤◌, List, None, Some, IfOk, IsOk, OnOk, OnErr, bytes_eq, false, if◌then◌else◌, true, is_some, vec_len, vec_capacity};
 ghost use Rattle.nd_addr.specs.Kind.{unspecified_address};
 ghost use Rattle.nd_addr.specs.Number.{number_of};
 ghost use Rattle.nd_decode.specs.Option.{Said};
 ghost use Rattle.nd_decode.specs.declared.body.Body.TheVariants as bodies;
 ghost use Rattle.nd_table.specs.Moment.{IsMoment};
 ghost use Rattle.nd_packet.specs.Waiting.{max_waiting};
-ghost use Rattle.nd_neighbour.specs.TableKept.{entry_in};
+ghost use Rattle.std.specs.Option.{option_map};
+ghost use Rattle.nd_neighbour.specs.declared.news.Times.{Times};
+ghost use Rattle.nd_neighbour.specs.RoomKept.{has_room};
+ghost use Rattle.nd_neighbour.specs.TableKept.{Stands as stands_for, entry_in};
+ghost use Rattle.nd_chronicle.specs.Full.{Placed};
+ghost use Rattle.nd_chronicle.specs.Histories.{neighbour_history};
+ghost use Rattle.nd_chronicle.specs.Message.{makes_way};
+ghost use Rattle.nd_steps.specs.GivingWay.{HasPlaceOrWay};
+ghost use Rattle.nd_steps.specs.NeighbourCache.{said_by};
+ghost use Rattle.nd_node.specs.Asker.{IsOfAsker};
 ghost use Rattle.nd_chronicle.specs.NeighborSolicitation as solicited;
 ghost use Rattle.nd_chronicle.specs.Full.{Fills};
 ghost use Rattle.nd_chronicle.specs.Happening.{Chronicle, Limit as Table, Passed, last_moment};
@@ -24,7 +33,10 @@ use nd_decode::NeighborSolicitation;
 use nd_neighbour::{Cache, News};
 use nd_out::{Limit, Out, Refusal};
 use nd_packet::MAX_WAITING;
-use nd_steps::{hear_conflict, hear_of_neighbour, news_of, ready_for, times_in_force};
+use nd_steps::{
+    has_place, hear_conflict, hear_giver, most_told_of_way, news_of, note_way, ready_for,
+    times_in_force,
+};
 use nd_validity::Heard;
 use rand_core::Rng;
 use std::alloc::{AllocError, Allocator};
@@ -101,7 +113,7 @@ impl<R: Rng + Drop, A: Allocator + Clone> Node<R, A> {
     }
 
     /// Handles a solicitation from an address for one of the node's own: the asker's entry takes what the solicitation says, and the answer goes to
-    /// the asker as any packet to a neighbour (RFC 4861, sections 7.2.3 and 7.2.4). It is refused if there is no room for the asker. Returns an
+    /// the asker (RFC 4861, sections 7.2.3 and 7.2.4). It is refused if there is no room for the asker. Returns an
     /// error if out of memory; nothing has changed then.
     fn hear_asker(
         &mut self,
@@ -121,35 +133,59 @@ impl<R: Rng + Drop, A: Allocator + Clone> Node<R, A> {
     {
         nd_neighbour::laws::none_overdue();
         nd_neighbour::laws::one_is_pushed_out();
-        nd_neighbour::laws::room_is_place();
-        nd_neighbour::laws::full_by_history();
+        nd_neighbour::laws::an_end_ends_once();
         let asker = heard.source;
-        if !self.neighbours.room(now, asker, None) {
-            return self.refuse(now, Refusal::Full(Limit::Neighbours), outs);
-        }
+        let speakers = self.policies.speakers();
         let news = news_of(
             asker,
             &heard.message.body,
             heard.message.options,
             self.own_mac(),
         );
-        let room = make_room(&mut self.neighbours, asker, news, outs)?;
+        if !has_place_for(&self.neighbours, now, asker, news, speakers) {
+            return self.refuse(now, Refusal::Full(Limit::Neighbours), outs);
+        }
+        let room = make_room(&mut self.neighbours, asker, news, speakers, outs)?;
         self.report_heard(now, heard, outs);
         let times = times_in_force(&self.params);
         // RFC 4861, section 7.2.3: the asker's link-layer address.
-        hear_of_neighbour(
+        let gone = hear_giver(
             &mut self.neighbours,
             &mut self.choice,
             now,
             news,
             times,
+            speakers,
             outs,
         );
-        // Section 7.2.4: a solicited advertisement, sent to the asker as any packet to a neighbour.
+        note_way(&mut self.routers, &mut self.choice, gone);
+        // Section 7.2.4: a solicited advertisement, sent to the asker.
         let router = is_router(self.role);
         let answer = room.answer.answer(router, self.mac, ns.target, asker);
-        self.go(now, asker, answer, room.solicitation, outs);
+        self.reply(now, asker, answer, room.solicitation, outs);
         Ok(Answer::Done)
+    }
+}
+
+/// Returns true if there is room at `now`, in milliseconds, for an asker of which a solicitation may give these news, or if `speakers` are let in and another
+/// neighbour gives way to it.
+fn has_place_for<A: Allocator>(
+    neighbours: &Cache<A>,
+    now: u64,
+    asker: Addr,
+    news: Option<News>,
+    speakers: bool,
+) -> bool
+    requires { IsOfAsker (number_of asker.0) news }
+    ensures way { result ≡ true → HasPlaceOrWay speakers neighbours.now.limit now news neighbours.now.entries }
+    ensures room { result ≡ true → news ≡ None → has_room neighbours.now.limit now (number_of asker.0) None neighbours.now.entries ≡ true }
+    ensures placed { (start : Start) (c : Chronicle) (times : Times) → neighbours.now.limit ≡ start.limits.neighbours → speakers ≡ start.policies.speakers → stands_for neighbours.now.entries (neighbour_history c) → Placed start c now (makes_way start (option_map (said_by times) news)) (Some (number_of asker.0, true)) result }
+{
+    nd_neighbour::laws::room_is_place();
+    nd_neighbour::laws::full_by_history();
+    match news {
+        Some(_) => has_place(neighbours, now, news, speakers),
+        None => neighbours.room(now, asker, None),
     }
 }
 
@@ -159,9 +195,10 @@ fn make_room<A: Allocator + Clone>(
     neighbours: &mut Cache<A>,
     asker: Addr,
     news: Option<News>,
+    speakers: bool,
     outs: &mut Vec<(u64, Out<A>), A>,
 ) -> Result<AnswerRoom<A>, AllocError>
-    ensures places { OnOk result (vec_len outs.new + max_waiting + 3 ≤ vec_capacity outs.new) }
+    ensures places { OnOk result (vec_len outs.new + max_waiting + 3 + (if speakers then max_waiting + 1 else 0) ≤ vec_capacity outs.new) }
     ensures ring { OnOk result (news ≡ None → entry_in (number_of asker.0) neighbours.old.entries ≡ None → 0 < neighbours.new.rings) }
     ensures solicitation { IfOk result (λ room. news ≡ None → entry_in (number_of asker.0) neighbours.old.entries ≡ None → is_some room.solicitation ≡ true) }
     ensures entries { neighbours.new.entries ≡ neighbours.old.entries }
@@ -174,7 +211,7 @@ fn make_room<A: Allocator + Clone>(
         None => ready_for(neighbours, asker, outs)?,
     };
     let answer = FrameRoom::new(outs.allocator().clone()?)?;
-    outs.reserve(MAX_WAITING + MOST_ROWS)?;
+    outs.reserve(MAX_WAITING + MOST_ROWS + most_told_of_way(speakers))?;
     Ok(AnswerRoom {
         answer,
         solicitation,

@@ -24,6 +24,7 @@ const MAX_RETRANS_TIMER: u32 = 30_000;
 /// What a node does on a link that isn't trusted, each where it is asked for.
 #[derive(Clone, Copy, Debug, PartialEq, Eq)]
 pub struct Policies {
+    speakers: bool,
     timers: bool,
     own: bool,
     unicast: bool,
@@ -34,9 +35,9 @@ impl Model for Policies {
 
     ghost Value = { Policies };
 
-    ghost view = { λ p. record { timers = p.timers; own = p.own; unicast = p.unicast } };
+    ghost view = { λ p. record { speakers = p.speakers; timers = p.timers; own = p.own; unicast = p.unicast } };
 
-    ghost inverse = { λ v. record { timers = v.timers; own = v.own; unicast = v.unicast } };
+    ghost inverse = { λ v. record { speakers = v.speakers; timers = v.timers; own = v.own; unicast = v.unicast } };
 }
 
 impl Policies {
@@ -45,9 +46,22 @@ impl Policies {
         ensures { result ≡ no_policies }
     {
         Policies {
+            speakers: false,
             timers: false,
             own: false,
             unicast: false,
+        }
+    }
+
+    /// Returns these policies with `speakers`, that what is known to live goes before what is only asked for (RFC 6583, section 7): where a message gives the
+    /// link-layer address of a new neighbour, and the Neighbor Cache is full without a STALE entry, the INCOMPLETE one fails that was asked for longest, instead
+    /// of a refusal; and the answer to a solicitation is no use of the asker's entry, so that solicitations alone fill a cache with entries that may go.
+    pub fn with_speakers(self) -> Policies
+        ensures { result ≡ record self { speakers = true } }
+    {
+        Policies {
+            speakers: true,
+            ..self
         }
     }
 
@@ -80,6 +94,13 @@ impl Policies {
             unicast: true,
             ..self
         }
+    }
+
+    /// Returns true if a neighbour that is only asked for gives way to one that speaks, by the policy `speakers`.
+    pub fn speakers(self) -> bool
+        ensures { result ≡ self.speakers }
+    {
+        self.speakers
     }
 
     /// Returns true if the numbers of an advertisement are read by the policy `timers`.

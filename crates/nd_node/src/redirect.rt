@@ -18,7 +18,9 @@ use nd_addr::Why;
 use nd_decode::Redirect;
 use nd_out::{Limit, Out, Refusal};
 use nd_packet::MAX_WAITING;
-use nd_steps::{has_place, hear_of_neighbour, is_via, news_of, times_in_force};
+use nd_steps::{
+    has_place, hear_giver, is_via, most_told_of_way, news_of, note_way, times_in_force,
+};
 use nd_validity::Heard;
 use rand_core::Rng;
 use std::alloc::{AllocError, Allocator};
@@ -72,30 +74,34 @@ impl<R: Rng + Drop, A: Allocator + Clone> Node<R, A> {
     {
         nd_neighbour::laws::none_overdue();
         nd_neighbour::laws::one_is_pushed_out();
+        nd_neighbour::laws::an_end_ends_once();
         let news = news_of(
             heard.source,
             &heard.message.body,
             heard.message.options,
             self.own_mac(),
         );
-        if !has_place(&self.neighbours, now, news) {
+        let speakers = self.policies.speakers();
+        if !has_place(&self.neighbours, now, news, speakers) {
             return self.refuse(now, Refusal::Full(Limit::Neighbours), outs);
         }
-        outs.reserve(MAX_WAITING + MOST_ROWS)?;
+        outs.reserve(MAX_WAITING + MOST_ROWS + most_told_of_way(speakers))?;
         // Section 8.3: the Destination Cache: "so that subsequent traffic will go to the specified target".
         self.choice
             .redirected(redirect.destination, redirect.target)?;
         self.report_heard(now, heard, outs);
         let times = times_in_force(&self.params);
         // Section 8.3: the target's link-layer address, and that it is a router if it is not the destination.
-        hear_of_neighbour(
+        let gone = hear_giver(
             &mut self.neighbours,
             &mut self.choice,
             now,
             news,
             times,
+            speakers,
             outs,
         );
+        note_way(&mut self.routers, &mut self.choice, gone);
         Ok(Answer::Done)
     }
 }

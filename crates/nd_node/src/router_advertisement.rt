@@ -1,6 +1,6 @@
 //! Handles a Router Advertisement (RFC 4861, section 6.3.4; RFC 4862, section 5.5.3; RFC 8106, section 6.1).
 
-ghost use Rattle.std.specs.Prelude.{◌≡◌, ◌∷◌, ◌≤◌, ◌<◌, ◌+◌, ◌-◌, true, Some, IsOk, OnErr, vec_len, vec_capacity, IfOk};
+ghost use Rattle.std.specs.Prelude.{◌≡◌, ◌∷◌, ◌≤◌, ◌<◌, ◌+◌, ◌-◌, if◌then◌else◌, true, Some, IsOk, OnErr, vec_len, vec_capacity, IfOk};
 ghost use Rattle.std.specs.Option.{option_map};
 ghost use Rattle.nd_decode.specs.Pieces.{options_left};
 ghost use Rattle.nd_decode.specs.declared.body.Body.TheVariants as bodies;
@@ -11,7 +11,9 @@ ghost use Rattle.nd_chronicle.specs.Histories.{said_of_neighbour};
 ghost use Rattle.nd_chronicle.specs.Full.{Fills};
 ghost use Rattle.nd_chronicle.specs.Happening.{Chronicle, Limit as Table, Passed, last_moment};
 ghost use Rattle.nd_chronicle.specs.Start.{Start};
-ghost use Rattle.nd_steps.specs.NeighbourCache.{said_by, HasPlace, told_for};
+ghost use Rattle.nd_steps.specs.GivingWay.{HasPlaceOrWay};
+ghost use Rattle.nd_steps.specs.NeighbourCache.{said_by, told_for};
+ghost use Rattle.nd_packet.specs.Waiting.{max_waiting};
 ghost use Rattle.nd_node.specs.RouterAdvertisement.{TakesAdvertisement};
 ghost use Rattle.nd_node.specs.Hearing.{AddsMessage, options_read};
 ghost use Rattle.nd_node.specs.Memory.{AddsNoName};
@@ -26,8 +28,8 @@ use nd_dns::NewNames;
 use nd_neighbour::{News, Times};
 use nd_out::{Out, Refusal};
 use nd_steps::{
-    has_place, hear_dns, hear_of_neighbour, hear_parameters, hear_prefix_options, hear_prefixes,
-    hear_router, keep_until_a_prefix_ends, news_of, tell_left, told_for,
+    has_place, hear_dns, hear_giver, hear_parameters, hear_prefix_options, hear_prefixes,
+    hear_router, keep_until_a_prefix_ends, most_told_of_way, news_of, tell_left, told_for,
 };
 use nd_validity::Heard;
 use rand_core::Rng;
@@ -53,13 +55,14 @@ impl<R: Rng + Drop, A: Allocator + Clone> Node<R, A> {
         requires moment { IsMoment now }
         requires settled { now < next_of self.old }
         requires room { HasRoom self.old now heard.now.source ra.now (options_left heard.now.message.options) true }
-        requires place { HasPlace self.old.neighbours.limit now news self.old.neighbours.entries }
+        requires place { HasPlaceOrWay self.old.policies.speakers self.old.neighbours.limit now news self.old.neighbours.entries }
         requires news { (times : Times) → option_map (said_by times) news ≡ said_of_neighbour heard.now.source (bodies.Ra ra.now) (options_read self.old heard.now.message.options) times.reachable }
         requires names { names ≡ new_names now (options_left heard.now.message.options) self.old.dns }
-        requires space { vec_len outs.old + told_for news self.old.neighbours.entries + 1 ≤ vec_capacity outs.old }
+        requires space { vec_len outs.old + (if self.old.policies.speakers then max_waiting + 1 else 0) + told_for news self.old.neighbours.entries + 1 ≤ vec_capacity outs.old }
         ensures { TakesAdvertisement R.stream self.old self.new outs.old.items outs.new.items now heard.now.source heard.now.destination ra.now (options_read self.old heard.now.message.options) }
     {
         nd_neighbour::laws::one_is_pushed_out();
+        nd_neighbour::laws::an_end_ends_once();
         nd_neighbour::laws::none_overdue();
         nd_slaac::laws::none_overdue();
         // RFC 4861, section 6.3.4: "If the received Cur Hop Limit value is non-zero, the host SHOULD set its CurHopLimit variable to the received
@@ -80,12 +83,13 @@ impl<R: Rng + Drop, A: Allocator + Clone> Node<R, A> {
         };
         // Section 6.3.4: "If the advertisement contains a Source Link-Layer Address option, the link-layer address SHOULD be recorded in the
         // Neighbor Cache entry for the router [..] and the IsRouter flag in the Neighbor Cache entry MUST be set to TRUE."
-        hear_of_neighbour(
+        let gone = hear_giver(
             &mut self.neighbours,
             &mut self.choice,
             now,
             news,
             times,
+            self.policies.speakers(),
             outs,
         );
         // Section 6.3.4, Router Lifetime: a router enters the list or is refreshed, and "if [..] the Router Lifetime value is zero, immediately
@@ -97,6 +101,7 @@ impl<R: Rng + Drop, A: Allocator + Clone> Node<R, A> {
             heard.source,
             ra.router_lifetime,
             ra.preference,
+            gone,
         );
         tell_left(outs, now, heard.source, times_out);
         // Section 6.3.4, "each Prefix Information option with the on-link flag set".
@@ -144,7 +149,8 @@ impl<R: Rng + Drop, A: Allocator + Clone> Node<R, A> {
     {
         let options = heard.message.options;
         let news = news_of(heard.source, &heard.message.body, options, self.own_mac());
-        let place = has_place(&self.neighbours, now, news);
+        let speakers = self.policies.speakers();
+        let place = has_place(&self.neighbours, now, news, speakers);
         let known = self.dns.only_refreshes_names(now, options);
         if let Some(limit) = self.first_full(now, heard.source, ra, options, place, known) {
             return self.refuse(now, Refusal::Full(limit), outs);
@@ -155,7 +161,7 @@ impl<R: Rng + Drop, A: Allocator + Clone> Node<R, A> {
             self.dns.new_names(now, options)?
         };
         let told = told_for(&self.neighbours, news);
-        outs.reserve(told + BESIDE_FRAMES)?;
+        outs.reserve(told + BESIDE_FRAMES + most_told_of_way(speakers))?;
         push_heard(outs, now, heard);
         self.take_router_advertisement(now, heard, ra, news, names, outs);
         Ok(Answer::Done)

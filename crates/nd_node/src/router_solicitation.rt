@@ -14,7 +14,7 @@ use crate::message::MOST_ROWS;
 use crate::node::Node;
 use nd_out::{Limit, Out, Refusal};
 use nd_packet::MAX_WAITING;
-use nd_steps::{has_place, hear_of_neighbour, news_of, times_in_force};
+use nd_steps::{has_place, hear_giver, most_told_of_way, news_of, note_way, times_in_force};
 use nd_validity::Heard;
 use rand_core::Rng;
 use std::alloc::{AllocError, Allocator};
@@ -41,27 +41,31 @@ impl<R: Rng + Drop, A: Allocator + Clone> Node<R, A> {
     {
         nd_neighbour::laws::none_overdue();
         nd_neighbour::laws::one_is_pushed_out();
+        nd_neighbour::laws::an_end_ends_once();
         let news = news_of(
             heard.source,
             &heard.message.body,
             heard.message.options,
             self.own_mac(),
         );
-        if !has_place(&self.neighbours, now, news) {
+        let speakers = self.policies.speakers();
+        if !has_place(&self.neighbours, now, news, speakers) {
             return self.refuse(now, Refusal::Full(Limit::Neighbours), outs);
         }
-        outs.reserve(MAX_WAITING + MOST_ROWS)?;
+        outs.reserve(MAX_WAITING + MOST_ROWS + most_told_of_way(speakers))?;
         self.report_heard(now, heard, outs);
         let times = times_in_force(&self.params);
         // Section 6.2.6: the sender's link-layer address, "the Neighbor Cache entry's IsRouter flag MUST be set to FALSE".
-        hear_of_neighbour(
+        let gone = hear_giver(
             &mut self.neighbours,
             &mut self.choice,
             now,
             news,
             times,
+            speakers,
             outs,
         );
+        note_way(&mut self.routers, &mut self.choice, gone);
         // Section 6.2.6: "A router MAY choose to unicast the response [..] but the usual case is to multicast the response".
         self.router
             .hear_solicitation(self.role, now, &mut self.generator);

@@ -7,6 +7,8 @@ pub mod Remembering
 pub mod Refreshed
 pub mod Saying
 pub mod Placing
+pub mod Failing
+pub mod GivingWay
 pub mod Ours
 pub mod Forming
 pub mod Measuring

@@ -1,5 +1,5 @@
 -- Whether there is a place for a neighbour, by what is kept and by what happened.
-use Rattle.std.proofs.Common.{◌≡◌, ℕ, Bool, true, false, List, Option, Some, None, refl, sym, subst}
+use Rattle.std.proofs.Common.{◌≡◌, ℕ, Bool, true, false, List, Option, Some, None, refl, sym}
 use Rattle.std.specs.Prelude.{◌||◌, ◌↔◌, is_some, MatchBool}
 use Rattle.nd_neighbour.specs.declared.news.News.{News}
 use Rattle.nd_neighbour.specs.declared.news.News.TheVariants as news
@@ -11,12 +11,7 @@ use Rattle.nd_neighbour.specs.Place.{WouldBeFull}
 use Rattle.nd_neighbour.specs.PlaceKept.{NoPlace, has_place}
 use Rattle.nd_neighbour.specs.RoomKept.{has_room}
 use Rattle.nd_neighbour.specs.TableKept.{Stands, entry_in}
-use Rattle.nd_chronicle.specs.Start.{Start}
-use Rattle.nd_chronicle.specs.Happening.{Chronicle}
-use Rattle.nd_chronicle.specs.Histories.{neighbour_history}
-use Rattle.nd_chronicle.specs.Full.{entering, Placed}
 use Rattle.nd_chronicle.specs.Message as message
-use Rattle.nd_steps.specs.NeighbourCache.{said_by, PlacedBy}
 
 -- laws of the neighbours
 abbrev pub FullByHistory : Type 0
@@ -42,8 +37,3 @@ pub enters : (n : News) (times : Times) → message.lets_enter (news_row n times
 enters (news.Given addr mac mark) times = refl
 enters (news.Advert addr flags mac) times = refl
 enters (news.Marked addr router) times = refl
-
-pub placed_with : (start : Start) (c : Chronicle) (now limit : ℕ) (n : News) (times : Times) (place : Bool) → limit ≡ start.limits.neighbours → PlacedBy limit now n (neighbour_history c) place
-    → Placed start c now (entering (Some (said_by times n))) place
-placed_with start c now limit n times place limit_is h =
-    rw (enters n times) (subst (λ (l : ℕ). PlacedBy l now n (neighbour_history c) place) limit_is h)

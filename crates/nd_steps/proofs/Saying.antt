@@ -73,7 +73,7 @@ pub record Others (c d : Chronicle) : Type 0 where
   pub last : (at : ℕ) → last_moment at d ≡ last_moment at c
   pub told : items d ≡ items c
 
-others_same : (c : Chronicle) → Others c c
+pub others_same : (c : Chronicle) → Others c c
 others_same c = record {
   parameters = refl;
   routers = refl;
@@ -89,7 +89,7 @@ others_same c = record {
   told = refl;
 }
 
-others_pushed : (now : ℕ) (pushed : Option ℕ) (c : Chronicle) → ((at : ℕ) → last_moment at c ≡ now) → Others c (with_pushed now pushed c)
+pub others_pushed : (now : ℕ) (pushed : Option ℕ) (c : Chronicle) → ((at : ℕ) → last_moment at c ≡ now) → Others c (with_pushed now pushed c)
 others_pushed now None c is = others_same c
 others_pushed now (Some key) c is = record {
   parameters = refl;
@@ -104,6 +104,23 @@ others_pushed now (Some key) c is = record {
   stream = λ start. refl;
   last = λ at. sym (is at);
   told = append-nil (items c);
+}
+
+-- one after the other
+pub others_then : {c d e : Chronicle} → Others c d → Others d e → Others c e
+others_then o p = record {
+  parameters = p.parameters ∙ o.parameters;
+  routers = p.routers ∙ o.routers;
+  prefixes = p.prefixes ∙ o.prefixes;
+  addresses = p.addresses ∙ o.addresses;
+  servers = p.servers ∙ o.servers;
+  names = p.names ∙ o.names;
+  redirects = p.redirects ∙ o.redirects;
+  solicited = p.solicited ∙ o.solicited;
+  router = λ start. p.router start ∙ o.router start;
+  stream = λ start. p.stream start ∙ o.stream start;
+  last = λ at. p.last at ∙ o.last at;
+  told = p.told ∙ o.told;
 }
 
 pub pushed_history : (now : ℕ) (pushed : Option ℕ) (c : Chronicle) → neighbour_history (with_pushed now pushed c) ≡ pushing now pushed (neighbour_history c)
@@ -147,15 +164,15 @@ OverdueByTable = (entries : List NeighbourEntry) (history : List Row) (now : ℕ
 abbrev pub NoneOverdueStill : Type 0
 NoneOverdueStill = (history : List Row) (now key : ℕ) (kind : RowKind) → dates.NoneOverdue history now → dates.NoneOverdue ((now, key, kind) ∷ history) now
 
-pushed_later : NoneOverdueStill → (now : ℕ) (pushed : Option ℕ) (history : List Row) → dates.NoneOverdue history now → dates.NoneOverdue (pushing now pushed history) now
+pub pushed_later : NoneOverdueStill → (now : ℕ) (pushed : Option ℕ) (history : List Row) → dates.NoneOverdue history now → dates.NoneOverdue (pushing now pushed history) now
 pushed_later still now None history h = h
 pushed_later still now (Some key) history h = still history now key (Forgot PushedOut) h
 
-said_later : NoneOverdueStill → (now : ℕ) (said : Option (ℕ × RowKind)) (history : List Row) → dates.NoneOverdue history now → dates.NoneOverdue (then_neighbour now said history) now
+pub said_later : NoneOverdueStill → (now : ℕ) (said : Option (ℕ × RowKind)) (history : List Row) → dates.NoneOverdue history now → dates.NoneOverdue (then_neighbour now said history) now
 said_later still now None history h = h
 said_later still now (Some said) history h = still history now said.0 said.1 h
 
-made_later : NoneOverdueStill → OneGoes → (limit now : ℕ) (said : Option (ℕ × RowKind)) (history made : List Row) → PreparesFor limit now said history made
+pub made_later : NoneOverdueStill → OneGoes → (limit now : ℕ) (said : Option (ℕ × RowKind)) (history made : List Row) → PreparesFor limit now said history made
     → dates.NoneOverdue history now → dates.NoneOverdue made now
 made_later still law limit now None history made is h = rw is h
 made_later still law limit now (Some said) history made place h =
@@ -223,7 +240,7 @@ telling_if_known_items at key (Some mac) true c = ap (λ l. items c ++ l) (sym (
 telling_if_known_items at key (Some mac) false c = sym (append-nil (items c))
 
 -- rows of a moment, one list behind the other
-items_of_both : (at : ℕ) (a b : List Happening) → flat_map items_at (at_moment at (a ++ b)) ≡ flat_map items_at (at_moment at a) ++ flat_map items_at (at_moment at b)
+pub items_of_both : (at : ℕ) (a b : List Happening) → flat_map items_at (at_moment at (a ++ b)) ≡ flat_map items_at (at_moment at a) ++ flat_map items_at (at_moment at b)
 items_of_both at a b = ap (flat_map items_at) (map-append (λ h. (at, h)) a b) ∙ flat_map-append items_at (at_moment at a) (at_moment at b)
 
 -- and is told by its frames, and by the address

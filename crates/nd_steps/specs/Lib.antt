@@ -2,6 +2,7 @@ pub mod Outputs
 pub mod Turned
 pub mod DueRows
 pub mod NeighbourCache
+pub mod GivingWay
 pub mod DefaultRouterList
 pub mod OwnAddresses
 pub mod Parameters

@@ -9,6 +9,8 @@ ghost use Rattle.nd_routers.specs.Routers.{same};
 ghost use Rattle.nd_routers.specs.RoutersKept.{IsSettled};
 ghost use Rattle.nd_nexthop.specs.History.{RedirectRow};
 ghost use Rattle.nd_steps.specs.DestinationCache.{AsListed, KeepsRoom, Recollects, Refreshes, Remembering};
+ghost use Rattle.std.specs.Option.{option_map};
+ghost use Rattle.nd_steps.specs.GivingWay.{with_router_gone, with_target_gone};
 ghost use Rattle.nd_steps.specs.DefaultRouterList.{with_left, with_gone, left_told, Leaves, Notes};
 ghost use Rattle.nd_addr.specs.declared.addr.Addr.{Addr};
 ghost use Rattle.nd_table.specs.Moment.{IsMoment};
@@ -21,6 +23,7 @@ ghost use Rattle.nd_routers.specs.RoutersKept as list;
 ghost use Rattle.nd_nexthop.specs.Choice as redirects;
 
 use crate::destination_cache::keep_if;
+use crate::giving_way::note_way;
 use nd_addr::{Addr, Preference};
 use nd_neighbour::Due;
 use nd_nexthop::Choice;
@@ -51,22 +54,23 @@ fn only_refreshes<A: Allocator>(
 }
 
 /// Takes a Router Advertisement's sender as a default router at `now`, in milliseconds, with its lifetime, in seconds, and its preference. There is
-/// room for it (RFC 4861, section 6.3.4; RFC 4191, section 2.2). Returns true if it timed out a router of the list; the redirects to that router
-/// end (section 6.3.5). Remembered next hops are forgotten, except if the router is only refreshed with the same preference.
-pub fn hear_router<A: Allocator>(
+/// room for it (RFC 4861, section 6.3.4; RFC 4191, section 2.2). The neighbour fails that gave way to the sender, if one did. Returns true if it timed out a
+/// router of the list; the redirects to that router end (section 6.3.5). Remembered next hops are forgotten, except if the router is only refreshed with the same preference.
+pub fn hear_router<A: Allocator + Clone>(
     routers: &mut Routers<A>,
     choice: &mut Choice<A>,
     now: u64,
     source: Addr,
     lifetime: u16,
     preference: Preference,
+    gone: Option<Addr>,
 ) -> bool
     requires moment { IsMoment now }
     requires settled { IsSettled routers.old.entries now }
     requires fits { fits same routers.old.limit now ((number_of source.0, lifetime) ∷ []) routers.old.entries ≡ true }
     ensures times_out { (history : List RouterRow) → list.Stands routers.old history → result ≡ ((lifetime == 0) && stands same (number_of source.0) (announcements history) now) }
-    ensures routers { (history : List RouterRow) → list.Stands routers.old history → list.Stands routers.new (with_left now result (number_of source.0) (Heard now (number_of source.0) lifetime preference ∷ history)) }
-    ensures redirects { (history : List RedirectRow) → redirects.Stands choice.old history → redirects.Stands choice.new (with_gone now result (number_of source.0) history) }
+    ensures routers { (history : List RouterRow) → list.Stands routers.old history → list.Stands routers.new (with_left now result (number_of source.0) (with_router_gone now (option_map (λ addr. number_of addr.0) gone) (Heard now (number_of source.0) lifetime preference ∷ history))) }
+    ensures redirects { (history : List RedirectRow) → redirects.Stands choice.old history → redirects.Stands choice.new (with_gone now result (number_of source.0) (with_target_gone now (option_map (λ addr. number_of addr.0) gone) history)) }
     ensures recollects { Recollects choice.old choice.new (AsListed choice.old choice.new routers.old routers.new) }
     ensures settled { IsSettled routers.new.entries now }
     ensures limit { routers.new.limit ≡ routers.old.limit }
@@ -76,6 +80,7 @@ pub fn hear_router<A: Allocator>(
     let refreshes = only_refreshes(routers, now, source, lifetime, preference);
     let _ = routers.take_ra(now, source, lifetime, preference);
     keep_if(choice, refreshes);
+    note_way(routers, choice, gone);
     if !times_out {
         return false;
     }

@@ -6,7 +6,8 @@ ghost use Rattle.nd_compose.specs.Frames.{detection_frame, resolution_frame, pro
 ghost use Rattle.nd_advertiser.specs.Contents.{contents_length};
 ghost use Rattle.nd_compose.specs.Room.{HasRoomFor};
 ghost use Rattle.nd_chronicle.specs.Due.{RouterAdvertises};
-ghost use Rattle.nd_chronicle.specs.Happening.{Lost, Sent};
+ghost use Rattle.nd_chronicle.specs.Happening.{Lost, Neighbour, Sent, Unreachable};
+ghost use Rattle.nd_neighbour.specs.History.{Failed, Forgot};
 ghost use Rattle.nd_out.specs.Out.{happening, loss_of};
 ghost use Rattle.nd_packet.specs.Waiting.{max_waiting};
 ghost use Rattle.nd_steps.specs.Turned.{what_of};
@@ -106,12 +107,30 @@ pub fn tell_lost<A: Allocator>(
 )
     requires { vec_len outs.old + length packets ≤ vec_capacity outs.old }
     ensures told { happenings outs.new.items ≡ happenings outs.old.items ++ at_moment at (map (λ packet. Lost (loss_of why) packet) packets) }
+    ensures len { vec_len outs.new ≤ vec_len outs.old + length packets }
     ensures capacity { vec_capacity outs.new ≡ vec_capacity outs.old }
 {
     let mut rest = packets;
     while let Some(packet) = rest.take() {
         outs.push_reserved((at, Out::Lost(why, packet)));
     }
+}
+
+/// Reports at `at`, in milliseconds, that a neighbour failed, and that the packets that waited for it are lost, the oldest first (RFC 4861, sections 7.2.2 and
+/// 7.3.3). It takes no memory: the caller has made room.
+pub(crate) fn tell_failure<A: Allocator>(
+    outs: &mut Vec<(u64, Out<A>), A>,
+    at: u64,
+    addr: Addr,
+    packets: Packets<A>,
+)
+    requires { vec_len outs.old + (length packets + 1) ≤ vec_capacity outs.old }
+    ensures told { happenings outs.new.items ≡ happenings outs.old.items ++ at_moment at (Neighbour (number_of addr.0) (Forgot Failed) ∷ map (λ packet. Lost Unreachable packet) packets) }
+    ensures len { vec_len outs.new ≤ vec_len outs.old + (length packets + 1) }
+    ensures capacity { vec_capacity outs.new ≡ vec_capacity outs.old }
+{
+    outs.push_reserved((at, Out::Failed(addr)));
+    tell_lost(outs, at, Loss::Unreachable, packets);
 }
 
 /// Reports a step that was due for a neighbour. Returns the room, unless a frame was written into it.
@@ -140,8 +159,7 @@ fn tell_neighbour<A: Allocator>(
         }
         nd_neighbour::Due::Failed(addr, packets) => {
             let _few = packets.len();
-            outs.push_reserved((at, Out::Failed(addr)));
-            tell_lost(outs, at, Loss::Unreachable, packets);
+            tell_failure(outs, at, addr, packets);
             Some(room)
         }
         nd_neighbour::Due::Aged(_) => Some(room),

@@ -1,7 +1,8 @@
 //! The steps that make up a node's events: what a step does to one of the conceptual data structures of RFC 4861, section 5.1, and what the node
 //! reports of it. nd_node says which steps an event takes, in which order, and what is refused; a table's crate says what the table is.
 //!
-//! - The conceptual data structures: `neighbour_cache`, with what a message says of a neighbour in `news`; `destination_cache`, with the tables that
+//! - The conceptual data structures: `neighbour_cache`, with what a message says of a neighbour in `news`, and the neighbour that gives way to it in
+//!   `giving_way`; `destination_cache`, with the tables that
 //!   next-hop determination asks in `next_hop`; `prefix_list`; `default_router_list`.
 //! - The rest of what a host keeps: `own_addresses`, `parameters`, `dns`, `solicit_routers`.
 //! - What only a router has: `router_tables`, and a packet in transit in `transit`.
@@ -16,6 +17,7 @@ mod destination_cache;
 mod dns;
 mod draws;
 mod due_rows;
+mod giving_way;
 mod neighbour_cache;
 mod news;
 mod next_hop;
@@ -35,6 +37,7 @@ pub use draws::{
     MAX_RTR_SOLICITATION_DELAY, answer_delay_drawn, drawn_from, interval_drawn, reachable_drawn,
 };
 pub use due_rows::{MOST_TOLD, tell, tell_advertisement, tell_lost};
+pub use giving_way::{hear_giver, most_told_of_way, note_way};
 pub use neighbour_cache::{
     has_place, hear_of_neighbour, note_use, note_wish, ready_for, ready_for_two, ready_for_wish,
     tell_packets, tell_use, tell_wish, told_for,
@@ -50,5 +53,5 @@ pub use parameters::{hear_parameters, redraw_reachable_time, times_in_force};
 pub use prefix_list::hear_prefixes;
 pub use router_tables::RouterTables;
 pub use solicit_routers::RouterSolicitations;
-pub use transit::{better_hop_frame, frame_as_it_came, frame_sent_on};
+pub use transit::{better_hop_frame, frame_as_it_came, frame_sent_on, known_mac};
 pub use turned::Turned;

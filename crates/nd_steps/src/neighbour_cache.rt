@@ -9,6 +9,8 @@ ghost use Rattle.nd_chronicle.specs.Start.{Start};
 ghost use Rattle.nd_chronicle.specs.Happening.{Chronicle, Sent, Forgotten, Lost, Resolved};
 ghost use Rattle.nd_chronicle.specs.Histories.{neighbour_history};
 ghost use Rattle.nd_chronicle.specs.Full.{entering, Placed};
+ghost use Rattle.nd_chronicle.specs.Message.{makes_way};
+ghost use Rattle.nd_steps.specs.GivingWay.{HasPlaceOrWay};
 ghost use Rattle.nd_steps.specs.NeighbourCache.{said_by, HasPlace, HasRoomFor, most_told, told_for, HearsOf, PlacedBy, rows_of_wish, told_of_packet, told_of_wish};
 ghost use Rattle.nd_addr.specs.Number.{number_of};
 ghost use Rattle.nd_addr.specs.Frame.{addressed};
@@ -20,6 +22,7 @@ ghost use Rattle.nd_neighbour.specs.View.{sending_of, wanting_of};
 ghost use Rattle.nd_nexthop.specs.Memo.{forgotten};
 
 use crate::destination_cache::keep_if;
+use crate::giving_way::has_way_with;
 use nd_addr::{Addr, Mac};
 use nd_compose::FrameRoom;
 use nd_neighbour::{Cache, News, Times, Use, Want};
@@ -30,7 +33,7 @@ use std::alloc::{AllocError, Allocator};
 
 /// Returns true if there is room at `now`, in milliseconds, for the neighbour of these news, in case they add it.
 fn has_place_with<A: Allocator>(neighbours: &Cache<A>, now: u64, news: &News) -> bool
-    ensures room { result ≡ true → HasPlace neighbours.now.limit now (Some news.now) neighbours.now.entries }
+    ensures room { result ≡ true → HasPlaceOrWay false neighbours.now.limit now (Some news.now) neighbours.now.entries }
     ensures placed { (history : List Row) → Stands neighbours.now.entries history → PlacedBy neighbours.now.limit now news.now history result }
 {
     nd_neighbour::laws::full_by_history();
@@ -41,12 +44,19 @@ fn has_place_with<A: Allocator>(neighbours: &Cache<A>, now: u64, news: &News) ->
     }
 }
 
-/// Returns true if there is room at `now`, in milliseconds, for the neighbour of these news, in case there are news and they add it.
-pub fn has_place<A: Allocator>(neighbours: &Cache<A>, now: u64, news: Option<News>) -> bool
-    ensures room { result ≡ true → HasPlace neighbours.now.limit now news neighbours.now.entries }
-    ensures placed { (start : Start) (c : Chronicle) (times : Times) → neighbours.now.limit ≡ start.limits.neighbours → Stands neighbours.now.entries (neighbour_history c) → Placed start c now (entering (option_map (said_by times) news)) result }
+/// Returns true if there is room at `now`, in milliseconds, for the neighbour of these news, in case there are news and they add it, or if `speakers` are let
+/// in and another one gives way to it.
+pub fn has_place<A: Allocator>(
+    neighbours: &Cache<A>,
+    now: u64,
+    news: Option<News>,
+    speakers: bool,
+) -> bool
+    ensures room { result ≡ true → HasPlaceOrWay speakers neighbours.now.limit now news neighbours.now.entries }
+    ensures placed { (start : Start) (c : Chronicle) (times : Times) → neighbours.now.limit ≡ start.limits.neighbours → speakers ≡ start.policies.speakers → Stands neighbours.now.entries (neighbour_history c) → Placed start c now (makes_way start (option_map (said_by times) news)) (entering (option_map (said_by times) news)) result }
 {
     match news {
+        Some(news) if speakers => has_way_with(neighbours, now, &news),
         Some(news) => has_place_with(neighbours, now, &news),
         None => true,
     }

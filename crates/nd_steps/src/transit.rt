@@ -70,7 +70,7 @@ pub fn frame_sent_on<A: Allocator>(
 }
 
 /// Returns the link-layer address of a neighbour, if it is known.
-fn known_mac<A: Allocator>(neighbours: &Cache<A>, addr: Addr) -> Option<Mac>
+pub fn known_mac<A: Allocator>(neighbours: &Cache<A>, addr: Addr) -> Option<Mac>
     ensures { result ≡ mac_in (entry_in (number_of addr.0) neighbours.now.entries) }
 {
     nd_addr::laws::addresses_are_told_by_numbers();

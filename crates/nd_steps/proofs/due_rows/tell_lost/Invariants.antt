@@ -8,6 +8,7 @@ use Rattle.nd_steps.proofs.due_rows.tell_lost.Given as goal
 abbrev pub invariant-loop-packet : goal.invariant-loop-packet
 invariant-loop-packet g l = record {
   room : vec_len l.outs + length l.rest ≤ vec_capacity l.outs;
+  len : vec_len l.outs + length l.rest ≤ vec_len l.fn.outs + length l.fn.packets;
   capacity : vec_capacity l.outs ≡ vec_capacity l.fn.outs;
   told : happenings l.outs.items ++ lost_at l.at (loss_of l.why) l.rest ≡ happenings l.fn.outs.items ++ lost_at l.fn.at (loss_of l.fn.why) l.fn.packets;
 }

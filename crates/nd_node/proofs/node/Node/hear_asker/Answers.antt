@@ -1,55 +1,84 @@
-use Rattle.std.proofs.Common.{ℕ, List, refl, sym, subst, ◌∙◌, ◌≡◌}
+use Rattle.std.proofs.Common.{◌∷◌, Some, true, false, refl, subst, ap, ◌∙◌}
+use Rattle.std.specs.Prelude.{Bool}
 use Rattle.std.specs.Option.{option_map}
 use Rattle.nd_addr.specs.Number.{number_of}
-use Rattle.nd_node.specs.Hearing.{options_read}
+use Rattle.nd_addr.specs.declared.addr.Addr.{Addr}
+use Rattle.nd_decode.specs.declared.body.Body.TheVariants as bodies
 use Rattle.nd_neighbour.specs.declared.news.Times.{Times}
-use Rattle.nd_neighbour.specs.EntryKept as neighbour_entries
-use Rattle.nd_steps.specs.NeighbourCache.{said_by, HearsOf}
-use Rattle.nd_steps.specs.DestinationCache.{MayRemember}
-use Rattle.nd_node.proofs.Recalling.{may_redirects}
-use Rattle.nd_node.proofs.Asking.{answered, of_asker, place_for_news, refused}
-use Rattle.nd_node.proofs.Refusals.{asker_full, room_left}
-use Rattle.std.specs.Prelude.{None, true}
-use Rattle.nd_neighbour.specs.RoomKept.{has_room}
+use Rattle.nd_chronicle.specs.Full.{Placed}
+use Rattle.nd_chronicle.specs.Happening.{Passed}
+use Rattle.nd_chronicle.specs.Message.{makes_way, said}
+use Rattle.nd_node.proofs.Detections.{solicitation}
+use Rattle.nd_chronicle.specs.Start.{Policies}
+use Rattle.nd_steps.specs.NeighbourCache.{said_by}
+use Rattle.nd_node.specs.Hearing.{options_read}
 use Rattle.nd_node.specs.declared.answer.Answer.TheVariants.{Refused}
 use Rattle.nd_out.specs.declared.out.Refusal.TheVariants.{Full}
 use Rattle.nd_out.specs.declared.out.Limit.TheVariants.{Neighbours}
+use Rattle.nd_node.proofs.Asking.{answered, of_asker, place_later, refused, solicitation_apart}
+use Rattle.nd_node.proofs.Givers.{takes_plainly}
+use Rattle.nd_node.proofs.Recalling.{may_redirects, room_kept, room_then}
+use Rattle.nd_node.proofs.Refusals.{asker_full}
+use Rattle.nd_chronicle.proofs.Events.{one_placed}
+use Rattle.std.proofs.lemmas.Bool.{true≢false}
 use Rattle.nd_node.proofs.Reporting.{answered as answered_so}
 use Rattle.nd_node.proofs.node.Node.hear_asker.Goals as goal
 
-pub returns-then-not-room-clause-adds : goal.returns-then-not-room-clause-adds
-returns-then-not-room-clause-adds g c =
-    answered_so c.refuse.result (Refused (Full Neighbours)) _ (refused g.R.Rng.stream c.args.self.now c.refuse.new.self c.args.outs.now.items c.refuse.new.outs.items c.args.now c.args.heard.now.source c.args.heard.now.destination c.args.ns.now (options_read c.args.self.now c.args.heard.now.message.options) c.requires.specified c.requires.settled
-    c.full_by_history.ensures (sym c.if-not-room.ensures.value)) c.refuse.ensures.adds c.refuse.ensures.answer
+pub has_place_for-requires : goal.has_place_for-requires
+has_place_for-requires g c =
+    let times : Times = record { retrans = 0; reachable = c.args.self.now.params.reachable_time } in
+    of_asker times c.args.heard.now.source c.args.ns.now (options_read c.args.self.now c.args.heard.now.message.options) c.news_of-news.result (rw (c.own_mac.ensures, c.requires.body) at (c.news_of-news.ensures times))
 
-pub hear_of_neighbour-requires-clause-place : goal.hear_of_neighbour-requires-clause-place
-hear_of_neighbour-requires-clause-place g c =
-    let times : Times = c.times_in_force-times.result in
-    let of = of_asker times c.args.heard.now.source c.args.ns.now (options_read c.args.self.now c.args.heard.now.message.options) c.news_of-news.result (rw (c.own_mac.ensures, c.requires.body) at (c.news_of-news.ensures times)) in
-    rw (c.report_heard.ensures.clock, c.make_room.ensures.limit, c.make_room.ensures.entries) (place_for_news c.room_is_place.ensures c.args.self.now.neighbours.limit c.args.now (number_of c.args.heard.now.source.0) c.args.self.now.neighbours.entries c.news_of-news.result of (sym c.if-not-room.ensures.value))
+pub returns-then-not-has_place_for-clause-adds : goal.returns-then-not-has_place_for-clause-adds
+returns-then-not-has_place_for-clause-adds g c =
+    let times : Times = record { retrans = 0; reachable = c.args.self.now.params.reachable_time } in
+    let key = number_of c.args.heard.now.source.0 in
+    let news = c.news_of-news.result in
+    answered_so c.refuse.result (Refused (Full Neighbours)) _ (refused g.R.Rng.stream c.args.self.now c.args.now c.args.heard.now.source c.args.heard.now.destination c.args.ns.now (options_read c.args.self.now c.args.heard.now.message.options) c.requires.specified c.requires.settled times news
+    (rw (c.own_mac.ensures, c.requires.body) at (c.news_of-news.ensures times)) refl c.refuse.new.self c.args.outs.now.items c.refuse.new.outs.items
+    (λ start c' s. subst (λ (b : Bool). Placed start c' c.args.now (makes_way start (option_map (said_by times) news)) (Some (key, true)) b) c.if-not-has_place_for.true
+    (c.has_place_for.ensures.placed start c' times s.limits.neighbours (c.speakers-speakers.ensures ∙ ap (λ (p : Policies). p.speakers) s.policies) s.neighbours))) c.refuse.ensures.adds c.refuse.ensures.answer
 
 pub returns-clause-adds : goal.returns-clause-adds
 returns-clause-adds g c =
+    let stream = g.R.Rng.stream in
+    let old = c.args.self.now in
+    let now = c.args.now in
+    let source = c.args.heard.now.source in
+    let destination = c.args.heard.now.destination in
+    let body = bodies.Ns c.args.ns.now in
+    let options = options_read old c.args.heard.now.message.options in
+    let key = number_of source.0 in
     let times : Times = c.times_in_force-times.result in
+    let news = c.news_of-news.result in
     let e = c.report_heard.ensures.clock in
-    let heard = c.hear_of_neighbour in
-    let hears = rw e at c.hear_of_neighbour.ensures in
-    let before = c.report_heard.new.outs.items in
-    let after = heard.new.outs.items in
-    answered g.R.Rng.stream c.args.self.now (record c.args.self.now { last = c.args.now; neighbours = heard.new.neighbours; choice = heard.new.choice }) c.args.outs.now.items c.make_room.new.outs.items before after
-    c.args.now c.args.heard.now.source c.args.heard.now.destination c.args.ns.now (options_read c.args.self.now c.args.heard.now.message.options) c.requires.settled times c.news_of-news.result heard.result _
-    c.none_overdue.ensures.still c.none_overdue.ensures.table c.one_is_pushed_out.ensures
-    (record { role = refl; mac = refl; chosen = refl; policies = refl; generator = refl; last = refl; params = refl; routers = refl; prefixes = refl; dns = refl; redirects = may_redirects c.args.self.now.choice heard.new.choice c.make_room.new.neighbours.entries heard.new.neighbours.entries hears.remembers; solicitations = refl; router = refl; address_mac = refl; address_transmits = refl; address_limit = refl; neighbour_limit = hears.limit ∙ c.make_room.ensures.limit; waiting = hears.waiting ∙ c.make_room.ensures.waiting })
-    refl (subst (λ (entries : List neighbour_entries.NeighbourEntry). MayRemember c.args.self.now.choice heard.new.choice entries heard.new.neighbours.entries) c.make_room.ensures.entries hears.remembers)
-    (rw (c.own_mac.ensures, c.requires.body) at (c.news_of-news.ensures times)) (rw e at c.times_in_force-times.ensures.reachable)
-    (subst (λ (limit : ℕ). HearsOf limit c.args.now (option_map (said_by times) c.news_of-news.result) c.args.self.now.neighbours.entries heard.new.neighbours.entries before after heard.result) c.make_room.ensures.limit
-    (subst (λ (entries : List neighbour_entries.NeighbourEntry). HearsOf c.make_room.new.neighbours.limit c.args.now (option_map (said_by times) c.news_of-news.result) entries heard.new.neighbours.entries before after heard.result) c.make_room.ensures.entries hears.hears))
-    c.make_room.ensures.same (rw c.requires.body at c.report_heard.ensures.items) refl
-    c.go.new.self c.go.new.outs.items c.requires.specified c.room_is_place.ensures c.full_by_history.ensures (sym c.if-not-room.ensures.value)
-    c.is_router-router.result (rw e at c.is_router-router.ensures) _ (rw e at c.answer-answer.ensures) (rw e at c.go.ensures.leads)
+    let room = c.make_room.ensures in
+    let heard = rw (e, room.limit, room.entries) at c.hear_giver-gone.ensures in
+    let second = c.hear_giver-gone.new.choice in
+    let entries = old.neighbours.entries in
+    let after = c.hear_giver-gone.new.neighbours.entries in
+    let mid = record old { last = now; neighbours = c.hear_giver-gone.new.neighbours; choice = c.note_way.new.choice; routers = c.note_way.new.routers } in
+    let news_is = rw (c.own_mac.ensures, c.requires.body) at (c.news_of-news.ensures times) in
+    let reachable_is = rw e at c.times_in_force-times.ensures.reachable in
+    let takes = takes_plainly stream old now source destination body options c.requires.settled times news news_is reachable_is c.hear_giver-gone.result mid second (option_map (λ (a : Addr). number_of a.0) c.hear_giver-gone.result)
+    c.args.outs.now.items c.make_room.new.outs.items c.report_heard.new.outs.items c.hear_giver-gone.new.outs.items _
+    c.none_overdue.ensures.still c.none_overdue.ensures.table c.one_is_pushed_out.ensures c.an_end_ends_once.ensures
+    (record { role = refl; mac = refl; chosen = refl; policies = refl; generator = refl; params = refl; prefixes = refl; dns = refl; solicitations = refl; router = refl; address_mac = refl; address_transmits = refl; address_limit = refl; neighbour_limit = heard.limit; waiting = rw (e, room.waiting) at c.hear_giver-gone.ensures.waiting; router_limit = rw e at c.note_way.ensures.limit; room = room_then old.choice second c.note_way.new.choice (room_kept old.choice second (may_redirects old.choice second entries after heard.remembers)) c.note_way.ensures.limits; last = refl })
+    (solicitation_apart now source destination c.args.ns.now options) (λ c'. refl)
+    (rw e at c.note_way.ensures.notes) (rw e at c.note_way.ensures.entries) refl (rw e at c.note_way.ensures.same) c.note_way.ensures.forgets heard.remembers
+    room.same (rw c.requires.body at c.report_heard.ensures.items) refl (λ history. refl) (rw c.speakers-speakers.ensures at heard.hears) in
+    answered stream old now source destination c.args.ns.now options c.requires.specified c.requires.settled times news news_is reachable_is mid c.reply.new.self _ c.args.outs.now.items c.hear_giver-gone.new.outs.items c.reply.new.outs.items
+    (λ start c' s. subst (λ (b : Bool). Placed start c' now (makes_way start (option_map (said_by times) news)) (Some (key, true)) b) c.if-not-has_place_for.false
+    (c.has_place_for.ensures.placed start c' times s.limits.neighbours (c.speakers-speakers.ensures ∙ ap (λ (p : Policies). p.speakers) s.policies) s.neighbours))
+    takes c.is_router-router.result (rw e at c.is_router-router.ensures) _ (rw e at c.answer-answer.ensures) (rw e at c.reply.ensures.leads)
 
 pub returns-in_err-room-clause-full : goal.returns-in_err-room-clause-full
 returns-in_err-room-clause-full g c = λ limit start c' s le fills place.
-    let has : has_room c.args.self.now.neighbours.limit c.args.now (number_of c.args.heard.now.source.0) None c.args.self.now.neighbours.entries ≡ true = sym c.if-not-room.ensures.value in
-    absurd (room_left g.R.Rng.stream start c.args.self.now c' c.args.now (number_of c.args.heard.now.source.0) c.room_is_place.ensures c.full_by_history.ensures s has
-    (asker_full start c.args.now c.args.heard.now.source (options_read c.args.self.now c.args.heard.now.message.options) _ limit c.args.ns.now c.requires.specified fills))
+    let times : Times = record { retrans = 0; reachable = c.args.self.now.params.reachable_time } in
+    let source = c.args.heard.now.source in
+    let options = options_read c.args.self.now c.args.heard.now.message.options in
+    let news = c.news_of-news.result in
+    let placed = place_later g.R.Rng.stream c.args.self.now c.args.now source c.args.heard.now.destination c.args.ns.now options c.requires.specified c.requires.settled times news (rw (c.own_mac.ensures, c.requires.body) at (c.news_of-news.ensures times)) refl start c' true s
+    (subst (λ (b : Bool). Placed start c' c.args.now (makes_way start (option_map (said_by times) news)) (Some (number_of source.0, true)) b) c.if-not-has_place_for.false
+    (c.has_place_for.ensures.placed start c' times s.limits.neighbours (c.speakers-speakers.ensures ∙ ap (λ (p : Policies). p.speakers) s.policies) s.neighbours)) in
+    absurd (true≢false (one_placed start ((c.args.now, Passed) ∷ c') c.args.now (makes_way start (said ((c.args.now, Passed) ∷ c') source (solicitation c.args.ns.now options))) (Some (number_of source.0, true)) true false placed (asker_full start c.args.now source options _ limit c.args.ns.now c.requires.specified fills)))

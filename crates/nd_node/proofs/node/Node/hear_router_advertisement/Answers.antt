@@ -22,10 +22,10 @@ returns-in-Some-clause-adds g c =
     let options = options_read c.args.self.now c.args.heard.now.message.options in
     answered c.refuse.result (Refused (Full c.in-Some.limit)) _ (refuses stream c.args.now c.args.heard.now.source c.args.heard.now.destination c.args.ra.now options c.args.self.now c.refuse.new.self c.args.outs.now.items c.refuse.new.outs.items (limit_of c.in-Some.limit)
     (λ start c' s le. subst (λ (limit : Option Limit). AdvertisementFills start c' c.args.now c.args.heard.now.source c.args.ra.now (advertised c.args.ra.now options) limit) (ap (option_map limit_of) c.in-Some.is)
-    (c.first_full.ensures.fills start c' s le (sender_placed stream c.args.now c.args.heard.now.source c.args.heard.now.destination c.args.ra.now options c.args.self.now c.news_of-news.result c.has_place-place.result (λ times. rw (c.own_mac.ensures, c.requires.body) at (c.news_of-news.ensures times)) c.has_place-place.ensures.placed start c' s)))) c.refuse.ensures.adds c.refuse.ensures.answer
+    (c.first_full.ensures.fills start c' s le (sender_placed stream c.args.now c.args.heard.now.source c.args.heard.now.destination c.args.ra.now options c.args.self.now c.news_of-news.result c.has_place-place.result (λ times. rw (c.own_mac.ensures, c.requires.body) at (c.news_of-news.ensures times)) (rw c.speakers-speakers.ensures at c.has_place-place.ensures.placed) start c' s)))) c.refuse.ensures.adds c.refuse.ensures.answer
 
 pub take_router_advertisement-requires-clause-place : goal.take_router_advertisement-requires-clause-place
-take_router_advertisement-requires-clause-place g c = c.has_place-place.ensures.room (c.first_full.ensures.room c.in_default.is).neighbours
+take_router_advertisement-requires-clause-place g c = (rw c.speakers-speakers.ensures at c.has_place-place.ensures.room) (c.first_full.ensures.room c.in_default.is).neighbours
 
 pub take_router_advertisement-requires-clause-news : goal.take_router_advertisement-requires-clause-news
 take_router_advertisement-requires-clause-news g c = λ times. rw (c.own_mac.ensures, c.requires.body) at (c.news_of-news.ensures times)
@@ -36,7 +36,7 @@ returns-clause-adds g c =
     let options = options_read c.args.self.now c.args.heard.now.message.options in
     takes stream c.args.now c.args.heard.now.source c.args.heard.now.destination c.args.ra.now options c.args.self.now _ c.args.outs.now.items c.reserve.new.self.items c.push_heard.new.outs.items c.take_router_advertisement.new.outs.items _ refl
     (λ start c' s le. subst (λ (limit : Option Limit). AdvertisementFills start c' c.args.now c.args.heard.now.source c.args.ra.now (advertised c.args.ra.now options) limit) (ap (option_map limit_of) c.in_default.is)
-    (c.first_full.ensures.fills start c' s le (sender_placed stream c.args.now c.args.heard.now.source c.args.heard.now.destination c.args.ra.now options c.args.self.now c.news_of-news.result c.has_place-place.result (λ times. rw (c.own_mac.ensures, c.requires.body) at (c.news_of-news.ensures times)) c.has_place-place.ensures.placed start c' s)))
+    (c.first_full.ensures.fills start c' s le (sender_placed stream c.args.now c.args.heard.now.source c.args.heard.now.destination c.args.ra.now options c.args.self.now c.news_of-news.result c.has_place-place.result (λ times. rw (c.own_mac.ensures, c.requires.body) at (c.news_of-news.ensures times)) (rw c.speakers-speakers.ensures at c.has_place-place.ensures.placed) start c' s)))
     c.in_ok-reserve.ensures.items (rw c.requires.body at c.push_heard.ensures.items)
     c.take_router_advertisement.ensures
 
@@ -44,7 +44,8 @@ pub returns-in_err-reserve-clause-quiet : goal.returns-in_err-reserve-clause-qui
 returns-in_err-reserve-clause-quiet g c = λ adds.
     let options = options_read c.args.self.now c.args.heard.now.message.options in
     let waits = told_of_sender (record { retrans = 0; reachable = 0 }) (number_of c.args.heard.now.source.0) (first_slla options) c.news_of-news.result c.args.self.now.neighbours.entries (rw (c.own_mac.ensures, c.requires.body) at (c.news_of-news.ensures (record { retrans = 0; reachable = 0 }))) in
-    absurd (omega (arith, adds.told, waits, c.told_for-told.ensures.value, c.in_err-reserve.ensures.full))
+    let way = rw c.speakers-speakers.ensures at c.most_told_of_way.ensures in
+    absurd (omega (arith, adds.told, waits, way, c.told_for-told.ensures.value, c.in_err-reserve.ensures.full))
 
 pub returns-in_err-names-clause-quiet : goal.returns-in_err-names-clause-quiet
 returns-in_err-names-clause-quiet g c = λ adds. let refused = c.in_err-names.ensures.quiet adds.names in let no : ⊥ = cc in absurd no
@@ -53,12 +54,12 @@ pub returns-in_err-names-clause-full : goal.returns-in_err-names-clause-full
 returns-in_err-names-clause-full g c = λ limit start c' s le fills place.
     let options = options_read c.args.self.now c.args.heard.now.message.options in
     let none = subst (λ (limit' : Option Limit). AdvertisementFills start c' c.args.now c.args.heard.now.source c.args.ra.now (advertised c.args.ra.now options) limit') (ap (option_map limit_of) c.in_default.is)
-    (c.first_full.ensures.fills start c' s le (sender_placed g.R.Rng.stream c.args.now c.args.heard.now.source c.args.heard.now.destination c.args.ra.now options c.args.self.now c.news_of-news.result c.has_place-place.result (λ times. rw (c.own_mac.ensures, c.requires.body) at (c.news_of-news.ensures times)) c.has_place-place.ensures.placed start c' s)) in
+    (c.first_full.ensures.fills start c' s le (sender_placed g.R.Rng.stream c.args.now c.args.heard.now.source c.args.heard.now.destination c.args.ra.now options c.args.self.now c.news_of-news.result c.has_place-place.result (λ times. rw (c.own_mac.ensures, c.requires.body) at (c.news_of-news.ensures times)) (rw c.speakers-speakers.ensures at c.has_place-place.ensures.placed) start c' s)) in
     absurd (router_advertisement_left start c.args.now c.args.heard.now.source options ((c.args.now, Passed) ∷ c') limit c.args.ra.now c' refl none fills)
 
 pub returns-in_err-reserve-clause-full : goal.returns-in_err-reserve-clause-full
 returns-in_err-reserve-clause-full g c = λ limit start c' s le fills place.
     let options = options_read c.args.self.now c.args.heard.now.message.options in
     let none = subst (λ (limit' : Option Limit). AdvertisementFills start c' c.args.now c.args.heard.now.source c.args.ra.now (advertised c.args.ra.now options) limit') (ap (option_map limit_of) c.in_default.is)
-    (c.first_full.ensures.fills start c' s le (sender_placed g.R.Rng.stream c.args.now c.args.heard.now.source c.args.heard.now.destination c.args.ra.now options c.args.self.now c.news_of-news.result c.has_place-place.result (λ times. rw (c.own_mac.ensures, c.requires.body) at (c.news_of-news.ensures times)) c.has_place-place.ensures.placed start c' s)) in
+    (c.first_full.ensures.fills start c' s le (sender_placed g.R.Rng.stream c.args.now c.args.heard.now.source c.args.heard.now.destination c.args.ra.now options c.args.self.now c.news_of-news.result c.has_place-place.result (λ times. rw (c.own_mac.ensures, c.requires.body) at (c.news_of-news.ensures times)) (rw c.speakers-speakers.ensures at c.has_place-place.ensures.placed) start c' s)) in
     absurd (router_advertisement_left start c.args.now c.args.heard.now.source options ((c.args.now, Passed) ∷ c') limit c.args.ra.now c' refl none fills)

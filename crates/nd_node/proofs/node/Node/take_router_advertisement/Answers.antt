@@ -2,7 +2,10 @@ use Rattle.std.proofs.Common.{refl, subst, ◌∙◌}
 use Rattle.std.specs.Prelude.{Option, ℕ}
 use Rattle.nd_neighbour.specs.History.{RowKind}
 use Rattle.nd_decode.specs.Pieces.{options_left}
-use Rattle.nd_steps.specs.NeighbourCache.{HearsOf}
+use Rattle.std.specs.Option.{option_map}
+use Rattle.nd_addr.specs.Number.{number_of}
+use Rattle.nd_addr.specs.declared.addr.Addr.{Addr}
+use Rattle.nd_steps.specs.GivingWay.{HearsGiver}
 use Rattle.nd_chronicle.proofs.Reading.{mtu_as_said}
 use Rattle.nd_node.specs.Hearing.{options_read}
 use Rattle.nd_node.proofs.AsRead.{dns_stands, forms_as_read, hears_as_read, links_stand, none_formed_as_read}
@@ -16,11 +19,13 @@ returns g c =
     let policies = c.args.self.now.policies in
     let mac = c.args.self.now.mac in
     let stream = g.R.Rng.stream in
+    let gone = option_map (λ (a : Addr). number_of a.0) c.hear_giver-gone.result in
     rw c.advance_to.ensures (takes_advertisement g.R.Rng.stream c.args.self.now _ c.args.outs.now.items _ c.args.now c.args.heard.now.source c.args.heard.now.destination c.args.ra.now (options_read c.args.self.now c.args.heard.now.message.options)
     (record {
       one_goes = c.one_is_pushed_out.ensures;
       neighbours_overdue = c.none_overdue.ensures.table;
       neighbours_still = c.none_overdue.ensures.still;
+      once = c.an_end_ends_once.ensures;
       addresses_overdue = c.none_overdue-2.ensures.table;
       addresses_still = c.none_overdue-2.ensures.still;
     })
@@ -36,20 +41,21 @@ returns g c =
       router = refl;
       solicitations = c.heard_router.ensures;
       between = _;
-      ends = _;
-      neighbours = subst (λ (said : Option (ℕ × RowKind)). HearsOf c.args.self.now.neighbours.limit c.args.now said c.args.self.now.neighbours.entries c.hear_of_neighbour.new.neighbours.entries c.args.outs.now.items c.hear_of_neighbour.new.outs.items c.hear_of_neighbour.result) (c.requires.news _) c.hear_of_neighbour.ensures.hears;
-      neighbour_limit = c.hear_of_neighbour.ensures.limit;
-      waiting = c.hear_of_neighbour.ensures.waiting;
+      gone = gone;
+      neighbours = subst (λ (said : Option (ℕ × RowKind)). HearsGiver policies.speakers c.args.self.now.neighbours.limit c.args.now said c.args.self.now.neighbours.entries c.hear_giver-gone.new.neighbours.entries c.args.outs.now.items c.hear_giver-gone.new.outs.items gone) (c.requires.news _)
+          (rw c.speakers.ensures at c.hear_giver-gone.ensures.hears);
+      neighbour_limit = c.hear_giver-gone.ensures.limit;
+      waiting = c.hear_giver-gone.ensures.waiting;
       left_list = _;
       times_out = c.hear_router-times_out.ensures.times_out;
       routers = c.hear_router-times_out.ensures.routers;
       redirects = λ history s.
           redirects_stand c.hear_router-times_out.new.choice c.keep_until_a_prefix_ends.new.choice _ (c.keep_until_a_prefix_ends.ensures.redirects ∙ c.hear_prefixes.ensures.redirects) (c.hear_router-times_out.ensures.redirects history
-          (redirects_stand c.args.self.now.choice c.hear_of_neighbour.new.choice history (may_redirects c.args.self.now.choice c.hear_of_neighbour.new.choice c.args.self.now.neighbours.entries c.hear_of_neighbour.new.neighbours.entries c.hear_of_neighbour.ensures.remembers) s));
-      first = c.hear_of_neighbour.new.choice;
+          (redirects_stand c.args.self.now.choice c.hear_giver-gone.new.choice history (may_redirects c.args.self.now.choice c.hear_giver-gone.new.choice c.args.self.now.neighbours.entries c.hear_giver-gone.new.neighbours.entries c.hear_giver-gone.ensures.remembers) s));
+      first = c.hear_giver-gone.new.choice;
       second = c.hear_router-times_out.new.choice;
       third = c.hear_prefixes.new.choice;
-      may = c.hear_of_neighbour.ensures.remembers;
+      may = c.hear_giver-gone.ensures.remembers;
       listed = c.hear_router-times_out.ensures.recollects;
       linked = c.hear_prefixes.ensures.recollects;
       redirects_third = c.hear_prefixes.ensures.redirects;
@@ -63,7 +69,7 @@ returns g c =
       prefix_limit = c.hear_prefixes.ensures.limit;
       server_limit = c.hear_dns.ensures.server_limit;
       name_limit = c.hear_dns.ensures.name_limit;
-      room = room_then _ _ _ (room_kept _ _ (may_redirects c.args.self.now.choice c.hear_of_neighbour.new.choice c.args.self.now.neighbours.entries c.hear_of_neighbour.new.neighbours.entries c.hear_of_neighbour.ensures.remembers))
+      room = room_then _ _ _ (room_kept _ _ (may_redirects c.args.self.now.choice c.hear_giver-gone.new.choice c.args.self.now.neighbours.entries c.hear_giver-gone.new.neighbours.entries c.hear_giver-gone.ensures.remembers))
           (room_then _ _ _ c.hear_router-times_out.ensures.limits (room_kept c.hear_router-times_out.new.choice c.keep_until_a_prefix_ends.new.choice (c.keep_until_a_prefix_ends.ensures.redirects ∙ c.hear_prefixes.ensures.redirects)));
       left_is_told = c.tell_left.ensures;
       prefixes = λ history le s. links_stand policies mac said c.args.now c.hear_prefixes.new.prefixes.entries history (c.hear_prefixes.ensures.stands history le s);

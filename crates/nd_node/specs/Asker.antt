@@ -1,0 +1,8 @@
+-- The asker of a solicitation.
+use Rattle.std.specs.Prelude.{◌≡◌, ℕ, true, IfSome, Option}
+use Rattle.nd_neighbour.specs.declared.news.News.{News}
+use Rattle.nd_neighbour.specs.News.{lets_enter, news_key}
+
+-- what a solicitation says is said of the asker, and lets it enter
+abbrev pub IsOfAsker : ℕ → Option News → Type 0
+IsOfAsker key news = IfSome news (λ n. (news_key n ≡ key) × (lets_enter n ≡ true))
