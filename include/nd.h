@@ -257,6 +257,12 @@ enum nd_draws {
 
 /* What a node does on a link that is not trusted, each where it is asked for. */
 enum nd_policy {
+    /* What is known to live goes before what is only asked for. Where a message gives the
+     * link-layer address of a new neighbour, the cache is full, and none is STALE, the INCOMPLETE
+     * neighbour that was asked for longest fails (ND_OUT_FAILED) instead of a refusal. The answer
+     * to a solicitation is no use of the asker's entry, which stays STALE and may go. */
+    ND_POLICY_SPEAKERS = 2,
+
     /* Of a Router Advertisement, a Cur Hop Limit below 32, a Reachable Time outside 1,000 to
      * 3,600,000 ms and a Retrans Timer outside 100 to 30,000 ms are read as 0, unspecified. */
     ND_POLICY_TIMERS = 4,

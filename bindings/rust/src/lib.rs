@@ -78,6 +78,9 @@ pub enum Draws {
 /// What a node does on a link that isn't trusted, each where it is asked for.
 #[derive(Clone, Copy, Debug, Default, PartialEq, Eq)]
 pub struct Policies {
+    /// Where a message gives the link-layer address of a new neighbour, the cache is full, and none is STALE, the INCOMPLETE neighbour that was asked for
+    /// longest fails instead of a refusal, and the answer to a solicitation is no use of the asker's entry (RFC 6583, 7).
+    pub speakers: bool,
     /// Of a Router Advertisement, a Cur Hop Limit below 32, a Reachable Time outside 1,000 to 3,600,000 ms and a Retrans Timer outside 100 to 30,000 ms are
     /// read as 0, unspecified (RFC 4861, 4.2).
     pub timers: bool,
@@ -91,7 +94,7 @@ pub struct Policies {
 
 impl Policies {
     fn bits(self) -> u32 {
-        u32::from(self.timers) << 2 | u32::from(self.own) << 3 | u32::from(self.unicast) << 4
+        u32::from(self.speakers) << 1 | u32::from(self.timers) << 2 | u32::from(self.own) << 3 | u32::from(self.unicast) << 4
     }
 }
 

@@ -22,6 +22,9 @@ pub const DRAWS_SEED: u8 = 0;
 /// Each random word is `seed`.
 pub const DRAWS_WORD: u8 = 1;
 
+/// A neighbour that is only asked for gives way to one that speaks.
+pub const POLICY_SPEAKERS: u32 = 2;
+
 /// Numbers of an advertisement that are outside their ranges say nothing.
 pub const POLICY_TIMERS: u32 = 4;
 

@@ -8,7 +8,8 @@ ghost use Rattle.nd_c_types.specs.Options.{are_draws, are_policies, draws_in, is
 
 use crate::bytes::{byte_at, u32_at, u64_at};
 use crate::header::{
-    DRAWS_SEED, DRAWS_WORD, MOMENT_LIMIT, POLICY_SELF, POLICY_TIMERS, POLICY_UNICAST,
+    DRAWS_SEED, DRAWS_WORD, MOMENT_LIMIT, POLICY_SELF, POLICY_SPEAKERS, POLICY_TIMERS,
+    POLICY_UNICAST,
 };
 use crate::limits::Limits;
 use crate::role::role_of;
@@ -176,7 +177,7 @@ fn are_draws(draws: u8, seed: u64) -> bool
 fn are_policies(bits: u32) -> bool
     ensures { result ≡ are_policies bits }
 {
-    bits & !(POLICY_TIMERS | POLICY_SELF | POLICY_UNICAST) == 0
+    bits & !(POLICY_SPEAKERS | POLICY_TIMERS | POLICY_SELF | POLICY_UNICAST) == 0
 }
 
 /// Returns the policies whose bits are set.
@@ -184,10 +185,15 @@ fn policies_of(bits: u32) -> Policies
     ensures { result ≡ policies_in bits }
 {
     let none = Policies::none();
-    let timers = if bits & POLICY_TIMERS == 0 {
+    let speakers = if bits & POLICY_SPEAKERS == 0 {
         none
     } else {
-        none.with_timers()
+        none.with_speakers()
+    };
+    let timers = if bits & POLICY_TIMERS == 0 {
+        speakers
+    } else {
+        speakers.with_timers()
     };
     let own = if bits & POLICY_SELF == 0 {
         timers

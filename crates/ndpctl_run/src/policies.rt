@@ -10,6 +10,7 @@ fn with_named(word: &str, policies: Policies) -> Option<Policies>
     ensures { result ≡ with_named word.now (Some policies) }
 {
     match word {
+        "speakers" if !policies.speakers() => Some(policies.with_speakers()),
         "timers" if !policies.timers() => Some(policies.with_timers()),
         "self" if !policies.own() => Some(policies.with_own()),
         "unicast" if !policies.unicast() => Some(policies.with_unicast()),

@@ -208,8 +208,15 @@ fn expect_limit(rt: &(impl Abort + AllocGlobal), place: usize, option: &str, num
 /// Words that are parted by commas, each at most once, in any order.
 #[test]
 fn policies_are_named_once(rt: HostRuntime) {
-    let all = Policies::none().with_timers().with_own().with_unicast();
-    for value in ["timers,self,unicast", "unicast,timers,self"] {
+    let all = Policies::none()
+        .with_speakers()
+        .with_timers()
+        .with_own()
+        .with_unicast();
+    for value in [
+        "speakers,timers,self,unicast",
+        "unicast,timers,speakers,self",
+    ] {
         let read = options(&rt, &run_with("--policy", value));
         assert!(rt; read.policies == all);
     }
@@ -221,6 +228,7 @@ fn policies_are_named_once(rt: HostRuntime) {
         "timers,timers",
         "timers unicast",
         "unicast,self,unicast",
+        "speakers,speakers",
     ] {
         assert_eq!(rt; refused(&rt, &run_with("--policy", value)), "policy");
     }
