@@ -342,7 +342,19 @@ def check_tests(room, archive):
         check_beside_ndpctl(trace)
     with timed("hostile input"):
         check_hostile(room, archive, build, trace)
+    with timed("floods"):
+        check_floods(room, archive)
     build(room, "measure", [f"{TESTS}/measure.c", HEAP, archive])
+
+
+def check_floods(room, archive):
+    """Floods the link of a node, with the policy `speakers` and without it."""
+    flooded = build(room, "flooded", [f"{TESTS}/flooded.c", HEAP, archive])
+    for neighbours in ("512", "2048") if flooded else ():
+        for policies in ("0", "2"):
+            said = run([flooded, neighbours, policies])
+            report(f"flooded: {neighbours} neighbours, policies {policies}", said)
+            print(said.stdout + said.stderr, end="")
 
 
 def check_leases(room, archive):
