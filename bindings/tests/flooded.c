@@ -2,14 +2,14 @@
  * keeps, and the policies, a sum of `enum nd_policy`.
  *   busy: a host sends a packet to one of 100 neighbours every 10 ms, each of which answers its solicitations at once, while it hears 10,000
  * solicitations a second, each from an address that no node has. Counts the packets that arrived, and that were lost or refused.
- *   scan: a router sends on 1,000 packets a second, each to an address on its link that no host has, while six hosts that are new on the link solicit it
- * once a second. Counts the solicitations that it answered.
+ *   scan: a router sends on 1,000 packets a second, each to an address on its link that no host has. After ten seconds six hosts are new on the link, and
+ * solicit it once a second. Counts the solicitations that it answered.
  * The lines are these counts, and the processor time of a solicitation and of a packet. */
 #include <time.h>
 
 #include "spelled.h"
 
-enum { SECONDS = 40, BUSY = 100, SOLICITATIONS_A_MS = 10, HOSTS = 6, SOLICITATION = 135, ADVERTISEMENT = 136, OPENED_AT = 2000, LONGEST_RECORD = 2048 };
+enum { SECONDS = 40, BUSY = 100, SOLICITATIONS_A_MS = 10, HOSTS = 6, HOSTS_FROM = 10000, SOLICITATION = 135, ADVERTISEMENT = 136, OPENED_AT = 2000, LONGEST_RECORD = 2048 };
 
 static const nd_addr PREFIX = {{0x20, 1, 0xd, 0xb8}};
 static const nd_addr FAR = {{0x20, 1, 0xd, 0xb8, 0, 1, [15] = 1}};
@@ -160,7 +160,7 @@ static void scan(uint16_t neighbours, uint32_t policies)
         memcpy(bytes, MAC.bytes, sizeof MAC.bytes);
         require(nd_receive(&node, now, bytes, length) >= 0, "a packet is received");
         take(3);
-        if (now % 1000 >= HOSTS)
+        if (now < OPENED_AT + HOSTS_FROM || now % 1000 >= HOSTS)
             continue;
         solicit(3, now % 1000);
         asked++;
