@@ -446,7 +446,7 @@ typedef struct nd_next_hop_row {
  * nd_send, or nd_resolve. */
 int32_t nd_next_hop(nd_node *node, uint64_t now, const nd_addr *destination, nd_next_hop_row *row);
 
-typedef struct nd_path { /* a field is 0 where the status does not have it */
+typedef struct nd_path { /* a field is 0 where the status does not have it, but for `until` */
     uint64_t until;      /* DONE: the end of the lease; else `now` */
     uint64_t version;    /* DONE: nd_lease_version of the lease; else 0 */
     nd_addr next_hop;    /* DONE, WAITING: the destination, or the router */
@@ -455,7 +455,7 @@ typedef struct nd_path { /* a field is 0 where the status does not have it */
     uint8_t reserved;
     uint32_t hop;        /* DONE, WAITING: enum nd_hop */
     uint32_t state;      /* DONE, WAITING: enum nd_reachability of the next hop; 0 where it is
-                            multicast, or where something is due at `now` again */
+                            multicast, or where the call left something due at `now` */
     uint32_t refusal;    /* REFUSED: enum nd_refusal */
     uint32_t limit;      /* enum nd_limit, of ND_REFUSAL_FULL; else 0 */
 } nd_path;
@@ -468,13 +468,17 @@ typedef struct nd_path { /* a field is 0 where the status does not have it */
  *   ND_DONE        Send to `path->mac`: the next hop's, or that of a multicast destination, 33:33
  *                  and its last four bytes (RFC 2464, 7).
  *   ND_WAITING     Keep the packets until a record says ND_OUT_RESOLVED or ND_OUT_FAILED with
- *                  `address` the next hop, and ask again after ND_OUT_RESOLVED. One of them comes
- *                  unless nd_forget or nd_clear removes the neighbour, or a new one evicts it.
- *                  Asking before adds nothing.
- *   ND_NOTHING     There is no next hop, `path` has zeros. So it is for the node's own addresses.
+ *                  `address` the next hop, and ask again after ND_OUT_RESOLVED; after ND_OUT_FAILED
+ *                  drop them, each with an ICMPv6 error of your own (RFC 4861, 7.2.2). One of them
+ *                  comes unless nd_forget or nd_clear removes the neighbour. To ask again before is
+ *                  no further use of the neighbour.
+ *   ND_NOTHING     There is no next hop, as for the node's own addresses. `path` has zeros, but for
+ *                  `until`.
  *   ND_REFUSED     ND_REFUSAL_DISABLED, _TENTATIVE (the link-local address is not assigned yet), or
- *                  _FULL. `path->refusal` and `path->limit` say it; there is no ND_OUT_REFUSED.
- * With any other status `path` is unchanged.
+ *                  _FULL. `path->refusal` and `path->limit` say it; there is no ND_OUT_REFUSED. Ask
+ *                  again when a record says ND_OUT_ASSIGNED, or for the next packet.
+ * With any other status `path` is unchanged. The caller writes the whole frame, its link-layer
+ * addresses included, and keeps to the MTU; it may ask between two calls of nd_poll.
  * The lease: after ND_DONE packets to `destination` may be sent to `path->mac` without a call while
  *     now < path->until && path->version == version
  * where `version` is nd_lease_version after the last call. Such a packet leaves the node as it would

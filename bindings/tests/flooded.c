@@ -1,15 +1,16 @@
-/* flooded: what a node does while its link is flooded, with the policy `speakers` and without it. The arguments are the number of neighbours that its cache
- * keeps, and the policies, a sum of `enum nd_policy`.
+/* flooded: what a node does while its link is flooded, with the policy `speakers` and without it. The arguments are the number of neighbours that its
+ * cache keeps, and the policies, a sum of `enum nd_policy`.
  *   busy: a host sends a packet to one of 100 neighbours every 10 ms, each of which answers its solicitations at once, while it hears 10,000
- * solicitations a second, each from an address that no node has. Counts the packets that arrived, and that were lost or refused.
- *   scan: a router sends on 1,000 packets a second, each to an address on its link that no host has. After ten seconds six hosts are new on the link, and
- * solicit it once a second. Counts the solicitations that it answered.
+ * solicitations a second, each from an address that no node has. Counts the packets that arrived, and those that were lost.
+ *   scan: a router sends on 1,000 packets a second, each to an address on its link that no host has. After ten seconds six hosts are new on the
+ * link, and solicit it once a second. Counts the solicitations that it answered.
  * The lines are these counts, and the processor time of a solicitation and of a packet. */
 #include <time.h>
 
 #include "spelled.h"
 
-enum { SECONDS = 40, BUSY = 100, SOLICITATIONS_A_MS = 10, HOSTS = 6, HOSTS_FROM = 10000, SOLICITATION = 135, ADVERTISEMENT = 136, OPENED_AT = 2000, LONGEST_RECORD = 2048 };
+enum { SECONDS = 40, BUSY = 100, SOLICITATIONS_A_MS = 10, HOSTS = 6, HOSTS_FROM = 10000, OPENED_AT = 2000 };
+enum { SOLICITATION = 135, ADVERTISEMENT = 136, LONGEST_RECORD = 2048 };
 
 static const nd_addr PREFIX = {{0x20, 1, 0xd, 0xb8}};
 static const nd_addr FAR = {{0x20, 1, 0xd, 0xb8, 0, 1, [15] = 1}};
@@ -17,8 +18,8 @@ static const nd_addr FAR = {{0x20, 1, 0xd, 0xb8, 0, 1, [15] = 1}};
 static nd_node node = ND_NODE_INIT;
 static uint64_t now;
 
-/* Of the node's frames and records: data frames, advertisements, packets that were lost, calls that were refused. */
-static size_t packets, advertisements, losses, refusals;
+/* Of the node's frames and records: data frames, advertisements, packets that were lost. */
+static size_t packets, advertisements, losses;
 
 static struct timespec begun;
 
@@ -84,7 +85,6 @@ static void take(uint8_t kind)
     while (nd_poll(&node, &out, buffer, sizeof buffer) == ND_DONE) {
         bool is_message = out.kind == ND_OUT_FRAME && buffer[20] == ICMP;
         losses += out.kind == ND_OUT_LOST;
-        refusals += out.kind == ND_OUT_REFUSED;
         packets += out.kind == ND_OUT_FRAME && buffer[20] == UDP;
         advertisements += is_message && buffer[HEADERS] == ADVERTISEMENT;
         if (!is_message || buffer[HEADERS] != SOLICITATION)
@@ -103,7 +103,7 @@ static void open_node(uint32_t role, uint16_t neighbours, uint32_t policies)
     options.policies = policies;
     require(nd_open(&node, &options, sizeof options) == ND_DONE, "a node is opened");
     now = OPENED_AT;
-    packets = advertisements = losses = refusals = 0;
+    packets = advertisements = losses = 0;
     require(nd_turn(&node, now) == ND_DONE, "its address is assigned");
     take(0);
 }
@@ -136,7 +136,8 @@ static void busy(uint16_t neighbours, uint32_t policies)
     now += 10 * 1000;
     require(nd_turn(&node, now) == ND_DONE, "time passes");
     take(1);
-    printf("busy: %u neighbours, policies %u: of %zu packets %zu arrived, %zu were lost or refused\n", neighbours, policies, sent, packets, sent - packets);
+    printf("busy: %u neighbours, policies %u: of %zu packets %zu arrived, %zu were lost, ", neighbours, policies, sent, packets, losses);
+    printf("%zu refused\n", sent - packets - losses);
     fprintf(stderr, "busy: %u neighbours, policies %u: %.0f ns a solicitation\n", neighbours, policies, time);
     require(policies == 0 || packets == sent, "no packet of a neighbour in use is lost");
     require(policies != 0 || packets < sent, "packets are lost without the policy");
