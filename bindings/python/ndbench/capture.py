@@ -46,6 +46,8 @@ class Interface:
 def read_capture(file: BinaryIO) -> Iterator[Packet]:
     """Returns the packets of a capture, in the order of the file. Raises CaptureError at the first one that cannot be read."""
     magic = file.read(4)
+    if not magic:
+        raise CaptureError("the file is empty")
     if magic in PCAP_MAGICS:
         return _Pcap(file, *PCAP_MAGICS[magic]).packets()
     if magic == b"\x0a\x0d\x0d\x0a":
@@ -65,14 +67,14 @@ def why_skipped(link: int, frame: bytes, length: int) -> str:
 
 
 class _File:
-    """A file that is read from its beginning to its end. The first four bytes are read already."""
+    """A file that is read from its beginning to its end. The first four bytes are read already. `in_header`: its header is read now."""
 
     def __init__(self, file: BinaryIO) -> None:
-        self.file, self.position, self.number = file, 4, 0
+        self.file, self.position, self.number, self.in_header = file, 4, 0, True
 
     def error(self, what: str) -> CaptureError:
-        """Returns the error of the packet that is read now."""
-        return CaptureError(f"packet {self.number + 1}: {what}")
+        """Returns the error of the file's header, or of the packet that is read now."""
+        return CaptureError(f"{'the file header' if self.in_header else f'packet {self.number + 1}'}: {what}")
 
     def read(self, count: int, may_end: bool = False) -> bytes:
         """Returns this many bytes; none at the end of the file, if it `may_end` here."""
@@ -95,6 +97,7 @@ class _Pcap(_File):
         super().__init__(file)
         self.units, self.header = units, struct.Struct(f"{order}IIII")
         (link,) = struct.unpack(f"{order}I", self.read(20)[16:])
+        self.in_header = False
         self.link = link & 0xFFFF  # the bits above say whether a frame check sequence follows, which reads as padding
 
     def packets(self) -> Iterator[Packet]:
@@ -131,6 +134,7 @@ class _Pcapng(_File):
     def packets(self) -> Iterator[Packet]:
         """Returns the packets."""
         self.begin_section()
+        self.in_header = False
         head = self.read(4, may_end=True)
         while head:
             kind = self.unpack("I", head)[0]
@@ -157,12 +161,16 @@ class _Pcapng(_File):
         length = self.read(4)
         magic = self.read(4)
         if magic not in (BYTE_ORDER_MAGIC, BYTE_ORDER_MAGIC[::-1]):
-            raise self.error("the section before it has no byte order")
+            raise self.error(f"{self.section_name()} has no byte order")
         self.order, self.interfaces = (">" if magic == BYTE_ORDER_MAGIC else "<"), []
         (count,) = self.unpack("I", length)
         if count < 28 or count % 4 != 0 or count > LONGEST_BLOCK:
-            raise self.error(f"the section before it has a header of {count} bytes")
+            raise self.error(f"{self.section_name()} has a header of {count} bytes")
         self.read(count - 12)
+
+    def section_name(self) -> str:
+        """Returns what an error names the section whose header is read now."""
+        return "its section" if self.in_header else "the section before it"
 
     def take_interface(self, content: bytes) -> None:
         """Takes the description of an interface. Without options its units are microseconds."""

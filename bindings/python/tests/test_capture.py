@@ -92,14 +92,21 @@ class BadInput(unittest.TestCase):
             read(content)
 
     def test_other_files(self) -> None:
-        for content in (b"", b"GIF8", b"3333ff9abcde"):
+        for content in (b"GIF8", b"3333ff9abcde"):
             self.fails(content, "neither pcap nor pcapng")
+        self.fails(b"", r"\Athe file is empty\Z")
+
+    def test_the_file_header(self) -> None:
+        """A header of pcap has 24 bytes. A section header of pcapng has 28 without options, its length in the second four and its byte order behind."""
+        for content in (pcap(FRAMES)[:20], pcapng(FRAMES)[:7], pcapng(FRAMES)[:27]):
+            self.fails(content, r"\Athe file header: the file ends within it\Z")
+        self.fails(pcapng(FRAMES)[:8] + bytes(20), r"\Athe file header: its section has no byte order\Z")
 
     def test_the_packet_is_named(self) -> None:
         good = pcap(FRAMES)
         self.fails(good[:-1], "packet 3: the file ends within it")
         self.fails(good + b"\0" * 5, "packet 4: the file ends within it")
-        self.fails(good[:20], "packet 1: the file ends within it")
+        self.fails(good[:30], "packet 1: the file ends within it")
         self.fails(good + struct.pack("<IIII", 1, 0, 0xFFFFFFFF, 0xFFFFFFFF), "packet 4: 4294967295 of 4294967295 bytes are kept")
         self.fails(good + struct.pack("<IIII", 1, 1_000_000, 0, 0), "packet 4: 1000000 of 1000000 parts of a second")
 

@@ -39,7 +39,7 @@ class Damaged(unittest.TestCase):
                 statuses.add(status)
                 self.assertIn(status, (0, 1, 2))
                 if status == 2:
-                    self.assertRegex(err, r"\Andbench: capture: (packet \d+: |it is neither pcap nor pcapng|[0-9a-f:]{17} sends no message)")
+                    self.assertRegex(err, r"\Andbench: capture: (packet \d+: |the file header: |the file is empty|it is neither pcap nor pcapng|[0-9a-f:]{17} sends no message)")
         self.assertEqual(statuses, {0, 1, 2})
 
     def test_messages(self) -> None:
