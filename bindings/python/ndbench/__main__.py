@@ -5,6 +5,7 @@ from __future__ import annotations
 import argparse
 import os
 import sys
+from collections import Counter
 from contextlib import contextmanager
 from typing import Iterator, List, Optional
 
@@ -28,14 +29,17 @@ class BadInput(Exception):
 
 @contextmanager
 def opened(path: str, is_quiet: bool) -> Iterator[Iterator[Packet]]:
-    """Opens a capture, and shows how much of it is read."""
+    """Opens a capture, shows how much of it is read, and says at the end which of its packets were skipped."""
+    skipped: Counter[str] = Counter()
     try:
         with open(path, "rb") as file:
             progress = Progress(os.fstat(file.fileno()).st_size, is_quiet)
             try:
-                yield _watched(read_capture(file), progress)
+                yield _watched(read_capture(file), progress, skipped)
             finally:
                 progress.end()
+                if skipped and not is_quiet:
+                    print(skipped_text(skipped), file=sys.stderr)
     except CaptureError as error:
         raise BadInput(f"{path}: {error}") from error
     except BrokenPipeError:
@@ -44,10 +48,19 @@ def opened(path: str, is_quiet: bool) -> Iterator[Iterator[Packet]]:
         raise BadInput(f"{error.filename or path}: {error.strerror}") from error
 
 
-def _watched(packets: Iterator[Packet], progress: Progress) -> Iterator[Packet]:
+def _watched(packets: Iterator[Packet], progress: Progress, skipped: Counter[str]) -> Iterator[Packet]:
     for packet in packets:
         progress.show(packet.position)
+        if packet.skipped:
+            skipped[packet.skipped.partition(":")[0]] += 1  # what follows is of this packet alone
         yield packet
+
+
+def skipped_text(skipped: Counter[str]) -> str:
+    """Returns how many packets are skipped, and why, the most frequent reason first."""
+    count = sum(skipped.values())
+    reasons = "; ".join(f"{reason} ({number})" for reason, number in skipped.most_common())
+    return f"ndbench: {count} {'packet is' if count == 1 else 'packets are'} skipped: {reasons}"
 
 
 def do_judge(arguments: argparse.Namespace) -> int:

@@ -4,7 +4,7 @@ from __future__ import annotations
 import argparse
 from dataclasses import dataclass
 from ipaddress import IPv6Network
-from typing import Tuple, Union
+from typing import Any, Optional, Tuple, Union
 
 import nd
 
@@ -51,6 +51,15 @@ class Setup:
         return is_group or destination == self.mac
 
 
+class Once(argparse.Action):
+    """Stores the value of an option that has no default, and refuses a second one."""
+
+    def __call__(self, parser: argparse.ArgumentParser, namespace: argparse.Namespace, values: Any, option_string: Optional[str] = None) -> None:
+        if getattr(namespace, self.dest) is not None:
+            raise argparse.ArgumentError(self, "it is given twice, and a command has one node")
+        setattr(namespace, self.dest, values)
+
+
 def add_arguments(command: argparse.ArgumentParser, is_host: bool = False, needs_mac: bool = True) -> None:
     """Adds the arguments of a node to a command, or those of a host alone. They are those of `ndpctl run`, but for --offer."""
     if is_host:
@@ -58,7 +67,7 @@ def add_arguments(command: argparse.ArgumentParser, is_host: bool = False, needs
     else:
         command.add_argument("--role", choices=("host", "router"), default="host", help="what the node is (host)")
         command.add_argument("--offer", default=[], action="append", type=prefix_argument, metavar="PREFIX", help="a router advertises this prefix")
-    command.add_argument("--mac", required=needs_mac, type=mac_argument, help="its Ethernet address")
+    command.add_argument("--mac", required=needs_mac, action=Once, type=mac_argument, help="its Ethernet address, at most once")
     command.add_argument("--draws", default="seed:0", type=draws_argument, metavar="SOURCE", help="its random words: seed:N or word:N (seed:0)")
     command.add_argument("--transmits", default=1, type=int, choices=range(1, 9), metavar="N",
                          help="solicitations for each of its addresses, 1 to 8 (1)")
@@ -72,11 +81,14 @@ def setup_of(arguments: argparse.Namespace) -> Setup:
 
 
 def mac_argument(text: str) -> nd.Mac:
-    """Reads an Ethernet address."""
+    """Reads the Ethernet address of an interface: that of a group, whose first byte has its lowest bit set, is none."""
     try:
-        return nd.Mac(text)
+        mac = nd.Mac(text)
     except nd.Invalid as error:
         raise argparse.ArgumentTypeError(str(error)) from error
+    if mac.is_group:
+        raise argparse.ArgumentTypeError(f"{text} is the address of a group, and of no interface")
+    return mac
 
 
 def draws_argument(text: str) -> Union[nd.Seed, nd.Word]:

@@ -17,6 +17,7 @@ from .test_judge import run
 HOST = ["--mac", "34:56:78:9a:bc:de", "--before", "1500"]
 COMMANDS = (["judge"], ["judge", "--json"], ["replay", *HOST], ["compare", "--mac", "02:00:00:00:00:99"], ["picture", *HOST])
 ROUNDS = 150
+ERROR = r"(?m)^ndbench: capture: (packet \d+: |the file header: |the file is empty|it is neither pcap nor pcapng|[0-9a-f:]{17} sends no message)"
 
 
 def damaged(content: bytes, chance: random.Random) -> bytes:
@@ -39,7 +40,7 @@ class Damaged(unittest.TestCase):
                 statuses.add(status)
                 self.assertIn(status, (0, 1, 2))
                 if status == 2:
-                    self.assertRegex(err, r"\Andbench: capture: (packet \d+: |the file header: |the file is empty|it is neither pcap nor pcapng|[0-9a-f:]{17} sends no message)")
+                    self.assertRegex(err, ERROR)
         self.assertEqual(statuses, {0, 1, 2})
 
     def test_messages(self) -> None:

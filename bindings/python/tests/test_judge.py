@@ -9,6 +9,7 @@ import unittest
 from pathlib import Path
 from typing import List, Tuple
 
+import nd
 from ndbench.__main__ import main
 
 from .captures import advertisement, message_frame, pcap, pcapng, prefix_option, spaced
@@ -57,6 +58,20 @@ class Lines(unittest.TestCase):
         self.assertEqual(judged(bytes(12) + b"\x81\x00" + bytes(60)), ["1 0.000000 skipped: a VLAN tag"])
         out = run(pcap([(0, bytes(60))], link=113), "judge", "--json")[1]
         self.assertEqual(json.loads(out)["skipped"], "link type 113, and not Ethernet")
+
+    def test_each_command_says_how_many_are_skipped_and_why(self) -> None:
+        """Two with a VLAN tag, of three; a capture of another link type; and two of three frames without their ends."""
+        tagged, good = bytes(12) + b"\x81\x00" + bytes(60), example_frames("link.hex")[0]
+        host = ["--mac", f"{nd.Mac(good[6:12])}"]
+        cut = pcap([(0, good)]) + pcap([(0, bytes(110)), (0, bytes(100))], lost=10)[24:]
+        for content, text in ((pcap(spaced([tagged, good, tagged])), "2 packets are skipped: a VLAN tag (2)"),
+                              (pcap([(0, good)], link=113), "1 packet is skipped: link type 113, and not Ethernet (1)"),
+                              (cut, "2 packets are skipped: cut by the capture (2)")):
+            for words in (["judge"], ["replay", *host], ["compare", *host], ["picture"], ["picture", *host]):
+                with self.subTest(text, words=words):
+                    lines = run(content, *words)[2].splitlines()
+                    self.assertEqual([line for line in lines if "packet" in line and "other packets" not in line], [f"ndbench: {text}"])
+                    self.assertNotIn("skipped", run(content, *words, "--quiet")[2])
 
     def test_bad_input(self) -> None:
         status, out, err = run(pcap(spaced(example_frames("link.hex")[:2]))[:-1], "judge")

@@ -1,9 +1,13 @@
-"""The options of a message, by docs/FORMATS.md: those that are not well formed read as unknown ones."""
+"""The options of a message, by docs/FORMATS.md: those that are not well formed read as unknown ones. And `--mac` of the command line."""
 from __future__ import annotations
 
+import contextlib
+import io
 import unittest
 from ipaddress import IPv6Address
+from typing import List
 
+from ndbench.__main__ import main
 from ndbench.options import Names, Servers, Unknown, options_of
 
 LIFETIME = bytes(2) + (300).to_bytes(4, "big")
@@ -54,3 +58,21 @@ class NamesRow(unittest.TestCase):
         for wrong in (b"", b"\1a\1", name(b"a b"), name(b"a.b"), name("\u00e9".encode()), b"\x40" + b"a" * 64 + b"\0", too_long, b"\xc0\x0c",
                       name(b"a") + b"\0" + name(b"b"), b"\7example"):
             self.assertIsNone(self.names(wrong), wrong)
+
+
+class MacArgument(unittest.TestCase):
+    """`--mac` is the address of an interface, and given at most once."""
+
+    def fails(self, words: List[str], text: str) -> None:
+        for command in ("replay", "compare", "picture"):
+            with contextlib.redirect_stderr(io.StringIO()) as err, self.assertRaises(SystemExit) as ended:
+                main([command, "/no/such/file", *words])
+            self.assertEqual(ended.exception.code, 2)
+            self.assertIn(f"error: argument --mac: {text}\n", err.getvalue())
+
+    def test_a_group_is_no_interface(self) -> None:
+        for mac in ("33:33:00:00:00:01", "ff:ff:ff:ff:ff:ff", "01:80:c2:00:00:00"):
+            self.fails(["--mac", mac], f"{mac} is the address of a group, and of no interface")
+
+    def test_a_second_one(self) -> None:
+        self.fails(["--mac", "02:00:00:00:00:0a", "--mac", "02:00:00:00:00:0b"], "it is given twice, and a command has one node")
