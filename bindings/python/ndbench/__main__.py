@@ -86,7 +86,7 @@ def do_replay(arguments: argparse.Namespace) -> int:
                 write_capture(file, replay.capture_of(made, events))
             return DONE
         for event in events:
-            print(replay.json_of(event) if arguments.json else replay.text_of(event))
+            print(replay.json_of(made, event) if arguments.json else replay.text_of(made, event))
     if arguments.tables:
         for row in made.rows():
             print(row)

@@ -1,7 +1,7 @@
 """`replay`: a node hears a capture at the capture's own times. What it sends and reports is printed as text, as JSON, or as another capture.
 
 The node's moments are in milliseconds since its start. A packet whose time is before that of an earlier one is heard at the moment of the earlier
-one."""
+one. Packets from the node's own Ethernet address are those of the host that it replaces: they are printed, and not heard."""
 from __future__ import annotations
 
 import dataclasses
@@ -18,7 +18,7 @@ from .pcapng import Written
 from .sections import section_of_drop
 from .setup import Setup
 from .tables import TABLES
-from .texts import address_text, frame_text, heard_by_its_role, record_text
+from .texts import address_text, frame_text, heard_by_its_role, record_text, seconds_text
 
 MILLISECOND = 10 ** 6    # nanoseconds
 LONGEST_GAP = 1 << 40    # milliseconds: 34 years, for which an idle node takes seconds
@@ -31,7 +31,16 @@ class Passed:
     packet: Packet
 
 
-Event = Union[Passed, nd.Record]
+@dataclass(frozen=True)
+class Own:
+    """A packet of the capture from the node's own Ethernet address, which the node does not hear, and its moment."""
+    moment: int
+    packet: Packet
+
+
+Event = Union[Passed, Own, nd.Record]
+NOT_YET = "our choice: its link-local address is not yet assigned"  # docs/DECISIONS.md
+DISABLED = "RFC 4862, 5.4.5"
 
 
 def moment_of(packet: Packet, begin: int, last: int) -> int:
@@ -45,12 +54,12 @@ def moment_of(packet: Packet, begin: int, last: int) -> int:
 
 class Replay:
     """A node that hears a capture. `before`: how long before the first packet the node starts; `after`: how long it goes on after the last one,
-    both in milliseconds. `begin` is the time of its start, in nanoseconds since 1970, once a packet was read."""
+    both in milliseconds. `first` is the time of the first packet and `begin` that of the start, in nanoseconds since 1970, once a packet was read."""
 
     def __init__(self, setup: Setup, before: int = 0, after: int = 0) -> None:
         self.setup, self.before, self.after = setup, before, after
         self.node = setup.opened()
-        self.begin = 0
+        self.first = self.begin = 0
         self.heard: Optional[Passed] = None
 
     def events(self, packets: Iterable[Packet]) -> Iterator[Event]:
@@ -58,7 +67,7 @@ class Replay:
         is_first = True
         for packet in packets:
             if is_first:
-                self.begin, is_first = packet.time - self.before * MILLISECOND, False
+                self.first, self.begin, is_first = packet.time, packet.time - self.before * MILLISECOND, False
             yield from self.hear(packet)
         yield from self.pass_time(self.node.last_moment() + self.after)
 
@@ -66,6 +75,8 @@ class Replay:
         """Lets time pass up to a packet, and passes it to the node if the interface does."""
         moment = moment_of(packet, self.begin, self.node.last_moment())
         yield from self.pass_time(moment)
+        if not packet.skipped and self.setup.is_own(packet.frame):
+            yield Own(moment, packet)
         if packet.skipped or not self.setup.hears(packet.frame):
             return
         self.heard = Passed(moment, packet)
@@ -92,26 +103,49 @@ class Replay:
         time = self.begin + moment * MILLISECOND
         return max(time, self.heard.packet.time) if self.heard is not None and self.heard.moment == moment else time
 
+    def seconds_of(self, time: int) -> str:
+        """Returns a time as `judge` prints it: in seconds since the first packet."""
+        return seconds_text(time - self.first, 6)
+
+    def section_of(self, dropped: nd.Dropped) -> str:
+        """Returns the section that asks to drop the packet that is heard now."""
+        if self.heard is None:
+            return ""
+        if dropped.why is nd.Why.NOT_FOR_US:
+            states = {row.state for row in self.node.addresses(self.node.last_moment()) if row.address.is_link_local}
+            if nd.State.TENTATIVE in states:
+                return NOT_YET
+            if nd.State.DUPLICATE in states:
+                return DISABLED
+        return section_of_drop(dropped.why, self.heard.packet.frame)
+
 
 def line_of(frame: bytes) -> str:
     """Returns the line of `ndpctl check` for a frame."""
     return frame_text(heard_by_its_role(frame))
 
 
-def text_of(event: Event) -> str:
-    """Returns the line of `ndpctl run` for a record. What is behind `#` explains: a packet that is heard, or a frame that is sent."""
-    if isinstance(event, Passed):
-        return f"# packet {event.packet.number}: {line_of(event.packet.frame)}"
+def text_of(replay: Replay, event: Event) -> str:
+    """Returns the line of `ndpctl run` for a record that was just reported. What is behind `#` explains: a packet, a frame that is sent, and the
+    section that asks for a drop. Its times are in seconds since the first packet."""
+    if isinstance(event, (Passed, Own)):
+        whose = ", from its own address, not heard" if isinstance(event, Own) else ""
+        return f"# packet {event.packet.number} at {replay.seconds_of(event.packet.time)} s{whose}: {line_of(event.packet.frame)}"
     said = f"{event.moment} {record_text(event)}"
-    return f"{said}\n# sends: {line_of(event.frame)}" if isinstance(event, nd.Frame) else said
+    if isinstance(event, nd.Frame):
+        return f"{said}\n# sends at {replay.seconds_of(replay.time_of(event.moment))} s: {line_of(event.frame)}"
+    return f"{said}\n# [{replay.section_of(event)}]" if isinstance(event, nd.Dropped) else said
 
 
-def json_of(event: Event) -> str:
-    """Returns an event as a line of JSON: its kind, its moment, its fields, and its text."""
-    if isinstance(event, Passed):
-        return json.dumps({"kind": "Packet", "moment": event.moment, "number": event.packet.number, "line": line_of(event.packet.frame)})
+def json_of(replay: Replay, event: Event) -> str:
+    """Returns an event that was just reported as a line of JSON: its kind, its moment, its fields, its text, and the section of a drop."""
+    if isinstance(event, (Passed, Own)):
+        kind = "Own" if isinstance(event, Own) else "Packet"
+        return json.dumps({"kind": kind, "moment": event.moment, "number": event.packet.number, "line": line_of(event.packet.frame)})
     said: Dict[str, Any] = {"kind": type(event).__name__}
     said.update((part.name, _plain(getattr(event, part.name))) for part in dataclasses.fields(event))
+    if isinstance(event, nd.Dropped):
+        said["section"] = replay.section_of(event)
     return json.dumps({**said, "line": line_of(event.frame)} if isinstance(event, nd.Frame) else {**said, "text": record_text(event)})
 
 
@@ -139,18 +173,24 @@ class _Commented:
 
 
 def capture_of(replay: Replay, events: Iterable[Event]) -> Iterator[Written]:
-    """Returns the frames that the node hears and sends, with comments: what it reports after a frame, up to the next one."""
+    """Returns the frames that the node hears and sends, with comments: what it reports after a frame, up to the next one. If the capture cannot be
+    read to its end, all that came before is returned first."""
     current: Optional[_Commented] = None
     early: List[str] = []
-    for event in events:
-        if isinstance(event, (Passed, nd.Frame)):
-            if current is not None:
-                yield current.written()
-            current = _frame_of(replay, event)
-            current.comments += early
-            early = []
-        else:
-            (early if current is None else current.comments).append(_comment_of(event, current))
+    try:
+        for event in events:
+            if isinstance(event, (Passed, nd.Frame)):
+                if current is not None:
+                    yield current.written()
+                current = _frame_of(replay, event)
+                current.comments += early
+                early = []
+            elif not isinstance(event, Own):
+                (early if current is None else current.comments).append(_comment_of(replay, event))
+    except CaptureError:
+        if current is not None:
+            yield current.written()
+        raise
     if current is not None:
         yield current.written()
 
@@ -161,8 +201,6 @@ def _frame_of(replay: Replay, event: Union[Passed, nd.Frame]) -> _Commented:
     return _Commented(replay.time_of(event.moment), event.frame, True, [f"at {event.moment} ms the node sends {line_of(event.frame)}"])
 
 
-def _comment_of(record: nd.Record, current: Optional[_Commented]) -> str:
-    section = ""
-    if isinstance(record, nd.Dropped) and current is not None:
-        section = f" [{section_of_drop(record.why, current.frame)}]"
+def _comment_of(replay: Replay, record: nd.Record) -> str:
+    section = f" [{replay.section_of(record)}]" if isinstance(record, nd.Dropped) else ""
     return f"at {record.moment} ms: {record_text(record)}{section}"

@@ -60,7 +60,7 @@ class Lines(unittest.TestCase):
         self.assertEqual(json.loads(out)["skipped"], "link type 113, and not Ethernet")
 
     def test_each_command_says_how_many_are_skipped_and_why(self) -> None:
-        """Two with a VLAN tag, of three; a capture of another link type; and two of three frames without their ends."""
+        """Two with a VLAN tag, of three; a capture of another link type; and three frames, two without their ends."""
         tagged, good = bytes(12) + b"\x81\x00" + bytes(60), example_frames("link.hex")[0]
         host = ["--mac", f"{nd.Mac(good[6:12])}"]
         cut = pcap([(0, good)]) + pcap([(0, bytes(110)), (0, bytes(100))], lost=10)[24:]

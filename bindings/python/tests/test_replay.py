@@ -6,16 +6,17 @@ import json
 import struct
 import tempfile
 import unittest
-from ipaddress import IPv6Network
+from ipaddress import IPv6Address, IPv6Network
 from pathlib import Path
 from typing import Dict, List
 
 import nd
 from ndbench.capture import read_capture
 from ndbench.pcapng import Written, write_capture
+from ndbench.replay import line_of
 from ndbench.setup import Setup
 
-from .captures import BEGIN, advertisement, events_pcap, pcap
+from .captures import BEGIN, advertisement, events_pcap, message_frame, pcap
 from .paths import example, example_events, example_frames
 from .test_judge import run
 
@@ -59,9 +60,35 @@ class Text(unittest.TestCase):
         self.assertEqual(rows, sorted(wanted[8:]))
 
     def test_packets_and_frames_are_explained(self) -> None:
+        """Their times are since the first packet, and the node starts 1,200 ms before it."""
         lines = replayed().splitlines()
-        self.assertIn("# packet 1: drop 8 OptionZero", lines)
-        self.assertEqual(lines[1], "# sends: ns :: ff02::1:ff9a:bcde target fe80::3656:78ff:fe9a:bcde")
+        dropped = lines.index("1200 drop 8 OptionZero")
+        self.assertEqual(lines[dropped - 1:dropped + 2:2], ["# packet 1 at 0.000000 s: drop 8 OptionZero", "# [RFC 4861, 4.6]"])
+        self.assertEqual(lines[1], "# sends at -1.200000 s: ns :: ff02::1:ff9a:bcde target fe80::3656:78ff:fe9a:bcde")
+
+    def test_a_packet_from_the_node_s_own_address(self) -> None:
+        """It is that of the host that the node replaces: it is shown, and not heard. The advertisement behind it is heard."""
+        own = message_frame(b"\x85" + bytes(7), "::", "ff02::2", "3333000000023456789abcde")
+        content = pcap([(0, own), (250_000_000, advertisement())])
+        lines = run(content, "replay", *HOST, "--before", "1500")[1].splitlines()
+        self.assertEqual([line for line in lines if line.startswith("# packet 1 ")],
+                         ["# packet 1 at 0.000000 s, from its own address, not heard: rs :: ff02::2"])
+        self.assertEqual([line for line in lines if "heard" in line and line[0] != "#"], ["1750 heard ra"])
+        rows = [json.loads(line) for line in run(content, "replay", *HOST, "--before", "1500", "--json")[1].splitlines()]
+        self.assertEqual([(row["number"], row["moment"]) for row in rows if row["kind"] == "Own"], [(1, 1500)])
+
+    def test_why_a_good_message_is_not_for_the_node(self) -> None:
+        """With these draws its address is assigned 1,000 ms after its start (RFC 4862, 5.1), and until then it hears no advertisement. Then it drops a
+        Router Solicitation, as hosts do (RFC 4861, 6.1.1). A node whose address is another's hears nothing (RFC 4862, 5.4.5)."""
+        solicitation = message_frame(b"\x85" + bytes(7), "::", "ff02::2", "333300000002020000000001")
+        defence = message_frame(b"\x88\0\0\0\x20\0\0\0" + IPv6Address("fe80::3656:78ff:fe9a:bcde").packed, "fe80::3656:78ff:fe9a:bcde")
+        for first, section in ((advertisement(), "RFC 4861, 6.1 to 8.1"), (defence, "RFC 4862, 5.4.5")):
+            content = pcap([(999_000_000, first), (1_001_000_000, solicitation)])
+            lines = run(content, "replay", *HOST, "--before", "999")[1].splitlines()
+            dropped = lines.index("1001 drop 19 NotForUs")
+            self.assertEqual(lines[dropped + 1], f"# [{section}]")
+            early = [lines[number + 1] for number, line in enumerate(lines) if line == "999 drop 19 NotForUs"]
+            self.assertEqual(early, ["# [our choice: its link-local address is not yet assigned]"] if first != defence else [])
 
     def test_time_goes_on_after_the_last_packet(self) -> None:
         """The last packet is at 2300 ms, when fe80::2 has 1,800 s left; the other router has its 1,800 s from 1200 ms on."""
@@ -109,6 +136,20 @@ class Capture(unittest.TestCase):
         for comment in (b"at 1000 ms: assigned fe80::3656:78ff:fe9a:bcde", b"at 1200 ms: drop 8 OptionZero [RFC 4861, 4.6]",
                         b"at 0 ms the node sends ns :: ff02::1:ff9a:bcde target fe80::3656:78ff:fe9a:bcde", b"at 2300 ms: heard ra"):
             self.assertIn(comment, content)
+
+    def test_a_capture_that_is_cut(self) -> None:
+        """The solicitation is heard at 2,000 ms and answered then, and the file ends within the next packet: both are written."""
+        question = message_frame(b"\x87" + bytes(7) + IPv6Address("fe80::3656:78ff:fe9a:bcde").packed + bytes.fromhex("0101020000000001"),
+                                 "fe80::ff:fe00:1", "ff02::1:ff9a:bcde", "3333ff9abcde020000000001")
+        content = pcap([(0, question), (1_000_000_000, advertisement())])[:-1]
+        with tempfile.TemporaryDirectory() as room:
+            path = Path(room) / "written"
+            status, _, err = run(content, "replay", *HOST, "--before", "2000", "--write", str(path))
+            packets = list(read_capture(io.BytesIO(path.read_bytes())))
+        self.assertEqual((status, err), (2, "ndbench: capture: packet 2: the file ends within it\n"))
+        self.assertEqual(packets[-2].frame, question)
+        self.assertEqual(line_of(packets[-1].frame), "na fe80::3656:78ff:fe9a:bcde fe80::ff:fe00:1 flags so target fe80::3656:78ff:fe9a:bcde "
+                                                     "tlla 34:56:78:9a:bc:de")
 
     def test_an_answer_is_not_before_its_question(self) -> None:
         """A packet half a millisecond after a moment, and what the node sends at that moment, have the times in this order."""
