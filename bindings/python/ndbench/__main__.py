@@ -119,16 +119,23 @@ def do_picture(arguments: argparse.Namespace) -> int:
             made = picture.picture_of(packets)
         else:
             made = picture.picture_with_node(packets, setup_of(arguments), arguments.before, arguments.after)
-    text = Drawing(made).text()
-    if arguments.write is None:
+    if made.error is None or made.begin is not None:
+        write_text(arguments.write, Drawing(made).text())
+    if made.error is not None:
+        raise BadInput(f"{arguments.capture}: {made.error}")
+    return DONE
+
+
+def write_text(path: Optional[str], text: str) -> None:
+    """Writes a text to a file, or to standard output if there is no path."""
+    if path is None:
         print(text, end="")
-        return DONE
+        return
     try:
-        with open(arguments.write, "w", encoding="utf-8") as file:
+        with open(path, "w", encoding="utf-8") as file:
             file.write(text)
     except OSError as error:
-        raise BadInput(f"{arguments.write}: {error.strerror}") from error
-    return DONE
+        raise BadInput(f"{path}: {error.strerror}") from error
 
 
 def milliseconds(text: str) -> int:

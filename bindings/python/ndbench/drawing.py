@@ -22,7 +22,7 @@ CHARACTER = 6.7                # the width of one of 11px monospace, 0.6 em in c
 SLANT = 30                     # degrees, of the names of neighbours
 COLOURS = {nd.Reachability.INCOMPLETE: "#d0d0d0", nd.Reachability.REACHABLE: "#4c9f70", nd.Reachability.STALE: "#e3b23c",
            nd.Reachability.DELAY: "#e07b39", nd.Reachability.PROBE: "#b13e53"}
-INK, SENT, DROPPED, GRID = "#222222", "#2459a8", "#b13e53", "#cccccc"
+INK, SENT, OWN, DROPPED, GRID = "#222222", "#2459a8", "#8a8a8a", "#b13e53", "#cccccc"
 STYLE = "text { font: 12px sans-serif; fill: #222222 } .small { font-size: 11px } .mono { font: 11px monospace }"
 
 
@@ -99,7 +99,7 @@ class Drawing:
 
     def draw_arrow(self, arrow: Arrow, y: float, labels: float) -> None:
         """Draws a frame: an arrow to its destination, or a line to the last ones at both sides with a head at each; its time, and its line."""
-        colour = DROPPED if arrow.line.startswith("drop ") else SENT if arrow.number == 0 else INK
+        colour = DROPPED if arrow.line.startswith("drop ") else SENT if arrow.number == 0 else OWN if arrow.is_own else INK
         begin = self.x_of(arrow.source)
         reached = [mac for mac in self.lanes if mac != arrow.source] if arrow.destination.is_group else [arrow.destination]
         dash = ' stroke-dasharray="5 3"' if arrow.destination.is_group else ""

@@ -108,6 +108,15 @@ class Arrows(unittest.TestCase):
         root = drawn(pcap([(0, advertisement())] * (picture.MOST_ROWS + 3)))
         self.assertIn("3 later frames are left out", texts(root))
 
+    def test_a_capture_that_is_cut(self) -> None:
+        """Its first packet is drawn: alone, and with the detection of a node that starts 500 ms before. Without a packet there is no picture."""
+        content = pcap([(0, advertisement()), (9_000_000_000, advertisement())])[:-1]
+        for words, count in (([], 1), ([*HOST, "--before", "500"], 2)):
+            status, out, err = run(content, "picture", *words)
+            self.assertEqual((status, err), (2, "ndbench: capture: packet 2: the file ends within it\n"))
+            self.assertEqual(len(list(ElementTree.fromstring(out).iter(f"{SVG}circle"))), count)
+        self.assertEqual(run(content[:24 + 20], "picture")[:2], (2, ""))
+
     def test_an_empty_capture(self) -> None:
         self.assertEqual(texts(drawn(pcap([]))), ["seconds"])
 
@@ -139,6 +148,13 @@ class Bars(unittest.TestCase):
         shown = {element.get("y"): element.text for element in root.iter(f"{SVG}text") if element.get("text-anchor") == "end"}
         label = next(element for element in root.iter(f"{SVG}text") if (element.text or "").startswith("2 ra"))
         self.assertEqual(shown[label.attrib["y"]], "5.000")
+
+    def test_packets_of_the_node_s_own_address_are_grey(self) -> None:
+        """With these draws a node that starts with the capture detects at 0 and solicits at 1 s, 0.2 s before the host of the capture does."""
+        own = message_frame(b"\x85" + bytes(7), LINK_LOCAL, "ff02::2", "3333000000023456789abcde")
+        root = drawn(pcap([(0, advertisement()), (1_200_000_000, own)]), *HOST)
+        self.assertEqual([line[3] for line in lines(root)], [drawing.INK, drawing.SENT, drawing.SENT, drawing.OWN])
+        self.assertEqual(drawn(pcap([(0, own)])).find(f".//{SVG}circle").get("fill"), drawing.INK)  # type: ignore[union-attr]
 
     def test_a_neighbour_that_does_not_answer(self) -> None:
         """The node's answer uses the neighbour: DELAY for 5 s, then three probes, a second apart, and no entry."""
