@@ -7,7 +7,7 @@ import os
 import sys
 from collections import Counter
 from contextlib import contextmanager
-from typing import Iterator, List, Optional
+from typing import Callable, ContextManager, Iterator, List, Optional
 
 import nd
 from nd import library
@@ -28,7 +28,7 @@ class BadInput(Exception):
 
 
 @contextmanager
-def opened(path: str, is_quiet: bool) -> Iterator[Iterator[Packet]]:
+def opened(path: str, is_quiet: bool, says_skipped: bool = True) -> Iterator[Iterator[Packet]]:
     """Opens a capture, shows how much of it is read, and says at the end which of its packets were skipped."""
     skipped: Counter[str] = Counter()
     try:
@@ -38,7 +38,7 @@ def opened(path: str, is_quiet: bool) -> Iterator[Iterator[Packet]]:
                 yield _watched(read_capture(file), progress, skipped)
             finally:
                 progress.end()
-                if skipped and not is_quiet:
+                if skipped and says_skipped and not is_quiet:
                     print(skipped_text(skipped), file=sys.stderr)
     except CaptureError as error:
         raise BadInput(f"{path}: {error}") from error
@@ -96,20 +96,34 @@ def do_replay(arguments: argparse.Namespace) -> int:
 def do_compare(arguments: argparse.Namespace) -> int:
     """Prints the first difference between another stack and the node, or all of them."""
     setup = setup_of(arguments)
-    with opened(arguments.capture, True) as packets:
-        probes = compare.probes_of(packets, setup)
-    made = compare.Comparison(setup, probes, arguments.tolerance, arguments.before)
-    with opened(arguments.capture, arguments.quiet) as packets:
-        for packet in packets:
-            made.take(packet)
-    if not made.stack_messages:
-        raise BadInput(f"{arguments.capture}: {arguments.mac} sends no message of Neighbor Discovery")
+    survey = compare.Survey(setup)
+    error = passed_to(survey.take, opened(arguments.capture, arguments.quiet))
+    if survey.first is None:
+        raise error or BadInput(f"{arguments.capture}: {arguments.mac} sends no message of Neighbor Discovery")
+    made = compare.Comparison(setup, survey, arguments.tolerance, arguments.before)
+    error = passed_to(made.take, opened(arguments.capture, arguments.quiet, says_skipped=False))
+    made.finish()
     found = made.differences()
     for difference in found if arguments.all else found[:1]:
-        print(compare.json_of(difference) if arguments.json else "\n".join(compare.text_of(difference)))
+        print(compare.json_of(made, difference) if arguments.json else "\n".join(compare.text_of(made, difference)))
     if not arguments.quiet:
+        if survey.start is None:
+            print(f"ndbench: the capture begins after the start of {arguments.mac}: the node does not know what it heard before", file=sys.stderr)
         print(f"{len(made.stack_messages)} messages of the other stack, {len(found)} differences", file=sys.stderr)
+    if error is not None:
+        raise error
     return DIFFERENT if found else DONE
+
+
+def passed_to(take: Callable[[Packet], None], capture: ContextManager[Iterator[Packet]]) -> Optional[BadInput]:
+    """Passes each packet of a capture, and returns the error that ends it early, or None."""
+    try:
+        with capture as packets:
+            for packet in packets:
+                take(packet)
+    except BadInput as error:
+        return error
+    return None
 
 
 def do_picture(arguments: argparse.Namespace) -> int:
@@ -185,7 +199,8 @@ def add_replay(command: argparse.ArgumentParser) -> None:
 def add_compare(command: argparse.ArgumentParser) -> None:
     """Adds the arguments of `compare`."""
     add_arguments(command, is_host=True)
-    command.add_argument("--before", default=0, type=milliseconds, metavar="MS", help="the node starts so long before the stack's first message (0)")
+    command.add_argument("--before", type=milliseconds, metavar="MS",
+                         help="the node starts so long before the stack's first message (so that the first solicitation of both falls together)")
     command.add_argument("--tolerance", default=1500, type=milliseconds, metavar="MS", help="what may lie between both (1500)")
     command.add_argument("--all", action="store_true", help="all differences, and not the first one alone")
     command.add_argument("--json", action="store_true", help="a line of JSON for each difference")

@@ -1,10 +1,15 @@
 """`compare`: what another stack, a host, sent in a capture, against what a node of the same Ethernet address sends when it hears the same frames.
 
-The node starts when the stack sends its first message of Neighbor Discovery. It cannot know what the stack's upper layers do, so the capture has to
-have all packets of the stack. The node is asked for a path (`Node.resolve`) where the stack had a packet: when it solicits a neighbour, and when it
-sends another packet. If the node probes a neighbour and the stack does not, the stack's upper layers have confirmed it (RFC 4861, 7.3.1): then the
-node's neighbour is confirmed too, and its probe is not compared. The messages of both are sorted by what they are for, and the nth of the stack is
-compared with the nth of the node. Options that a receiver passes over are not compared (RFC 4861, 4.6)."""
+The delay of a host's first detection is random (RFC 4862, 5.4.2), so the node starts at such a time that the first detection of both falls together;
+if the capture begins behind the stack's detection, the first Router Solicitation of both. `--before` sets another start. If the stack's first message
+is none of these, the capture does not have its start: the node starts SETTLED ms before the first packet, and what it sends before that packet is not
+compared. Such a node does not know what the stack heard before the capture.
+
+The node cannot know what the stack's upper layers do, so the capture has to have all packets of the stack. The node is asked for a path
+(`Node.resolve`) where the stack had a packet: when it solicits a neighbour, and when it sends another packet. If the node probes a neighbour and the
+stack does not, the stack's upper layers have confirmed it (RFC 4861, 7.3.1): then the node's neighbour is confirmed too, and its probe is not
+compared. The messages of both are sorted by what they are for, and the nth of the stack is compared with the nth of the node. Options that a receiver
+passes over are not compared (RFC 4861, 4.6)."""
 from __future__ import annotations
 
 import json
@@ -22,7 +27,12 @@ from .options import Unknown, options_of
 from .replay import MILLISECOND, moment_of
 from .sections import section_of_drop
 from .setup import Setup
-from .texts import frame_text, heard_by_its_role, message_text
+from .texts import frame_text, heard_by_its_role, message_text, seconds_text
+
+
+# Milliseconds after which a host that hears nothing has its link-local address, and solicits routers no longer: a delay of at most 1 s, at most 8
+# detections a second apart (RFC 4862, 5.4.2 and 5.1), and three solicitations 4 s apart (RFC 4861, 10).
+SETTLED = 20_000
 
 
 class Purpose(Enum):
@@ -94,39 +104,82 @@ def purpose_of(heard: nd.HeardFrame) -> Tuple[Purpose, Tuple[IPv6Address, ...]]:
     return (Purpose.ROUTER_SOLICITATION, ()) if heard.message_type == 133 else (Purpose.ROUTER_ADVERTISEMENT, ())
 
 
-def probes_of(packets: Iterable[Packet], setup: Setup) -> Dict[IPv6Address, List[int]]:
-    """Returns the times, in nanoseconds since 1970, at which the stack probes each neighbour."""
-    found: Dict[IPv6Address, List[int]] = defaultdict(list)
-    for packet in packets:
-        if not packet.skipped and setup.is_own(packet.frame):
-            message = message_of(0, packet.frame, packet.number)
-            if message is not None and message.purpose is Purpose.PROBE:
-                found[message.about[0]].append(packet.time)
-    return found
+class Survey:
+    """What a first reading of a capture finds of the stack. Times are in nanoseconds since 1970. `begin`: that of the first packet; `first`: that of
+    the stack's first message, or None if it sends none; `probes`: those at which it probes each neighbour. `start`: the purpose of the message with
+    which the stack starts, at `start_time`, or None if the capture does not have its start."""
+
+    def __init__(self, setup: Setup) -> None:
+        self.setup = setup
+        self.begin: Optional[int] = None
+        self.first: Optional[int] = None
+        self.start: Optional[Purpose] = None
+        self.start_time: Optional[int] = None
+        self.probes: Dict[IPv6Address, List[int]] = defaultdict(list)
+
+    def take(self, packet: Packet) -> None:
+        """Takes a packet."""
+        self.begin = packet.time if self.begin is None else self.begin
+        is_stack = not packet.skipped and self.setup.is_own(packet.frame)
+        message = message_of(0, packet.frame, packet.number) if is_stack else None
+        if message is None:
+            return
+        self.first = packet.time if self.first is None else self.first
+        if message.purpose is Purpose.PROBE:
+            self.probes[message.about[0]].append(packet.time)
+        # A host may solicit routers before it has an address (RFC 4861, 4.1): the message behind that is looked at.
+        if self.start_time is None and not message.line.startswith("rs :: "):
+            self.start, self.start_time = start_of(message), packet.time
+
+    def node_begin(self, before: Optional[int]) -> int:
+        """Returns when the node starts: `before` ms before the stack's first message, or if that is None as the head of this file has it."""
+        first = self.first or 0
+        if before is not None:
+            return first - before * MILLISECOND
+        if self.start is None or self.start_time is None:
+            return (self.begin or 0) - SETTLED * MILLISECOND
+        return min(first, self.start_time - first_moment(self.setup, self.start) * MILLISECOND)
+
+
+def start_of(message: Message) -> Optional[Purpose]:
+    """Returns the purpose of a message with which a host starts, or None for any other message."""
+    is_detection = message.purpose is Purpose.DETECTION and message.about[0].is_link_local
+    return message.purpose if is_detection or message.purpose is Purpose.ROUTER_SOLICITATION else None
+
+
+def first_moment(setup: Setup, purpose: Purpose) -> int:
+    """Returns when a node that hears nothing sends its first message for this purpose, in milliseconds since its start."""
+    with setup.opened() as node:
+        while node.next_due() < SETTLED:
+            node.turn(node.next_due())
+            for record in node.poll():
+                message = message_of(record.moment, record.frame, 0) if isinstance(record, nd.Frame) else None
+                if message is not None and message.purpose is purpose:
+                    return message.moment
+    return 0
 
 
 class Comparison:
-    """Passes a capture to a node, and compares. `probes`: those of the stack, by `probes_of`. `tolerance`: milliseconds that may lie between both.
-    `before`: how long before the stack's first message the node starts, in milliseconds."""
+    """Passes a capture to a node, and compares. `survey`: of the whole capture. `tolerance`: milliseconds that may lie between both. `before`: how
+    long before the stack's first message the node starts, in milliseconds; None: so that both start together. `begin` is the time of its start."""
 
-    def __init__(self, setup: Setup, probes: Dict[IPv6Address, List[int]], tolerance: int, before: int = 0) -> None:
-        self.setup, self.probes, self.tolerance, self.before = setup, probes, tolerance, before
+    def __init__(self, setup: Setup, survey: Survey, tolerance: int, before: Optional[int] = None) -> None:
+        self.setup, self.survey, self.tolerance = setup, survey, tolerance
+        self.begin = survey.node_begin(before)
         self.node = setup.opened()
-        self.begin: Optional[int] = None
+        self.is_begun = False
+        self.end = 0  # the moment of the last packet
         self.stack_messages: List[Message] = []
         self.node_messages: List[Message] = []
 
     def take(self, packet: Packet) -> None:
-        """Takes a packet of the capture: the node hears it, or the stack sent it."""
-        is_stack = not packet.skipped and self.setup.is_own(packet.frame)
-        message = message_of(0, packet.frame, packet.number) if is_stack else None
-        if self.begin is None and message is not None:
-            self.begin = packet.time - self.before * MILLISECOND
-        if self.begin is None or packet.skipped:
+        """Takes a packet of the capture: the node hears it, or the stack sent it. Those before the node's start are passed over."""
+        self.is_begun |= packet.time >= self.begin
+        if packet.skipped or not self.is_begun:
             return
         now = moment_of(packet, self.begin, self.node.last_moment())
         self.pass_time(now)
-        if is_stack:
+        if self.setup.is_own(packet.frame):
             self.take_stack(now, packet)
         elif self.setup.hears(packet.frame):
             self.node.receive(now, packet.frame)
@@ -140,6 +193,11 @@ class Comparison:
         self.node.turn(now)
         self.take_sent()
 
+    def finish(self) -> None:
+        """Lets time pass after the last packet, in which the node may send what the stack has sent a little earlier."""
+        self.end = self.node.last_moment()
+        self.pass_time(self.end + min(self.tolerance, SETTLED))
+
     def take_stack(self, now: int, packet: Packet) -> None:
         """Takes a frame that the stack sent, and asks the node for a path if the stack had a packet to send."""
         message, heard = message_of(now, packet.frame, packet.number), heard_by_its_role(packet.frame)
@@ -152,22 +210,27 @@ class Comparison:
             self.node.resolve(now, heard.target)
 
     def take_sent(self) -> None:
-        """Takes the messages that the node sends."""
+        """Takes the messages that the node sends, without those before the first packet if the capture begins behind the stack's detection."""
         for record in self.node.poll():
             message = message_of(record.moment, record.frame, 0) if isinstance(record, nd.Frame) else None
             if message is None:
                 continue
-            self.node_messages.append(message)
+            if self.survey.start is Purpose.DETECTION or self.time_of(message.moment) >= (self.survey.begin or 0):
+                self.node_messages.append(message)
             if message.purpose is Purpose.PROBE and not self.is_probed(message):
                 self.node.confirm(self.node.last_moment(), message.about[0])
 
     def is_probed(self, probe: Message) -> bool:
         """Returns true if the stack probes the neighbour too, as long before or after as is tolerated."""
-        time = (self.begin or 0) + probe.moment * MILLISECOND
-        return any(abs(time - other) <= self.tolerance * MILLISECOND for other in self.probes.get(probe.about[0], ()))
+        time, others = self.time_of(probe.moment), self.survey.probes.get(probe.about[0], ())
+        return any(abs(time - other) <= self.tolerance * MILLISECOND for other in others)
+
+    def time_of(self, moment: int) -> int:
+        """Returns a moment of the node as a time of the capture, in nanoseconds since 1970."""
+        return self.begin + moment * MILLISECOND
 
     def differences(self) -> List[Difference]:
-        """Returns the differences so far, the earliest first."""
+        """Returns the differences, the earliest first. `finish` was called."""
         pairs = _sorted(self.stack_messages), _sorted(self.node_messages)
         found: List[Difference] = []
         for key in {**pairs[0], **pairs[1]}:
@@ -182,7 +245,7 @@ class Comparison:
         if node is None:
             return "only the other stack sends it" if stack is not None and stack.purpose is not Purpose.DROPPED else "each receiver drops it"
         if stack is None:
-            is_open = node.moment + self.tolerance > self.node.last_moment()
+            is_open = node.moment + self.tolerance > self.end
             return "" if is_open or node.purpose is Purpose.PROBE else "only the node sends it"
         if stack.line != node.line:
             return "the contents are different"
@@ -198,16 +261,18 @@ def _sorted(messages: Iterable[Message]) -> Dict[Tuple[Purpose, Tuple[IPv6Addres
     return dict(found)
 
 
-def text_of(difference: Difference) -> Iterator[str]:
-    """Returns the lines of a difference."""
-    yield f"at {difference.moment} ms: {difference.what} [{difference.section}]"
+def text_of(made: Comparison, difference: Difference) -> Iterator[str]:
+    """Returns the lines of a difference. Milliseconds are since the node's start, and seconds since the first packet."""
+    seconds = seconds_text(made.time_of(difference.moment) - (made.survey.begin or 0), 3)
+    yield f"at {difference.moment} ms ({seconds} s): {difference.what} [{difference.section}]"
     for who, message in (("other stack", difference.stack), ("node", difference.node)):
         at = f"packet {message.packet}, at" if message is not None and message.packet else "at"
         yield f"    {who}: " + (f"{at} {message.moment} ms: {message.line}" if message is not None else "nothing")
 
 
-def json_of(difference: Difference) -> str:
-    """Returns a difference as a line of JSON."""
+def json_of(made: Comparison, difference: Difference) -> str:
+    """Returns a difference as a line of JSON. Its moment is in milliseconds since the node's start, and its time in seconds since 1970."""
     said = {who: {"moment": message.moment, "line": message.line, **({"packet": message.packet} if message.packet else {})}
             for who, message in (("stack", difference.stack), ("node", difference.node)) if message is not None}
-    return json.dumps({"moment": difference.moment, "what": difference.what, "section": difference.section, **said})
+    time = seconds_text(made.time_of(difference.moment), 9)
+    return json.dumps({"moment": difference.moment, "time": time, "what": difference.what, "section": difference.section, **said})

@@ -97,7 +97,7 @@ class BadInput(unittest.TestCase):
         self.fails(b"", r"\Athe file is empty\Z")
 
     def test_the_file_header(self) -> None:
-        """A header of pcap has 24 bytes. A section header of pcapng has 28 without options, its length in the second four and its byte order behind."""
+        """A header of pcap has 24 bytes. A section header of pcapng has 28 without options: its type, its length, and the byte order are first."""
         for content in (pcap(FRAMES)[:20], pcapng(FRAMES)[:7], pcapng(FRAMES)[:27]):
             self.fails(content, r"\Athe file header: the file ends within it\Z")
         self.fails(pcapng(FRAMES)[:8] + bytes(20), r"\Athe file header: its section has no byte order\Z")

@@ -1,16 +1,21 @@
 """`compare`: the frames of examples/scripts/host.output, which were worked out by hand, as those of another stack; and mistakes in them."""
 from __future__ import annotations
 
+import io
 import json
 import unittest
+from ipaddress import IPv6Address
 from typing import List, Tuple
 
-from .captures import message_frame, pcap
+from ndbench.capture import read_capture
+
+from .captures import BEGIN, advertisement, message_frame, pcap, prefix_option
 from .paths import example
 from .test_judge import run
 
 HOST = ["--mac", "34:56:78:9a:bc:de", "--draws", "word:0"]
 OWN = bytes.fromhex("3456789abcde")
+LINK_LOCAL = "fe80::3656:78ff:fe9a:bcde"
 Sent = List[Tuple[int, bytes]]  # milliseconds, and a frame
 
 
@@ -56,6 +61,58 @@ class Same(unittest.TestCase):
         self.assertEqual(compared(captured("host", with_nonce))[:2], (0, []))
 
 
+class Starts(unittest.TestCase):
+    """When the node starts. Its own delay before the first detection is random, at most 1 s (RFC 4862, 5.4.2): these draws have different ones."""
+
+    DRAWS = ("word:0", "word:2147483648", "word:4294967295", *(f"seed:{number}" for number in range(8)))
+
+    def detection(self, text: str) -> bytes:
+        return message_frame(b"\x87" + bytes(7) + IPv6Address(text).packed, "::", "ff02::1:ff9a:bcde", "3333ff9abcde3456789abcde")
+
+    def without_difference(self, content: bytes, count: int, *words: str) -> None:
+        for draws in self.DRAWS:
+            with self.subTest(words, draws=draws):
+                status, out, err = run(content, "compare", *HOST[:2], "--draws", draws, *words)
+                self.assertEqual((status, out, err.splitlines()[-1:]), (0, "", [f"{count} messages of the other stack, 0 differences"]))
+
+    def test_an_advertisement_soon_after_the_address_is_assigned(self) -> None:
+        """The host's address is assigned RetransTimer, 1 s, after its detection, and 0.1 s before the advertisement. It detects the address of the
+        prefix within the delay of 1 s. The capture ends then, or goes on for a minute, in which it does not solicit, since it has a router."""
+        solicitation = message_frame(b"\x85" + bytes(7) + bytes.fromhex("01013456789abcde"), LINK_LOCAL, "ff02::2", "3333000000023456789abcde")
+        sent = [(0, self.detection(LINK_LOCAL)), (1000, solicitation), (1100, advertisement(options=prefix_option())),
+                (1600, self.detection("2001:db8::3656:78ff:fe9a:bcde")), (60_000, advertisement(options=prefix_option()))]
+        self.without_difference(pcap([(moment * 10 ** 6, frame) for moment, frame in sent]), 3)
+        self.without_difference(pcap([(moment * 10 ** 6, frame) for moment, frame in sent[:4]]), 3)
+
+    def test_a_capture_that_begins_with_a_solicitation_of_routers(self) -> None:
+        """The detection of the host was before the capture, and so is the node's."""
+        content = captured("host", lambda sent: sent[1:])
+        self.assertEqual(compared(content)[:2], (0, []))
+
+    def asked(self) -> bytes:
+        """Returns a capture that begins after the host's start: at 3 s it is asked for its address, and a millisecond later it answers."""
+        target = IPv6Address(LINK_LOCAL).packed
+        question = message_frame(b"\x87" + bytes(7) + target + bytes.fromhex("0101020000000001"), "fe80::ff:fe00:1", "ff02::1:ff9a:bcde",
+                                 "3333ff9abcde020000000001")
+        answer = message_frame(b"\x88\0\0\0\x60\0\0\0" + target + bytes.fromhex("02013456789abcde"), LINK_LOCAL, "fe80::ff:fe00:1",
+                               "0200000000013456789abcde")
+        return pcap([(3_000_000_000, question), (3_001_000_000, answer), (33_000_000_000, advertisement())])
+
+    def test_a_capture_without_the_host_s_start(self) -> None:
+        """The node has its address before the capture begins, and has ended its solicitations, of which the capture has none."""
+        self.without_difference(self.asked(), 1)
+        err = compared(self.asked())[2]
+        self.assertIn("ndbench: the capture begins after the start of 34:56:78:9a:bc:de: the node does not know what it heard before\n", err)
+        self.assertNotIn("after the start", compared(captured("host"))[2])
+
+    def test_what_is_before_the_first_message_is_heard(self) -> None:
+        """With these draws the node has its address 1,000 ms after its start: 1,500 ms before the answer are enough to hear the question, and 500 ms
+        are not. It solicits routers at 1,000, 5,000 and 9,000 ms, the second time in the capture."""
+        first = compared(self.asked(), "--before", "1500")[1]
+        self.assertEqual(first[0], "at 5000 ms (3.501 s): only the node sends it [RFC 4861, 6.3.7]")
+        self.assertEqual(compared(self.asked(), "--before", "500")[1][0], "at 500 ms (0.001 s): only the other stack sends it [RFC 4861, 7.2.4]")
+
+
 class Differences(unittest.TestCase):
     def first(self, change: object, *words: str) -> List[str]:
         status, out, _ = compared(captured("failover", change), *words)
@@ -65,13 +122,13 @@ class Differences(unittest.TestCase):
     def test_a_message_is_missing(self) -> None:
         """The second frame is the Router Solicitation at 1000 ms."""
         out = self.first(lambda sent: [sent[0], *sent[2:]])
-        self.assertEqual(out, ["at 1000 ms: only the node sends it [RFC 4861, 6.3.7]", "    other stack: nothing",
+        self.assertEqual(out, ["at 1000 ms (1.000 s): only the node sends it [RFC 4861, 6.3.7]", "    other stack: nothing",
                                "    node: at 1000 ms: rs fe80::3656:78ff:fe9a:bcde ff02::2 slla 34:56:78:9a:bc:de"])
 
     def test_a_message_too_many(self) -> None:
         """A second detection of the link-local address: DupAddrDetectTransmits is 1."""
         out = self.first(lambda sent: [sent[0], (900, sent[0][1]), *sent[1:]])
-        self.assertEqual(out, ["at 900 ms: only the other stack sends it [RFC 4862, 5.4.2]",
+        self.assertEqual(out, ["at 900 ms (0.900 s): only the other stack sends it [RFC 4862, 5.4.2]",
                                "    other stack: packet 2, at 900 ms: ns :: ff02::1:ff9a:bcde target fe80::3656:78ff:fe9a:bcde", "    node: nothing"])
 
     def test_other_contents(self) -> None:
@@ -80,7 +137,7 @@ class Differences(unittest.TestCase):
             bare = message_frame(b"\x85" + bytes(7), "fe80::3656:78ff:fe9a:bcde", "ff02::2", "333300000002" + OWN.hex())
             return [sent[0], (sent[1][0], bare), *sent[2:]]
         out = self.first(changed)
-        self.assertEqual(out[0], "at 1000 ms: the contents are different [RFC 4861, 6.3.7]")
+        self.assertEqual(out[0], "at 1000 ms (1.000 s): the contents are different [RFC 4861, 6.3.7]")
         self.assertEqual(out[1], "    other stack: packet 2, at 1000 ms: rs fe80::3656:78ff:fe9a:bcde ff02::2")
 
     def test_probes_that_the_stack_does_not_send(self) -> None:
@@ -95,19 +152,28 @@ class Differences(unittest.TestCase):
 
     def test_too_late(self) -> None:
         out = self.first(lambda sent: [sent[0], (1101, sent[1][1]), *sent[2:]], "--tolerance", "100")
-        self.assertEqual(out[0], "at 1000 ms: 101 ms lie between both [RFC 4861, 6.3.7]")
+        self.assertEqual(out[0], "at 1000 ms (1.000 s): 101 ms lie between both [RFC 4861, 6.3.7]")
 
     def test_what_each_receiver_drops(self) -> None:
         def changed(sent: Sent) -> Sent:
             return [sent[0], (sent[1][0], sent[1][1][:-1] + b"\xff"), *sent[2:]]
         out = self.first(changed, "--all")
-        self.assertEqual(out[0], "at 1000 ms: each receiver drops it [RFC 4443, 2.3]")
+        self.assertEqual(out[0], "at 1000 ms (1.000 s): each receiver drops it [RFC 4443, 2.3]")
         self.assertEqual(out[1], "    other stack: packet 2, at 1000 ms: drop 11 Sum")
-        self.assertIn("at 1000 ms: only the node sends it [RFC 4861, 6.3.7]", out)
+        self.assertIn("at 1000 ms (1.000 s): only the node sends it [RFC 4861, 6.3.7]", out)
+
+    def test_a_capture_that_is_cut(self) -> None:
+        """What is different before the end is shown, and the error too."""
+        content = captured("failover", lambda sent: [sent[0], (900, sent[0][1]), *sent[1:]])
+        count = len(list(read_capture(io.BytesIO(content))))
+        status, out, err = compared(content[:-1])
+        self.assertEqual((status, out[0]), (2, "at 900 ms (0.900 s): only the other stack sends it [RFC 4862, 5.4.2]"))
+        self.assertEqual(err.splitlines()[-1], f"ndbench: capture: packet {count}: the file ends within it")
 
     def test_json(self) -> None:
         said = json.loads(self.first(lambda sent: [sent[0], *sent[2:]], "--json")[0])
         self.assertEqual((said["moment"], said["what"], said["section"], "stack" in said), (1000, "only the node sends it", "RFC 4861, 6.3.7", False))
+        self.assertEqual(said["time"], f"{BEGIN + 1}.000000000")
 
     def test_a_stack_that_is_not_there(self) -> None:
         status, out, err = run(captured("host"), "compare", "--mac", "02:00:00:00:00:77")

@@ -28,7 +28,7 @@ def lines_of_readme() -> List[List[str]]:
 
 def run(words: List[str], room: str) -> Tuple[int, str, str]:
     """Runs a command, whose capture is where it is, and which writes into a folder."""
-    paths = {CAPTURE: str(EXAMPLES / "captures" / "link.pcapng"), "link.svg": f"{room}/link.svg"}
+    paths = {CAPTURE: str(EXAMPLES / "captures" / "link.pcapng"), "/tmp/link.svg": f"{room}/link.svg"}
     out, err = io.StringIO(), io.StringIO()
     with contextlib.redirect_stdout(out), contextlib.redirect_stderr(err):
         status = main([paths.get(word, word) for word in words])
@@ -51,6 +51,15 @@ class Link(unittest.TestCase):
         self.judged(*done["judge"][1:])
         self.replayed(done["replay"][1])
         self.assertEqual(done["compare"][1], "")
+
+    def test_the_hosts_compared(self) -> None:
+        """A and B send what a node sends that has other draws. C has left the link, and does not answer A's three probes, packets 20 to 22."""
+        for last, status, moments in (("a", 0, []), ("b", 0, []), ("c", 1, ["14.812", "15.812", "16.812"])):
+            for draws in ("seed:0", "seed:1", "word:4294967295"):
+                done = run(["compare", CAPTURE, "--mac", f"02:00:00:00:00:0{last}", "--draws", draws, "--all"], "")
+                self.assertEqual(done[0], status)
+                heads = [line.partition(" (")[2] for line in done[1].splitlines() if line[0] != " "]
+                self.assertEqual(heads, [f"{moment} s): only the node sends it [RFC 4861, 7.2.4]" for moment in moments])
 
     def judged(self, out: str, err: str) -> None:
         """Three packets are sent, and one advertisement is forged."""

@@ -78,8 +78,8 @@ class Text(unittest.TestCase):
         self.assertEqual([(row["number"], row["moment"]) for row in rows if row["kind"] == "Own"], [(1, 1500)])
 
     def test_why_a_good_message_is_not_for_the_node(self) -> None:
-        """With these draws its address is assigned 1,000 ms after its start (RFC 4862, 5.1), and until then it hears no advertisement. Then it drops a
-        Router Solicitation, as hosts do (RFC 4861, 6.1.1). A node whose address is another's hears nothing (RFC 4862, 5.4.5)."""
+        """With these draws its address is assigned 1,000 ms after its start (RFC 4862, 5.1), and until then it hears no advertisement. Then it drops
+        a Router Solicitation, as hosts do (RFC 4861, 6.1.1). A node whose address is another's hears nothing (RFC 4862, 5.4.5)."""
         solicitation = message_frame(b"\x85" + bytes(7), "::", "ff02::2", "333300000002020000000001")
         defence = message_frame(b"\x88\0\0\0\x20\0\0\0" + IPv6Address("fe80::3656:78ff:fe9a:bcde").packed, "fe80::3656:78ff:fe9a:bcde")
         for first, section in ((advertisement(), "RFC 4861, 6.1 to 8.1"), (defence, "RFC 4862, 5.4.5")):
