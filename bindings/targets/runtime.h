@@ -1,4 +1,13 @@
 /* runtime.h: what the C of wasm2c needs, in place of wabt's wasm-rt.h: one memory, which is a static array, and no tables, signals or files. */
+
+/* What -Wall and -Wextra warn of in the C of wasm2c, and in what it needs and this module does not use. */
+#ifdef __GNUC__
+#pragma GCC diagnostic ignored "-Wunused-value"
+#pragma GCC diagnostic ignored "-Wunused-function"
+#pragma GCC diagnostic ignored "-Wunused-parameter"
+#pragma GCC diagnostic ignored "-Wunused-const-variable"
+#endif
+
 #include <stdbool.h>
 #include <stddef.h>
 #include <stdint.h>
