@@ -1,11 +1,14 @@
-"""dist_headers: the headers of nd.c. They are those of include/ without the refusal of 32-bit processors. The sentences that are true of the archive alone are
-other ones. A sentence that is not there exactly once is an error."""
+"""dist_headers: the headers of nd.c. They are those of include/ without the refusal of 32-bit processors, and with one number more. The sentences that
+are true of the archive alone are other ones. A sentence that is not there exactly once is an error."""
 import os
 import re
 
 TOP = os.path.dirname(os.path.dirname(os.path.dirname(os.path.realpath(__file__))))
 WIDTH = 100
 REFUSAL = '#if UINTPTR_MAX != UINT64_MAX\n#error "nd_hear.h: the library is for targets with 64-bit pointers"\n#endif\n\n'
+# The line of nd.h behind which that of nd.c has one more. By this a program knows which one it is over.
+BUFFER = "#define ND_BUFFER_BYTES 1514                /* a frame of a link with an MTU of 1,500 */\n"
+ONE_MEMORY = "#define ND_ONE_MEMORY 1                     /* nd.c alone: one thread makes all calls */\n"
 SENTENCES = {
     "nd.h": [
         ("Two calls for one node never overlap, questions (nd_.._at, nd_.._of) included. Use a lock of your own, or let one thread own the node. "
@@ -80,4 +83,6 @@ def dist_headers():
         made[header] = text
     if made["nd_hear.h"].count(REFUSAL) != 1:
         raise ValueError("nd_hear.h does not refuse 32-bit processors")
-    return {**made, "nd_hear.h": made["nd_hear.h"].replace(REFUSAL, "")}
+    if made["nd.h"].count(BUFFER) != 1:
+        raise ValueError("nd.h has no line of ND_BUFFER_BYTES")
+    return {"nd.h": made["nd.h"].replace(BUFFER, BUFFER + ONE_MEMORY), "nd_hear.h": made["nd_hear.h"].replace(REFUSAL, "")}

@@ -7,7 +7,7 @@
  * that it sends. The wire of a link has its frames, the oldest first, since each takes the same time to arrive.
  *
  * A thread takes a link, runs it to the end, and takes the next one: threads=64 is a thread for each of 64 links. Over dist/nd.c, where all nodes
- * share one memory, there has to be one thread, which is the usual number. */
+ * share one memory, there has to be one thread, which is the usual number; more are refused. */
 #include <inttypes.h>
 #include <pthread.h>
 #include <stdatomic.h>
@@ -17,6 +17,12 @@
 #include <time.h>
 #include "nd.h"
 
+#ifdef ND_ONE_MEMORY /* dist/nd.h has it */
+enum { IS_ONE_MEMORY = true };
+#else
+enum { IS_ONE_MEMORY = false };
+#endif
+
 enum {
     LATENCY_MS = 1,
     SETTLED_MS = 10000, /* no packet is sent so long after the beginning, while addresses are tried, and before the end: all arrive or are lost */
@@ -25,6 +31,7 @@ enum {
     NUMBER_BITS = 16,   /* of the number of a node on its link */
     MOST_NUMBER = (1 << NUMBER_BITS) - 1,
     MOST_THREADS = 1024,
+    MIB = 1 << 20,
     NO_NEXT_HEADER = 59, /* RFC 8200, 4.7 */
     REDIRECT = 137,      /* RFC 4861, 4.5 */
 };
@@ -70,7 +77,6 @@ struct link {
 };
 
 static const uint64_t FIRST_HASH = UINT64_C(14695981039346656037);
-static const char NO_MEMORY[] = "out of memory; over dist/nd.c, -DND_MEMORY_BYTES=N gives all nodes more";
 static struct link *links;
 static atomic_size_t taken; /* how many links the threads have taken */
 
@@ -80,6 +86,26 @@ static void require(bool holds, const char *what) /* ends the program, from any 
         return;
     fprintf(stderr, "many: %s\n", what);
     _Exit(1);
+}
+
+/* Returns an estimate of the bytes that dist/nd.c needs for all nodes: for each what its full tables take, and half as much for the packets that wait
+ * and the queues; and for all a frame, a stack and constants. It is in whole MiB. */
+static uint64_t bytes_of_all(void)
+{
+    uint64_t bytes = MIB / 8;
+    for (const struct link *link = links; link < links + arguments[LINKS].number; link++)
+        bytes += (uint64_t)nd_node_bytes(&link->limits) * link->count * 3 / 2;
+    return (bytes + MIB - 1) / MIB * MIB;
+}
+
+static void require_done(int32_t status, const char *what) /* ends the program unless a call returned ND_DONE */
+{
+    char text[128];
+    if (status == ND_NO_MEMORY) {
+        snprintf(text, sizeof text, "out of memory; over dist/nd.c, -DND_MEMORY_BYTES=%" PRIu64 " should be enough", bytes_of_all());
+        require(false, text);
+    }
+    require(status == ND_DONE, what);
 }
 
 static uint64_t draw(uint64_t *state) /* splitmix64 */
@@ -157,7 +183,7 @@ static void settle(struct link *link, size_t number, uint64_t now, int32_t statu
     struct node *node = &link->nodes[number];
     uint8_t buffer[ND_BUFFER_BYTES];
     nd_out out;
-    require(status >= 0, status == ND_NO_MEMORY ? NO_MEMORY : "a call that nd.h does not allow");
+    require_done(status < 0 ? status : ND_DONE, "a call that nd.h does not allow");
     while (nd_poll(&node->node, &out, buffer, sizeof buffer) == ND_DONE) {
         node->hash = mix_record(node->hash, &out, buffer);
         link->counts[out.kind < EVENTS ? out.kind : 0]++;
@@ -234,13 +260,16 @@ static void configure(struct link *link, size_t number) /* a router: what it adv
     nd_advertising settings = {.min_interval = 200, .max_interval = 600, .lifetime = 1800, .hop_limit = 64, .preference = ND_PREFERENCE_MEDIUM};
     nd_offer_row offer = {address_of(link, number, 0), 64, .valid_lifetime = 86400, .preferred_lifetime = 14400, .on_link = 1, .autonomous = 1};
     nd_route_row on_link = {address_of(link, 0, 0), .bits = 56, .hop = ND_HOP_DIRECT};
-    bool is_done = nd_offer(node, 0, &offer) == ND_DONE && nd_route(node, 0, &on_link) == ND_DONE && nd_advertise(node, 0, &settings) == ND_DONE;
+    static const char what[] = "a router was not configured";
+    require_done(nd_offer(node, 0, &offer), what);
+    require_done(nd_route(node, 0, &on_link), what);
+    require_done(nd_advertise(node, 0, &settings), what);
     for (size_t i = 0; i < link->routers; i++) {
         nd_route_row route = {address_of(link, BEHIND + i, 0), address_of(link, 0, i), .bits = 64, .hop = ND_HOP_VIA};
         memcpy(route.router.bytes, (uint8_t[8]){0xfe, 0x80}, 8); /* by its link-local address */
-        is_done = is_done && (i == number || nd_route(node, 0, &route) == ND_DONE);
+        if (i != number)
+            require_done(nd_route(node, 0, &route), what);
     }
-    require(is_done, "a router was not configured");
 }
 
 static void open_node(struct link *link, size_t number)
@@ -251,8 +280,7 @@ static void open_node(struct link *link, size_t number)
     options.mac = mac_of(link, number);
     options.seed = draw(&link->random);
     options.limits = link->limits;
-    int32_t status = nd_open(&node->node, &options, sizeof options);
-    require(status == ND_DONE, status == ND_NO_MEMORY ? NO_MEMORY : "a node was not opened");
+    require_done(nd_open(&node->node, &options, sizeof options), "a node was not opened");
     node->hash = FIRST_HASH;
     node->acts = number < link->routers ? SETTLED_MS / 2 : next_packet(link, SETTLED_MS);
     put(link, number, number); /* it has an event at 0 */
@@ -358,6 +386,7 @@ int main(int argc, char **argv)
             return fprintf(stderr, "usage: many [hosts=N] [links=N] [routers=N] [seconds=N] [seed=N] [threads=N]\n"), 2;
     uint64_t random = arguments[SEED].number, count = arguments[LINKS].number;
     require(arguments[HOSTS].number / count + arguments[ROUTERS].number + 1 < MOST_NUMBER, "too many hosts on a link");
+    require(!IS_ONE_MEMORY || arguments[THREADS].number == 1, "all nodes of dist/nd.c share one memory, so threads=1 alone is possible");
     links = calloc(count, sizeof *links);
     require(links != NULL, "out of memory");
     for (size_t i = 0; i < count; i++)
