@@ -1,12 +1,14 @@
 """check_dist: dist/, the node in C as it is committed. Its stamp has the sum of today's sources. Where the tools are those of the stamp, dist/ is made
 again, and has the same bytes. It compiles without a warning; the examples print what they print over the archive, and the rows of `ndpctl run`
-have their texts. A simulation of many nodes in one thread has the same lines as over the archive."""
+have their texts. A simulation of many nodes in one thread has the same lines as over the archive, and more threads are refused. Its README.md has the
+bytes that the functions return."""
 import os
+import re
 import sys
 import time
 
 from check_hostile import SEED
-from check_programs import BINDINGS, FEW_NODES, TESTS, check_host, check_lines, check_many, check_router, check_traces, simulated
+from check_programs import BINDINGS, FEW_NODES, SMALL, TESTS, check_host, check_lines, check_many, check_router, check_traces, simulated
 from checking import IS_FULL, TOP, WARNINGS, has, read, report, report_if, run, skip
 
 sys.path.insert(0, f"{BINDINGS}/targets")
@@ -15,8 +17,36 @@ import stamp  # noqa: E402
 
 DIST = f"{TOP}/dist"
 EXAMPLES = ("host", "router", "hear", "many")
-# The memory of nd.c for `fuzz`: enough for two nodes with the greatest limits, so that ND_NO_MEMORY is never returned.
-FUZZ_MEMORY = 1 << 26
+# The memory of nd.c for `fuzz`: enough for two nodes with the greatest limits, so that ND_NO_MEMORY is never returned. `many` has it too, as
+# examples/README.md says.
+MUCH_MEMORY = 1 << 26
+# The memory of nd.c in README.md's line for a small processor.
+LITTLE_MEMORY = ["-DND_MEMORY_BYTES=131072", "-DND_FRAME_BYTES=2048"]
+# Prints the bytes that README.md has, and how many nodes of the usual limits, and of those of a small node, can be opened: at most four.
+BYTES = """#include <stdio.h>
+#include "nd.h"
+
+static int opened(nd_limits limits)
+{
+    nd_node nodes[4] = {ND_NODE_INIT};
+    nd_options options = ND_OPTIONS_INIT;
+    int count = 0;
+    options.limits = limits;
+    while (count < 4 && nd_open(&nodes[count], &options, sizeof options) == ND_DONE)
+        count++;
+    for (int i = 0; i < count; i++)
+        nd_close(&nodes[i]);
+    return count;
+}
+
+int main(void)
+{
+    nd_limits usual = {0}, few = {.neighbours = 16}, small = {%s};
+    printf("%%zu %%zu %%zu ", nd_node_bytes(&few), nd_pool_bytes(&few, 1514), nd_pool_bytes(&small, 590));
+    printf("%%d %%d\\n", opened(usual), opened(small));
+    return 0;
+}
+""" % ", ".join(map(str, SMALL))
 
 
 def check_stamp():
@@ -54,7 +84,7 @@ def check_compiled(room, compiler):
     over_archive = f"{room}/many"
     room = f"{room}/{compiler}"
     os.mkdir(room)
-    said = run([compiler, "-O2", f"-I{DIST}", "-c", f"{DIST}/nd.c", "-o", f"{room}/nd.o"])
+    said = run([compiler, "-O2", "-Wall", "-Wextra", "-Werror", f"-I{DIST}", "-c", f"{DIST}/nd.c", "-o", f"{room}/nd.o"])
     if not report_if(f"{what}, without a warning", said.returncode == 0 and not said.stderr, said.stderr[-4000:]):
         return
     words = [compiler, "-std=c11", "-D_POSIX_C_SOURCE=200809L", "-O2", *WARNINGS, f"-I{DIST}"]
@@ -68,6 +98,32 @@ def check_compiled(room, compiler):
     check_lines(f"hear over {what}", [f"{room}/hear"])
     check_traces(f"{room}/trace", f"trace over {what}")
     check_simulated(f"many over {what}", f"{room}/many", over_archive)
+    check_threads_refused(f"many over {what}", f"{room}/many")
+    check_bytes_said(room, what, f"{room}/nd.o", 3, compiler)
+
+
+def check_threads_refused(what, program):
+    """Requires that a simulation in several threads is refused, since all nodes share one memory."""
+    if not report_if(f"{what}: dist/nd.h says that there is one memory", "#define ND_ONE_MEMORY 1 " in read(f"{DIST}/nd.h")):
+        return
+    said = run([program, "threads=2"])
+    report_if(f"{what}: two threads are refused", said.returncode == 1 and not said.stdout and "threads=1" in said.stderr, str(said))
+
+
+def check_bytes_said(room, what, node, usual, compiler="gcc"):
+    """Requires that README.md has the bytes that the functions return, and that in the memory of an object of nd.c so many nodes of the usual limits
+    can be opened, and a small one."""
+    text = " ".join(read(f"{DIST}/README.md").split())
+    patterns = (r"16 neighbours and the usual other limits ([\d,]+)\.", r"for this host ([\d,]+), if no frame has more than 1,514",
+                r"`nd_pool_bytes` is ([\d,]+) for frames of at most 590")
+    found = [re.search(pattern, text) for pattern in patterns]
+    wanted = [it[1].replace(",", "") if it else "(not there)" for it in found]
+    words = [compiler, "-std=c11", f"-I{DIST}", "-x", "c", "-", "-x", "none", node, "-lm", "-o", f"{room}/said"]
+    if not report(f"{what}: a program that prints bytes is built", run(words, input=BYTES)):
+        return
+    said = run([f"{room}/said"]).stdout.split()
+    is_so = len(said) == 5 and said[:3] == wanted and int(said[3]) == usual and int(said[4]) > 0
+    report_if(f"{what}: the bytes of README.md, and {usual} nodes of the usual limits", is_so, f"{said}, and README.md has {wanted}")
 
 
 def check_simulated(what, program, over_archive):
@@ -78,22 +134,46 @@ def check_simulated(what, program, over_archive):
     return report_if(f"{what}: as over the archive", said and said == simulated(over_archive, FEW_NODES), str(said))
 
 
-def over_dist(room, name, *more):
-    """Builds a test over nd.c, and returns its path, or None if that fails."""
-    words = ["gcc", "-std=c11", "-D_POSIX_C_SOURCE=200809L", "-O1", *more, f"-I{DIST}"]
-    said = run([*words, f"{DIST}/nd.c", f"{TESTS}/{name}.c", f"{TESTS}/uncounted.c", "-lm", "-o", f"{room}/{name}_dist"])
-    return f"{room}/{name}_dist" if report(f"{name} over dist/nd.c is built", said) else None
+def compiled(room, name, *more):
+    """Compiles nd.c with these flags, and returns the path of its object, or None if that fails."""
+    said = run(["gcc", "-O1", *more, f"-I{DIST}", "-c", f"{DIST}/nd.c", "-o", f"{room}/{name}.o"])
+    return f"{room}/{name}.o" if report(f"dist/nd.c, {' '.join(more)}", said) else None
+
+
+def over_dist(room, name, node, sources, *more):
+    """Builds a program over an object of nd.c, and returns its path, or None if that fails."""
+    program = f"{room}/{name}_dist"
+    words = ["gcc", "-std=c11", "-D_POSIX_C_SOURCE=200809L", "-O1", *more, f"-I{DIST}", *sources, node, "-lm", "-pthread", "-o", program]
+    return program if report(f"{name} over dist/nd.c is built", run(words)) else None
 
 
 def check_much_and_little(room):
     """Runs `fuzz` over nd.c, whose heap refuses nothing, and `exhausted` over one that packets fill."""
     seconds, seed = (600, int(time.time())) if IS_FULL else (5, SEED)
-    fuzz = over_dist(room, "fuzz", f"-DND_MEMORY_BYTES={FUZZ_MEMORY}")
+    much = f"-DND_MEMORY_BYTES={MUCH_MEMORY}"
+    node = compiled(room, "much", much)
+    fuzz = node and over_dist(room, "fuzz", node, [f"{TESTS}/fuzz.c", f"{TESTS}/uncounted.c"], much)
     if fuzz:
         report(f"fuzz over dist/nd.c: {seconds} seconds, from seed {seed}", run([fuzz, str(seconds), str(seed)]))
-    exhausted = over_dist(room, "exhausted", "-DND_MEMORY_BYTES=131072", "-DND_FRAME_BYTES=2048")
+    many = node and over_dist(room, "many", node, [f"{TOP}/examples/c/many.c"])
+    if many:
+        check_memory_of_many(many)
+    node = compiled(room, "little", *LITTLE_MEMORY)
+    exhausted = node and over_dist(room, "exhausted", node, [f"{TESTS}/exhausted.c", f"{TESTS}/uncounted.c"], *LITTLE_MEMORY)
     if exhausted:
         report("exhausted over dist/nd.c: a memory that packets fill, and a day", run([exhausted]))
+    if node:
+        check_bytes_said(room, f"dist/nd.c {' '.join(LITTLE_MEMORY)}", node, 0)
+
+
+def check_memory_of_many(program):
+    """Requires that the usual simulation fits into the memory that examples/README.md gives it, and that a larger one says how much it needs."""
+    is_said = f"-DND_MEMORY_BYTES={MUCH_MEMORY} " in read(f"{TOP}/examples/README.md")
+    report_if("many over dist/nd.c: the memory of examples/README.md", is_said and run([program]).returncode == 0)
+    said = run([program, "hosts=1000", "links=1"])
+    needed = re.search(r"-DND_MEMORY_BYTES=(\d+)", said.stderr)
+    is_more = said.returncode == 1 and needed and int(needed[1]) > MUCH_MEMORY
+    report_if("many over dist/nd.c: how much memory a thousand hosts on a link need", is_more, str(said))
 
 
 def check_dist(room):
