@@ -18,14 +18,14 @@ SENTENCES = {
         ("On x86-64 this is enough, with the memory functions of bindings/c/heap.c. It is measured, not proved.",
          "On x86-64 this is enough, and is not proved. The stack within nd.c is another one."),
         ("the library owns the blocks of memory that it requested.", "the library owns its memory."),
-        ("of any length; padding is ignored.", "of at most ND_FRAME_BYTES bytes (else ND_INVALID is returned); padding is ignored."),
+        ("of any length; padding is ignored.", "of at most ND_FRAME_BYTES bytes (65,536 unless that is set), else ND_INVALID is returned; padding is ignored."),
         ("One node is one interface; several nodes share nothing.", "One node is one interface; several nodes share the memory of nd.c."),
         ("A node reads its options, its calls and the answers of the memory functions, and nothing else: no clock, no environment, no global state.",
          "A node reads its options, its calls, and whether the memory of nd.c has room, which all nodes share. It reads no clock and no environment."),
         ("ND_NO_MEMORY is returned only where a memory function refused a request.",
          "ND_NO_MEMORY is returned only where the memory of nd.c has no room for a request."),
         ("TRUSTED: the duties above, enough stack, the three memory functions, and the toolchain.",
-         "TRUSTED: the duties above, enough stack, the toolchain, and what nd.c is made by, which README.md names."),
+         "TRUSTED: the duties above, enough stack, the toolchain, and what nd.c is made by, which the README.md beside it names."),
         ("The program defines these three functions; the library uses no other memory but the stack, and no other symbol but memcpy, memmove and memset. "
          "bindings/c/heap.c defines them over malloc, bindings/c/pool.c over a static array.",
          "nd.c does not call these three functions, and the program need not define them: the memory of nd.c is a static array of ND_MEMORY_BYTES bytes. "
