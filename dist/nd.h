@@ -86,7 +86,8 @@
  *   1,514 bytes needs ND_BUFFER_BYTES.
  *
  * FRAMES IN. From the Ethernet destination on, without a VLAN tag and without a frame check
- * sequence; of at most ND_FRAME_BYTES bytes (else ND_INVALID is returned); padding is ignored.
+ * sequence; of at most ND_FRAME_BYTES bytes (65,536 unless that is set), else ND_INVALID is
+ * returned; padding is ignored.
  *   - The node does not look at Ethernet addresses, but for a router with ND_POLICY_UNICAST, which
  *     looks at the destination of what it would forward. The caller passes frames to the interface's own
  *     address and to multicast addresses, and no others. A router would forward others once more.
@@ -146,8 +147,8 @@
  *     nd_lease_version ask for no memory.
  *   - ND_BUFFER_BYTES, nd_node_bytes and nd_pool_bytes are enough, and a row costs what its index
  *     is.
- * TRUSTED: the duties above, enough stack, the toolchain, and what nd.c is made by, which README.md
- * names. bindings/check compares this header with the library's source.
+ * TRUSTED: the duties above, enough stack, the toolchain, and what nd.c is made by, which the
+ * README.md beside it names. bindings/check compares this header with the library's source.
  */
 #ifndef ND_H
 #define ND_H
@@ -176,6 +177,7 @@ uint32_t nd_version(void);
 #define ND_FOREVER UINT64_MAX               /* a lifetime left without an end */
 #define ND_LIFETIME_INFINITE UINT32_MAX     /* an announced lifetime without an end, in seconds */
 #define ND_BUFFER_BYTES 1514                /* a frame of a link with an MTU of 1,500 */
+#define ND_ONE_MEMORY 1                     /* nd.c alone: one thread makes all calls */
 
 typedef struct nd_mac {
     uint8_t bytes[6];
@@ -255,6 +257,12 @@ enum nd_draws {
 
 /* What a node does on a link that is not trusted, each where it is asked for. */
 enum nd_policy {
+    /* What is known to live goes before what is only asked for. Where a message gives the
+     * link-layer address of a new neighbour, the cache is full, and none is STALE, the INCOMPLETE
+     * neighbour that was asked for longest fails (ND_OUT_FAILED) instead of a refusal. The answer
+     * to a solicitation is no use of the asker's entry, which stays STALE and may go. */
+    ND_POLICY_SPEAKERS = 2,
+
     /* Of a Router Advertisement, a Cur Hop Limit below 32, a Reachable Time outside 1,000 to
      * 3,600,000 ms and a Retrans Timer outside 100 to 30,000 ms are read as 0, unspecified. */
     ND_POLICY_TIMERS = 4,
@@ -438,7 +446,7 @@ typedef struct nd_next_hop_row {
  * nd_send, or nd_resolve. */
 int32_t nd_next_hop(nd_node *node, uint64_t now, const nd_addr *destination, nd_next_hop_row *row);
 
-typedef struct nd_path { /* a field is 0 where the status does not have it */
+typedef struct nd_path { /* a field is 0 where the status does not have it, but for `until` */
     uint64_t until;      /* DONE: the end of the lease; else `now` */
     uint64_t version;    /* DONE: nd_lease_version of the lease; else 0 */
     nd_addr next_hop;    /* DONE, WAITING: the destination, or the router */
@@ -447,7 +455,7 @@ typedef struct nd_path { /* a field is 0 where the status does not have it */
     uint8_t reserved;
     uint32_t hop;        /* DONE, WAITING: enum nd_hop */
     uint32_t state;      /* DONE, WAITING: enum nd_reachability of the next hop; 0 where it is
-                            multicast, or where something is due at `now` again */
+                            multicast, or where the call left something due at `now` */
     uint32_t refusal;    /* REFUSED: enum nd_refusal */
     uint32_t limit;      /* enum nd_limit, of ND_REFUSAL_FULL; else 0 */
 } nd_path;
@@ -460,13 +468,17 @@ typedef struct nd_path { /* a field is 0 where the status does not have it */
  *   ND_DONE        Send to `path->mac`: the next hop's, or that of a multicast destination, 33:33
  *                  and its last four bytes (RFC 2464, 7).
  *   ND_WAITING     Keep the packets until a record says ND_OUT_RESOLVED or ND_OUT_FAILED with
- *                  `address` the next hop, and ask again after ND_OUT_RESOLVED. One of them comes
- *                  unless nd_forget or nd_clear removes the neighbour, or a new one evicts it.
- *                  Asking before adds nothing.
- *   ND_NOTHING     There is no next hop, `path` has zeros. So it is for the node's own addresses.
+ *                  `address` the next hop, and ask again after ND_OUT_RESOLVED; after ND_OUT_FAILED
+ *                  drop them, each with an ICMPv6 error of your own (RFC 4861, 7.2.2). One of them
+ *                  comes unless nd_forget or nd_clear removes the neighbour. To ask again before is
+ *                  no further use of the neighbour.
+ *   ND_NOTHING     There is no next hop, as for the node's own addresses. `path` has zeros, but for
+ *                  `until`.
  *   ND_REFUSED     ND_REFUSAL_DISABLED, _TENTATIVE (the link-local address is not assigned yet), or
- *                  _FULL. `path->refusal` and `path->limit` say it; there is no ND_OUT_REFUSED.
- * With any other status `path` is unchanged.
+ *                  _FULL. `path->refusal` and `path->limit` say it; there is no ND_OUT_REFUSED. Ask
+ *                  again when a record says ND_OUT_ASSIGNED, or for the next packet.
+ * With any other status `path` is unchanged. The caller writes the whole frame, its link-layer
+ * addresses included, and keeps to the MTU; it may ask between two calls of nd_poll.
  * The lease: after ND_DONE packets to `destination` may be sent to `path->mac` without a call while
  *     now < path->until && path->version == version
  * where `version` is nd_lease_version after the last call. Such a packet leaves the node as it would
