@@ -33,56 +33,63 @@ function shorten(text) {
 
 const momentText = (at) => (at < 100000 ? `${at.toLocaleString('en')} ms` : `${(at / 1000).toFixed(3)} s`);
 
-// Returns where the arrows of each row are, and its notes. Where there is no room outside the lines, these are between them, and so above the arrows or
-// below, if the row has arrows.
+// Returns where the arrows of each row are, and its texts above and below these. Where there is no room outside the lines, the texts are between them: each
+// has a line of its own, labels and the notes of what comes before the frames above the arrows, and the other notes below.
 function placed(rows, arrows, isNarrow) {
     const most = (notes) => Math.max(...[0, 1].map((which) => notes.filter((it) => it.which === which).length));
-    const ends = new Set(arrows.flatMap((it) => [it.row, it.to]));
+    const ends = new Set(arrows.flatMap((it) => [it.row, it.to])), isEarly = (it) => EARLY.includes(it.kind);
     let y = 60;
     return rows.map(({ notes }, index) => {
-        const isApart = isNarrow && ends.has(index), isAbove = (it) => isApart && EARLY.includes(it.kind);
-        const above = notes.filter(isAbove), below = notes.filter((it) => !isAbove(it));
-        y += NOTE * most(above);
-        const place = { y, above, below, down: isApart ? NOTE : 4 };
-        y += ROW + NOTE * Math.max(0, most(below) - (isApart ? 0 : 1));
+        if (!isNarrow || !ends.has(index)) {
+            const place = { y, above: [], below: notes, down: 4 };
+            y += ROW + NOTE * Math.max(0, (isNarrow ? notes.length : most(notes)) - 1);
+            return place;
+        }
+        const labels = arrows.filter((it) => it.row === index).map((it) => ({ which: it.from, kind: 'label', text: it.text, meaning: it.meaning }));
+        const above = [...notes.filter(isEarly), ...labels], below = notes.filter((it) => !isEarly(it));
+        y += NOTE * above.length;
+        const place = { y, above, below, down: NOTE };
+        y += 28 + NOTE * below.length;
         return place;
     });
 }
 
 // An arrow with its label: in the middle, or if it slopes nearer to the sender, as the arrow does. The label is over it, or below that of an answer, over
-// which is the arrow of the question.
-function arrow(it, name, lines, places) {
+// which is the arrow of the question. In a narrow picture the label is among the texts of the row.
+function arrow(it, name, lines, places, isNarrow) {
     const [from, to] = [lines[it.from], lines[1 - it.from]], side = Math.sign(to - from), room = Math.abs(to - from);
     const end = it.kind === 'lost' ? (from + to) / 2 : to - 3 * side, y1 = places[it.row].y, y2 = places[it.to].y;
     const part = y1 === y2 && it.kind !== 'lost' ? 0.5 : 0.31, x = from + part * (to - from), on = y1 + part * (y2 - y1);
     const angle = (side * Math.atan2(y2 - y1, Math.abs(end - from)) * 180) / Math.PI;
     const label = { class: 'label', x, y: it.isAnswer ? on + 17 : on - 7, 'text-anchor': 'middle', transform: `rotate(${angle} ${x} ${on})` };
     const line = drawn('line', { x1: from, y1, x2: end, y2, class: `arrow ${it.kind}`, 'marker-end': `url(#tip-${name}-${it.kind})` });
-    return [line, drawnText(label, it.text, room - 8, it.meaning)];
+    return isNarrow ? [line] : [line, drawnText(label, it.text, room - 8, it.meaning)];
 }
 
-// The notes of a row.
+// The texts of a row: its notes, and in a narrow picture the labels of its arrows.
 function noteTexts({ y, above, below, down }, lines, width, isNarrow) {
     const counts = [0, 0];
     const text = (it, at) => {
         const isRight = (it.which === 1) !== isNarrow, x = lines[it.which] + (isRight ? 14 : -14);
         const room = isNarrow ? lines[1] - lines[0] - 28 : it.which ? width - x : x - 80;
-        return drawnText({ x, y: at, class: `note ${it.kind}`, 'text-anchor': isRight ? 'start' : 'end' }, it.text, room, it.meaning);
+        const name = it.kind === 'label' ? 'label' : `note ${it.kind}`;
+        return drawnText({ class: name, x, y: at, 'text-anchor': isRight ? 'start' : 'end' }, it.text, room, it.meaning);
     };
-    const after = (it) => y + down + NOTE * counts[it.which]++;
-    return [...above.map((it, index) => text(it, y - 26 - NOTE * index)), ...below.map((it) => text(it, after(it)))];
+    const after = (it) => y + down + NOTE * counts[isNarrow ? 0 : it.which]++;
+    return [...above.map((it, index) => text(it, y - 7 - NOTE * (above.length - 1 - index))), ...below.map((it) => text(it, after(it)))];
 }
 
 // Shows a picture in `box`, and returns it. `rows` have a moment and notes; `arrows` have the rows of their ends. `wide` has the width and the lines of a
 // picture with room for notes outside; the picture is as wide as `box`, if that is less.
 function diagram({ name, box, heads, rows, arrows, label, wide }) {
     const room = box.clientWidth || wide.width, isNarrow = room < wide.width, width = isNarrow ? room : wide.width;
-    const lines = isNarrow ? [84, width - 14] : wide.lines, places = placed(rows, arrows, isNarrow), height = (places.at(-1)?.y ?? 60) + ROW;
+    const lines = isNarrow ? [84, width - 14] : wide.lines, places = placed(rows, arrows, isNarrow), last = places.at(-1);
+    const height = (last?.y ?? 60) + ROW + (isNarrow && last ? NOTE * last.below.length : 0);
     const svg = drawn('svg', { viewBox: `0 0 ${width} ${height}`, width, height, class: isNarrow ? 'narrow' : 'broad', role: 'img',
         'aria-label': label });
-    const add = (at, ...elements) => {
+    const timed = (at, elements) => {
         for (const element of elements) element.style.setProperty('--at', at);
-        svg.append(...elements);
+        return elements;
     };
     svg.innerHTML = markers(name);
     for (const which of [0, 1]) {
@@ -90,11 +97,18 @@ function diagram({ name, box, heads, rows, arrows, label, wide }) {
         svg.append(drawn('line', { x1: lines[which], y1: 30, x2: lines[which], y2: height - 10, class: 'lifeline' }));
         svg.append(drawn('text', { x, y: 20, class: 'host', 'text-anchor': isLast ? 'end' : 'middle' }, heads[which]));
     }
-    for (const [index, { at }] of rows.entries()) {
-        if (at !== rows[index - 1]?.at) add(at, drawnText({ x: 2, y: places[index].y + 4, class: 'moment' }, momentText(at), 80, SINCE_FIRST));
-        add(at, ...noteTexts(places[index], lines, width, isNarrow));
+    const texts = [];
+    for (const it of arrows) {
+        const [line, ...labels] = timed(rows[it.row].at, arrow(it, name, lines, places, isNarrow));
+        svg.append(line);
+        texts.push(...labels);
     }
-    for (const it of arrows) add(rows[it.row].at, ...arrow(it, name, lines, places));
+    for (const [index, { at }] of rows.entries()) {
+        const isNext = at !== rows[index - 1]?.at, moment = () => drawnText({ x: 2, y: places[index].y + 4, class: 'moment' }, momentText(at), 80, SINCE_FIRST);
+        texts.push(...timed(at, [...(isNext ? [moment()] : []), ...noteTexts(places[index], lines, width, isNarrow)]));
+    }
+    // The texts are over all arrows.
+    svg.append(...texts);
     box.replaceChildren(svg);
     for (const text of svg.querySelectorAll('[data-room]')) shorten(text);
     return svg;

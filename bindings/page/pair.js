@@ -10,10 +10,10 @@ async function simulated(starts, delay, areLost) {
     const module = await compiled(), hosts = [null, null], happened = [], carried = [];
     // By then the second host has an answer to its solicitation, or uses the address.
     const end = Math.max(PAIR_END, starts[1] + LONGEST_TRIAL + 2 * delay);
-    const gather = (which) => {
+    const gather = (which, heard = null) => {
         for (const record of hosts[which].records()) {
             const at = Number(record.moment);
-            happened.push({ at, which, kind: KINDS[record.kind], text: recordText(record) });
+            happened.push({ at, which, kind: KINDS[record.kind], text: recordText(record), heard });
             if (record.kind === TX) carried.push({ from: which, sent: at, arrives: at + delay, frame: record.bytes, isCarried: false, isLost: areLost });
         }
     };
@@ -27,7 +27,7 @@ async function simulated(starts, delay, areLost) {
             // A frame that arrives before a host starts passes it by.
             frame.isLost = !hosts[1 - frame.from];
             hosts[1 - frame.from]?.receive(now, frame.frame);
-            if (!frame.isLost) gather(1 - frame.from);
+            if (!frame.isLost) gather(1 - frame.from, frame.frame);
         }
         for (const which of [0, 1]) {
             if (!hosts[which] && starts[which] <= now) {
@@ -50,7 +50,7 @@ function pairDiagram({ happened, carried }) {
     const arrived = carried.filter((it) => !it.isLost), isSaid = (it) => !['tx', 'heard'].includes(it.kind);
     const moments = [...new Set([...happened.map((it) => it.at), ...arrived.map((it) => it.arrives)])].sort((a, b) => a - b);
     const rows = moments.map((at) => ({ at, notes: happened.filter((it) => it.at === at && isSaid(it)).map((it) => ({
-        which: it.which, kind: it.kind, text: SHORT_NOTES[it.kind] ?? it.text, meaning: dropMeaning(it.text) ?? it.text })) }));
+        which: it.which, kind: it.kind, text: SHORT_NOTES[it.kind] ?? it.text, meaning: dropMeaning(it.text, it.heard) ?? it.text })) }));
     const arrows = carried.map((it) => ({ from: it.from, row: moments.indexOf(it.sent), to: moments.indexOf(it.isLost ? it.sent : it.arrives),
         kind: it.isLost ? 'lost' : 'sent', isAnswer: arrived.some((other) => other.from !== it.from && other.arrives === it.sent),
         text: plain(it.frame), meaning: lineOf(it.frame, 'either') }));
@@ -69,12 +69,19 @@ function outcome({ happened }) {
 
 // Runs the two hosts, and draws what happens: at once, or with time running.
 async function showPair(isRunning = false) {
-    const entered = (id) => Math.max(0, Math.trunc(Number(find(id).value)));
-    const mine = ++pairRuns, run = await simulated([0, entered('pair-start')], entered('pair-delay'), find('pair-lost').checked);
+    const mine = ++pairRuns;
+    let run = { happened: [], carried: [] }, fault = null;
+    try {
+        run = await simulated([0, numberIn('pair-start')], numberIn('pair-delay'), find('pair-lost').checked);
+    } catch (it) {
+        fault = it;
+    }
     if (mine !== pairRuns) return;
-    find('outcome').textContent = outcome(run);
-    pairDiagram(run).classList.toggle('running', isRunning);
-    const line = (it) => made('div', 'of-host', made('b', '', `host ${it.which + 1}`), outputLine(`${it.at} ${it.text}`));
+    showFieldFault('pair', fault);
+    find('outcome').textContent = fault ? '' : outcome(run);
+    if (fault) find('diagram').replaceChildren();
+    else pairDiagram(run).classList.toggle('running', isRunning);
+    const line = (it) => made('div', 'of-host', made('b', '', `host ${it.which + 1}`), outputLine(`${it.at} ${it.text}`, it.heard));
     find('pair-lines').replaceChildren(...run.happened.map(line));
 }
 
