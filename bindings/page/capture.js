@@ -28,7 +28,27 @@ function packetsOfFile(buffer) {
     if (magic === 0x0a0d0d0a) return packetsOfBlocks(buffer);
     if ([0xa1b2c3d4, 0xa1b23c4d].includes(magic)) return packetsOfPcap(buffer, false);
     if ([0xd4c3b2a1, 0x4d3cb2a1].includes(magic)) return packetsOfPcap(buffer, true);
-    return framesOfText(new TextDecoder().decode(buffer)).map((frame) => ({ frame }));
+    return packetsOfText(new TextDecoder().decode(buffer));
+}
+
+// Returns the packets of a text in a file, or one that says what is wrong if most of its lines aren't frames.
+function packetsOfText(text) {
+    const frames = framesOfText(text), read = frames.filter((it) => typeof it !== 'string' && it.length > 0);
+    if (2 * read.length < frames.length || frames.length === 0) return [{ frame: 'neither a capture nor frames in hexadecimal' }];
+    return frames.map((frame) => ({ frame }));
+}
+
+// Returns why no packet of a file can be read, or null if one can.
+const faultOf = (packets) => (packets.some(({ frame }) => typeof frame !== 'string') ? null : packets[0]?.frame ?? 'the file has no frames');
+
+// Returns true if the bytes from a place to their end are one IPv6 packet.
+const isPacket = (bytes, at) => bytes.length >= at + 40 && bytes[at] >> 4 === 6 && at + 40 + bytes[at + 4] * 256 + bytes[at + 5] === bytes.length;
+
+// Returns true if lines that were read as frames are the lines of one frame.
+function areOneFrame(frames) {
+    const length = frames.reduce((sum, it) => sum + it.length, 0);
+    if (frames.length < 2 || length > LONGEST || frames.some((it) => typeof it === 'string')) return false;
+    return isPacket(Uint8Array.from(frames.flatMap((it) => [...it])), 14);
 }
 
 const ETHERNET = 1;

@@ -25,11 +25,11 @@ function hearingPicture(events) {
     const rows = [], arrows = [];
     for (const { at, kind, text, frame } of events.filter((it) => it.kind !== HEARD)) {
         const row = rows.length, last = arrows.at(-1), note = { which: 1, kind: text?.split(' ')[0], text: kind === UP ? 'up: for an upper layer' : text };
-        if (kind === 0) arrows.push({ from: 0, row, to: row, kind: 'given', text: brief(frame), meaning: lineOf(frame, 'either') });
+        if (kind === 0) arrows.push({ from: 0, row, to: row, kind: 'given', text: brief(frame), meaning: lineOf(frame, 'either'), frame });
         if (kind === TX) arrows.push({ from: 1, row, to: row, kind: 'sent', text: brief(frame), meaning: lineOf(frame, 'either') });
         if (kind === DROP) {
             last.kind = 'dropped';
-            note.meaning = dropMeaning(text);
+            note.meaning = dropMeaning(text, last.frame);
         }
         const isOfLast = last?.row === row - 1 && last.from === 0 && rows[row - 1].at === at;
         if (kind === 0 || kind === TX) rows.push({ at, notes: [] });
@@ -49,12 +49,18 @@ function hearingLines(events) {
     });
 }
 
-const hearingOptions = () => ({ mac: find('capture-mac').value.trim().toLowerCase(), draws: find('capture-draws').value });
+const hearingOptions = () => ({ mac: macIn('capture-mac'), draws: find('capture-draws').value.trim() });
 
 // The frames of the capture with their moments at the host that is chosen.
-function framesHeard() {
-    const before = Math.trunc(Number(find('capture-before').value));
-    return timedFrames(capture, before >= 0 && before < 2 ** 32 ? before : 0);
+const framesHeard = () => timedFrames(capture, numberIn('capture-before'));
+
+// Why there is nothing to hear.
+function whyNone() {
+    if (capture.length === 0) return 'No capture yet.';
+    const fault = faultOf(capture);
+    if (fault) return `This file can't be read: ${fault}.`;
+    const isTimed = capture.some((it) => it.time !== undefined);
+    return isTimed ? 'Each frame of this capture is cut: a host takes whole ones.' : 'These frames are text, without times: a replay needs a capture.';
 }
 
 // What was passed and sent, in one sentence.
@@ -63,25 +69,29 @@ function hearingSum(timed, own, events) {
     const left = [[mine, 'of its own'], [timed.length - mine - passed, 'for others'], [capture.length - timed.length, 'not whole or without a time']];
     const without = left.filter(([count]) => count > 0).map(([count, what]) => `${count} ${what}`).join(', ');
     const sent = events.filter((it) => it.kind === TX).length;
-    return `The host hears ${passed} of ${counted(capture.length, 'frame')}, and sends ${sent}.${without && ` Left out: ${without}.`}`;
+    const known = stations(timed), isOther = known.length === 1 && known[0] !== own;
+    const strange = isOther ? ` All frames are of one node, ${known[0]}: the host here is another one.` : '';
+    return `The host hears ${passed} of ${counted(capture.length, 'frame')}, and sends ${sent}.${without && ` Left out: ${without}.`}${strange}`;
 }
 
 async function showCapture() {
     const mine = ++hearings, module = await compiled(), options = hearingOptions();
-    let events = [], said = 'No capture yet.';
+    let events = [], said = '', fault = null;
     try {
         const timed = framesHeard(), node = await opened(module, { role: 'host', ...options });
         if (timed.length > 0) {
             if (longestGap(timed) > LONGEST_GAP) throw new Error('Two frames of this capture are more than two years apart.');
             events = replayed(node, options.mac, timed, timed.at(-1).at + AFTER);
             said = hearingSum(timed, options.mac, events);
-        } else if (capture.length > 0) said = 'This file has no whole frames of Ethernet with times.';
-    } catch (fault) {
-        said = fault.message;
+        } else said = whyNone();
+    } catch (it) {
+        fault = it;
     }
     if (mine !== hearings) return;
+    showFieldFault('capture', fault);
     const shown = events.slice(0, MOST_EVENTS), more = events.length > MOST_EVENTS ? ` The first ${MOST_EVENTS} events of ${events.length} are shown.` : '';
     find('capture-sum').textContent = said + more;
+    find('capture-sum').classList.toggle('fault', capture.length > 0 && events.length === 0);
     const picture = { name: 'capture', box: find('capture-diagram'), heads: ['the link', `host ${options.mac}`], wide: HEARING_WIDE,
         label: 'the frames of the capture and of the host as arrows; the same is below as text', ...hearingPicture(shown) };
     if (shown.length > 0) diagram(picture);
@@ -89,20 +99,15 @@ async function showCapture() {
     find('capture-lines').replaceChildren(...hearingLines(shown));
 }
 
-// Takes another capture: the host is one of those in it.
+// Takes another capture: the host is one of those in it that hears something.
 function hearPackets(packets, before = 1500) {
     capture = packets;
-    const known = stations(capture.filter(isWhole));
-    find('capture-mac').value = known[0] ?? PAIR_MAC;
+    const whole = capture.filter(isWhole), known = stations(whole);
+    find('capture-mac').value = hostFor(whole, known);
     find('capture-before').value = before;
     find('stations').replaceChildren(...known.slice(0, 64).map((it) => Object.assign(made('option', ''), { value: it })));
     return showCapture();
 }
-
-const packetsOfLink = (text) => [...text.matchAll(/(\d+)-((?:[0-9a-f]{2})+)/gi)].map(([, at, digits]) => {
-    const frame = bytesOf(digits);
-    return { frame, length: frame.length, time: BigInt(at) * MILLISECOND };
-});
 
 // Takes what is in a link, or else the example.
 async function takeCapture({ mac: own, draws = 'word:0', before = 1200, frames: linked }) {
@@ -113,12 +118,13 @@ async function takeCapture({ mac: own, draws = 'word:0', before = 1200, frames: 
 }
 
 function captureState() {
-    const timed = timedFrames(capture, 0), of = () => timed.map(({ at, frame }) => `${at}-${hexOf(frame)}`).join('_');
-    return isForLink(timed.map((it) => it.frame)) ? { ...hearingOptions(), before: find('capture-before').value, frames: of() } : null;
+    const frames = capture.map((it) => it.frame).filter((it) => typeof it !== 'string');
+    return isForLink(frames) ? { ...hearingOptions(), before: find('capture-before').value, frames: linkOf(capture) } : null;
 }
 
 // Puts what the host hears into a script, on the tab of a node.
 function hearingScript() {
+    if (!find('capture-fault').hidden) return null;
     const options = hearingOptions(), heard = framesHeard().filter(({ frame }) => passes(frame, options.mac));
     const lines = heard.map(({ at, frame }) => `${at} rx ${hexOf(frame)}`), end = (heard.at(-1)?.at ?? 0) + AFTER;
     return showTab('node', { ...options, script: [...lines, `${end} show addresses`].join('\n') });
@@ -129,7 +135,7 @@ function startCapture() {
     find('capture-example').addEventListener('click', async () => {
         await takeCapture({});
         bring(find('capture-sum'));
-        remember();
+        changed();
     });
     find('capture-script').addEventListener('click', hearingScript);
 }

@@ -18,6 +18,26 @@ function timedFrames(packets, before) {
     });
 }
 
+// Returns the packets that have a time and bytes, as a link has them: the milliseconds since the first whole one, the digits, and how long the frame was if
+// it is cut.
+function linkOf(packets) {
+    const timed = packets.filter((it) => it.time !== undefined && typeof it.frame !== 'string' && it.frame.length > 0);
+    const first = (timed.find(isWhole) ?? timed[0])?.time;
+    return timed.map(({ frame, length, time }) => {
+        return `${time > first ? (time - first) / MILLISECOND : 0}-${hexOf(frame)}${length > frame.length ? `-${length}` : ''}`;
+    }).join('_');
+}
+
+// Returns the packets of a link. What isn't one is a packet that says so.
+function packetsOfLink(text) {
+    return text.split('_').filter((it) => it !== '').map((it) => {
+        const [, at, digits, length] = /^(\d{1,15})-((?:[0-9a-f]{2})+)(?:-(\d{1,9}))?$/i.exec(it) ?? [];
+        if (digits === undefined) return { frame: `the address has “${it.slice(0, 40)}” in place of a frame` };
+        const frame = frameOfDigits(digits);
+        return { frame, length: Number(length ?? frame.length), time: BigInt(at) * MILLISECOND };
+    });
+}
+
 const longestGap = (timed) => timed.reduce((most, { at }, index) => Math.max(most, at - (timed[index - 1]?.at ?? at)), 0);
 
 // Returns the Ethernet addresses of nodes in frames. The first is the likeliest to be replayed: of a host that tries an address or asks for routers.
@@ -30,6 +50,12 @@ function stations(frames) {
 
 // Returns true if the interface passes a frame to its node: to its own address or to a group, and not from itself (nd.h, FRAMES IN).
 const passes = (frame, own) => (isGroup(frame) || receiver(frame) === own) && sender(frame) !== own;
+
+// Returns the Ethernet address that is chosen for the host of whole packets: the first of its nodes that hears one of them, or else one of no node.
+function hostFor(whole, known) {
+    const others = ['34:56:78:9a:bc:de', '02:00:00:00:00:01'];
+    return known.find((own) => whole.some(({ frame }) => passes(frame, own))) ?? others.find((it) => !known.includes(it));
+}
 
 // Lets a node hear frames at their moments, and time pass to `end`. Returns what happens, in order: frames that it hears, and its records.
 function replayed(node, own, frames, end) {

@@ -17,21 +17,24 @@ function meaning(digits) {
 }
 
 // The element of a line of output: its moment, its text with few digits, of a frame what it says, and of a frame that is dropped why. `heard` is the frame
-// that the line is about, if it is about one.
-function outputLine(line, heard) {
+// that the line is about, if it is about one, and `role` that of the node.
+function outputLine(line, heard, role = 'host') {
     const [moment, word, ...rest] = line.split(' '), element = made('div', `said ${word}`), at = made('abbr', 'moment', moment);
     const short = word === 'tx' || word === 'up' ? cut(rest[0]) : rest.join(' ');
     at.title = SINCE_START;
     element.dataset.line = line;
-    element.append(at, made('span', 'line', made('b', '', word), ...explainedWords('output', `${word} ${short}`).slice(1)));
+    const [first, ...others] = explainedWords('output', `${word} ${short}`);
+    element.append(at, made('span', 'line', made('b', '', first), ...others));
     if (word === 'tx') element.append(meaning(rest[0]));
-    if (word === 'drop') element.append(made('span', 'quiet', dropMeaning(line.slice(moment.length + 1)), ...dropSection(rest[0], heard)));
+    if (word === 'drop') element.append(made('span', 'quiet', dropMeaning(line.slice(moment.length + 1), heard, role), ...dropSections(rest[0], heard, role)));
     return element;
 }
 
-// A link to the section of a reason. What isn't for a node by its addresses has none.
-function dropSection(reason, frame) {
-    return frame && reason !== '19' ? [': ', sectionElement(sectionOf(reason, frame))] : [];
+// Links to the sections of a reason.
+function dropSections(reason, frame, role) {
+    if (!frame) return [];
+    const sections = reason === '19' ? notForNode(frame, role)[1] : [sectionOf(reason, frame)];
+    return sections.length > 0 ? [': ', ...sectionElements(sections)] : [];
 }
 
 // The tables of a node at a moment, as they are now. Those without rows are left out.
@@ -54,12 +57,12 @@ function commandLine(line) {
 function step(line, lines, tables) {
     const details = made('details', 'tables', made('summary', '', 'tables after this line'), tablesElement(tables));
     const [, heard] = /^\d+ rx ([0-9a-f]+)$/i.exec(line) ?? [];
-    return made('div', 'step', commandLine(line), ...lines.map((it) => outputLine(it, heard && bytesOf(heard))), details);
+    return made('div', 'step', commandLine(line), 
+        ...lines.map((it) => outputLine(it, heard && bytesOf(heard), find('node-role').value)), details);
 }
 
-// The element of what is wrong: in a line, which is marked in the script if that is asked for, or in the options.
+// The element of what is wrong in a line, which is marked in the script if that is asked for.
 function faultElement(fault) {
-    if (!fault.number) return made('div', 'fault', fault.message);
     const button = made('button', '', 'Show the line'), before = find('script').value.split('\n').slice(0, fault.number - 1);
     button.addEventListener('click', () => {
         const begin = before.join('\n').length + Math.sign(before.length);
@@ -72,18 +75,24 @@ function faultElement(fault) {
 // Runs the script from its beginning, up to the first line that is malformed.
 async function runScript() {
     const mine = ++runs, steps = [], module = await compiled(), lines = find('script').value.split('\n');
+    let fault = null;
     try {
-        const node = await opened(module, { role: find('node-role').value, mac: find('node-mac').value, draws: find('node-draws').value });
+        const node = await opened(module, { role: find('node-role').value, mac: macIn('node-mac'), draws: find('node-draws').value.trim() });
         for (const { line, now, lines: said } of answers(node, lines.slice(0, MOST_LINES).join('\n'))) {
             steps.push(step(line, said, tablesNow(node, node.lastMoment() > now ? node.lastMoment() : now)));
         }
         if (lines.length > MOST_LINES) steps.push(made('div', 'fault', `The lines behind line ${MOST_LINES} are not run.`));
-    } catch (fault) {
-        steps.push(faultElement(fault));
+    } catch (it) {
+        fault = it;
+        if (it.number) steps.push(faultElement(it));
     }
     // A later run may have ended before this one.
     if (mine !== runs) return;
+    showFieldFault('node', fault?.number ? null : fault);
     find('said-lines').replaceChildren(...steps);
+    const said = counted(document.querySelectorAll('#said-lines .said').length, 'line');
+    find('node-near').replaceChildren(...(fault?.number ? [faultElement(fault)] : fault ? [] : [`The node says ${said}. `, belowButton('said-lines')]));
+    find('node-near').classList.toggle('near', !fault);
     const last = [...document.querySelectorAll('#said-lines .tables')].at(-1);
     if (last) last.open = true;
 }
@@ -102,7 +111,7 @@ function startRun() {
     exampleButtons(find('scripts'), SCRIPTS, async ({ lines, ...options }) => {
         await takeScript({ ...options, script: lines.join('\n') });
         bring(find('said-lines'));
-        remember();
+        changed();
     });
     for (const id of ['script', 'node-role', 'node-mac', 'node-draws']) find(id).addEventListener('input', runScript);
 }

@@ -34,6 +34,9 @@ class Malformed extends Error {
     }
 }
 
+// An error of an option, which gets the option's name.
+const ofOption = (option, fault) => Object.assign(fault, { option });
+
 const quoted = (word) => (word === '' ? 'an empty word' : `“${word}”`);
 
 // ---- words of a line
@@ -97,7 +100,9 @@ function addressOf(text) {
 }
 
 function macOf(text) {
-    if (!/^([0-9a-f]{2}:){5}[0-9a-f]{2}$/i.test(text)) throw new Malformed(quoted(text), 'an Ethernet address, such as 34:56:78:9a:bc:de');
+    if (!/^([0-9a-f]{2}:){5}[0-9a-f]{2}$/i.test(text)) {
+        throw ofOption('mac', new Malformed(quoted(text), 'six pairs of hexadecimal digits, such as 34:56:78:9a:bc:de'));
+    }
     return Uint8Array.from(text.split(':'), (byte) => parseInt(byte, 16));
 }
 
@@ -249,7 +254,7 @@ const EVENTS = {
 async function opened(module, { role, mac: address, draws = 'seed:0', transmits = 1, policy = '', start = 0, ...limits }) {
     const [, source, seed] = /^(seed|word):(0|[1-9]\d*)$/.exec(draws) ?? [];
     if (!source || BigInt(seed) >= 2n ** (source === 'seed' ? 64n : 32n)) {
-        throw new Malformed(quoted(draws), 'random words: seed: and a number below 2^64, or word: and one below 2^32, such as word:0');
+        throw ofOption('draws', new Malformed(quoted(draws), 'seed: and a number below 2^64, or word: and one below 2^32, such as word:0'));
     }
     const { exports } = await WebAssembly.instantiate(module, {});
     const draw = { draws: source === 'word' ? 1 : 0, seed };

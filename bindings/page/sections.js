@@ -16,10 +16,19 @@ function sectionOf(reason, frame) {
     return SECTIONS[reason] ?? VALIDATIONS[type];
 }
 
+// What a node says of a frame that isn't for it (reason 19), by the role of the node: words and sections. A message that the role takes is dropped by the
+// node's addresses.
+function notForNode(frame, role) {
+    const type = frame?.[54], isTaken = role === 'host' ? type !== 133 : ![134, 137].includes(type);
+    if (frame?.[20] === 58 && !isTaken) return [`a ${role} takes no ${MESSAGES[type].name}`, [NOT_TAKEN[type]]];
+    if (frame?.[20] === 58 && type === 135) return ['this node does not have the target, or does not use it yet', ['4861 7.2.3', '4862 5.4.3']];
+    return ['it has another destination or target, or the link-local address is not assigned yet or a duplicate', []];
+}
+
 // Returns the sections of a reason, whatever the message is.
 function sectionsOf(reason) {
     if (SECTIONS[reason]) return [SECTIONS[reason]];
-    if (reason === 19) return Object.values(NOT_TAKEN);
+    if (reason === 19) return [...Object.values(NOT_TAKEN), '4861 7.2.3', '4862 5.4.3'];
     const found = (MESSAGES_OF[reason] ?? Object.keys(VALIDATIONS)).map((type) => VALIDATIONS[type]);
     return reason === 12 ? [ANY_MULTICAST, ...found] : found;
 }

@@ -22,13 +22,52 @@ async function showTab(name, values = null) {
     const first = name === 'frames' ? FRAMES_SHOWN_FIRST : {};
     if (values || !taken.has(name)) await TABS[name].take(values ?? first);
     else await TABS[name].show();
+    if (values?.open !== undefined) openRows(name, values.open);
     taken.add(name);
 }
 
-// Returns the address of a tab, behind `#`. What is too long for a link is left out.
+// The numbers of the rows of a tab that are opened, as its address has them.
+const rowsOf = (name) => [...find(name).querySelectorAll('details')];
+const openedRows = (name) => rowsOf(name).flatMap((it, number) => (it.open ? [number] : [])).join('.');
+
+function openRows(name, text) {
+    const numbers = new Set(text.split('.'));
+    for (const [number, row] of rowsOf(name).entries()) row.open = numbers.has(String(number));
+}
+
+// What is long in the values of an address, and may be cut.
+const longOf = (values) => values.frames ?? values.text ?? values.script;
+const framesIn = (values) => (values.frames ?? values.text ?? '').split(/[_\s]+/).filter((it) => it !== '').length;
+
+// Returns the address of a tab, behind `#`: before what is long how many characters and frames that has. What is too long for a link is left out.
 function fragmentOf(name) {
-    const state = TABS[name].state(), whole = `#${name}?${new URLSearchParams(state ?? {})}`;
-    return !state || whole.length > LONGEST_LINK ? `#${name}` : whole;
+    const state = TABS[name].state() ?? {}, long = longOf(state), open = openedRows(name), count = framesIn(state);
+    const values = { ...(open && { open }), ...(long && { size: long.length }), ...(long && count && { count }), ...state };
+    const whole = `#${name}?${new URLSearchParams(values)}`;
+    return !TABS[name].state() || whole.length > LONGEST_LINK ? `#${name}` : whole;
+}
+
+// Returns what is wrong with the values of an address, or an empty text.
+function faultOfAddress(values) {
+    const length = (longOf(values) ?? '').length, size = Number(values.size ?? 0);
+    const unread = packetsOfLink(values.frames ?? '').filter(({ frame }) => typeof frame === 'string');
+    if (length < size) {
+        const count = values.count ? ` and ${framesIn(values)} of ${values.count} frames, of which the last may be cut` : '';
+        return `The address is incomplete: it has ${length} of ${size} characters${count}. Ask for the whole of it.`;
+    }
+    return unread.length > 0 ? `The address is incomplete or changed: ${unread[0].frame}.` : '';
+}
+
+function showAddressFault(text) {
+    find('address-fault').textContent = text;
+    find('address-fault').hidden = text === '';
+}
+
+// What is shown has changed: what was said of it before is no longer so, and it is put into the address.
+function changed() {
+    say('');
+    showAddressFault('');
+    remember();
 }
 
 // Puts what is shown into the address, once nothing more is typed.
@@ -39,39 +78,47 @@ function remember() {
 
 // Shows what the address names, or else the two hosts. Frames behind `#`, parted by commas and with a role before them, are of links of earlier pages.
 function takeAddress() {
+    say('');
+    showAddressFault('');
     const [, role = 'either', digits] = /^#(?:(host|router):)?([0-9a-f]+(?:,[0-9a-f]*)*)$/i.exec(location.hash) ?? [];
     if (digits) return showTab('frames', { role: role.toLowerCase(), text: digits.replaceAll(',', '\n') });
     const [, reason] = /^#reason-(\d+)$/.exec(location.hash) ?? [];
     if (reason) return showTab('frames').then(() => showReason(reason));
     const [, name, values] = /^#(\w+)(?:\?(.*))?$/.exec(location.hash) ?? [];
-    if (Object.hasOwn(TABS, name ?? '')) return showTab(name, values === undefined ? null : Object.fromEntries(new URLSearchParams(values)));
-    return showTab('pair');
+    const given = values === undefined ? null : Object.fromEntries(new URLSearchParams(values)), isKnown = Object.hasOwn(TABS, name ?? '');
+    showAddressFault(isKnown ? faultOfAddress(given ?? {}) : location.hash.length > 1 ? 'What the address has behind # names nothing on this page.' : '');
+    return showTab(isKnown ? name : 'pair', isKnown ? given : null);
 }
 
 function say(text) {
     find('said').textContent = text;
 }
 
+// Returns true if the page is a file of this machine, whose address no other machine can open.
+const isFile = () => location.protocol === 'file:';
+
 async function copyLink() {
     const fragment = fragmentOf(shownTab());
     history.replaceState(null, '', fragment);
     if (!fragment.includes('?')) return say('What is shown is too much for a link.');
+    const behind = 'This page is a file of this machine, so others open their own copy of it, and put this behind the end of its address.';
     try {
-        await navigator.clipboard.writeText(location.href);
-        return say('Copied.');
+        await navigator.clipboard.writeText(isFile() ? fragment : location.href);
+        return say(isFile() ? `Copied: what is from # on. ${behind}` : 'Copied.');
     } catch {
-        return say('The link is in the address bar.');
+        return say(isFile() ? `Copy what the address bar has from # on. ${behind}` : 'The link is in the address bar.');
     }
 }
 
 // Takes a file: on the tab of a capture it is replayed, on another one its frames are shown.
 async function takeFile(file, isReplayed = shownTab() === 'capture') {
-    const read = packetsOfFile(await file.arrayBuffer());
-    say(`${file.name}: ${counted(read.length, 'frame')}`);
+    const read = packetsOfFile(await file.arrayBuffer()), fault = faultOf(read);
+    showAddressFault('');
+    say(`${file.name}: ${fault ?? counted(read.length, 'frame')}`);
     taken.add(isReplayed ? 'capture' : 'frames');
     if (isReplayed) await hearPackets(read);
     else await showTab('frames').then(() => takePackets(read));
-    if (isReplayed) bring(find('capture-sum'));
+    bring(find(isReplayed ? 'capture-sum' : 'results'));
     remember();
 }
 
@@ -83,7 +130,7 @@ function startFiles() {
         taken.add('capture');
         await showTab('capture');
         await hearPackets(read);
-        remember();
+        changed();
     });
     addEventListener('dragover', (event) => {
         event.preventDefault();
@@ -101,19 +148,21 @@ function startFiles() {
 function showMeaning({ target }) {
     const word = target.closest('abbr[title], text[data-room]');
     find('meaning').hidden = !word;
-    if (word) find('meaning').textContent = `${word.firstChild.data}: ${word.title ?? word.querySelector('title').textContent}`;
+    if (word) find('meaning').textContent = word.title ? `${word.textContent}: ${word.title}` : `${word.firstChild.data}: ${word.lastChild.textContent}`;
 }
 
 async function start() {
     const tabs = [...document.querySelectorAll('[role=tab]')];
     for (const [at, tab] of tabs.entries()) {
-        tab.addEventListener('click', () => showTab(tab.id.slice(4)).then(remember));
+        tab.addEventListener('click', () => showTab(tab.id.slice(4)).then(changed));
         tab.addEventListener('keydown', ({ key }) => tabs[at + ({ ArrowLeft: -1, ArrowRight: 1 }[key] ?? tabs.length)]?.focus());
     }
     for (const begin of [startPair, startFrames, startRun, startCapture, startFiles]) begin();
     find('link').addEventListener('click', copyLink);
-    addEventListener('input', remember);
+    if (isFile()) find('link').textContent = 'Copy the link from # on';
+    addEventListener('input', changed);
     addEventListener('click', showMeaning);
+    addEventListener('click', ({ target }) => target.closest('summary') && changed());
     addEventListener('hashchange', takeAddress);
     addEventListener('resize', () => ['pair', 'capture'].includes(shownTab()) && TABS[shownTab()].show());
     await takeAddress();

@@ -23,14 +23,38 @@ function made(tag, name, ...inside) {
     return element;
 }
 
+// A word, which is broken behind a colon only if it is an Ethernet address.
+function wordParts(word) {
+    if (!/^([0-9a-f]{2}:){5}[0-9a-f]{2}$/.test(word)) return [word];
+    return [made('bdi', 'mac', ...word.match(/..:?/g).flatMap((it) => [it, made('wbr')]))];
+}
+
 // The words of a line, those that mean something with that as their title.
 function explainedWords(kind, line) {
     return explained(kind, line).flatMap(([word, meaning]) => {
-        const element = made('abbr', '', word);
+        const element = made('abbr', '', ...wordParts(word));
         element.title = meaning;
-        return [meaning ? element : word, ' '];
+        return [...(meaning ? [element] : wordParts(word)), ' '];
     }).slice(0, -1);
 }
+
+// Returns the whole number in a field, which is within the bounds of the field.
+function numberIn(id) {
+    const { value, min, max } = find(id), number = Number(value);
+    if (value !== '' && Number.isInteger(number) && number >= min && number <= max) return number;
+    throw Object.assign(new Malformed(value === '' ? 'no number' : quoted(value), `a whole number from ${min} to ${max}`), { field: id });
+}
+
+// Shows what is wrong with a tab, or that nothing is: of a field with its label first, and the field is marked.
+function showFieldFault(tab, fault) {
+    const field = fault?.field ?? (fault?.option && `${tab}-${fault.option}`), place = find(`${tab}-fault`);
+    for (const it of find(tab).querySelectorAll('input, select')) it.setAttribute('aria-invalid', it.id === field);
+    place.textContent = field ? `${find(field).labels[0].firstChild.data.trim()}: ${fault.message}` : fault?.message ?? '';
+    place.hidden = !fault;
+}
+
+// The Ethernet address in a field, with colons. It may be typed with hyphens.
+const macIn = (id) => find(id).value.trim().toLowerCase().replaceAll('-', ':');
 
 // A link to a section of an RFC.
 function sectionElement(section, text = sectionText(section)) {
@@ -72,21 +96,18 @@ function tell(frame) {
     return { kind: word === 'drop' || word === 'other' ? word : 'message', line, reason: word === 'drop' ? reason : null };
 }
 
-// The part of a reason in the table below, as text.
+// The part of a reason in the table below that a frame shows by itself, as text.
 function reasonText(number) {
-    return find(`reason-${number}`)?.cells[1].textContent ?? '';
+    const cell = find(`reason-${number}`)?.cells[1];
+    return (cell?.querySelector('.alone') ?? cell)?.textContent ?? '';
 }
 
-// What a node says by dropping a frame, where it isn't what the role says, or is said by a node alone (docs/FORMATS.md).
-const AT_NODES = {
-    19: 'is not for this node: its role does not take it, it has another destination or target, or the link-local address is not assigned yet or a duplicate',
-    20: 'is a Redirect that is not from the first hop of its destination',
-};
-
-// What a line of a node says of a frame that is dropped, or null if it drops none.
-function dropMeaning(line) {
+// What a line of a node says of a frame that is dropped, or null if it drops none (docs/FORMATS.md).
+function dropMeaning(line, frame, role = 'host') {
     const [, reason] = /^drop (\d+) /.exec(line) ?? [];
-    return reason ? `the frame ${AT_NODES[reason] ?? reasonText(reason)}` : null;
+    if (!reason) return null;
+    if (reason === '19') return `the frame is not for this node: ${notForNode(frame, role)[0]}`;
+    return `the frame ${reason === '20' ? 'is a Redirect that is not from the first hop of its destination' : reasonText(reason)}`;
 }
 
 // Shows a reason in the table below.
@@ -111,7 +132,7 @@ function fieldTable(frame, reason) {
         const bytes = [...row.bytes].map((byte) => byte.toString(16).padStart(2, '0')).join(' ');
         const isMarked = looked[0] === 'option length' ? row === last : looked.includes(row.name);
         if (isMarked) line.className = 'marked';
-        line.append(made('td', 'at', String(row.at)), made('td', 'bytes', bytes), made('td', '', row.name), made('td', '', row.value));
+        line.append(made('td', 'at', String(row.at)), made('td', 'bytes', bytes), made('td', '', row.name), made('td', '', ...wordParts(row.value)));
     }
     return table;
 }
@@ -122,12 +143,28 @@ function openedRow(frame, told) {
     return inside;
 }
 
+// What may have gone wrong with a frame, as a question.
+function hintOf(frame, told) {
+    if (!['1', '2'].includes(told.reason) || !isPacket(frame, 0)) return '';
+    return '. These bytes are an IPv6 packet: is its Ethernet header missing? Put 14 bytes before it, of which the last two are 86dd.';
+}
+
+// What may have gone wrong with the lines of the text, and a button that mends it.
+function joinHint() {
+    const button = made('button', '', 'Join them');
+    button.addEventListener('click', () => {
+        takeFrames({ role: role(), text: frames.map(hexOf).join('') });
+        changed();
+    });
+    return made('p', 'hint', 'Are these lines of one frame? Together they are a whole packet. ', button);
+}
+
 function rowOf(frame, told, index) {
     const [first] = told.kind === 'unread' ? ['not read'] : told.line.split(' ');
     const bold = told.kind === 'drop' ? told.line : first;
     const behind = { unread: [`: ${told.line}`], drop: [] }[told.kind] ?? explainedWords('frame', told.line).slice(1);
     const line = made('span', 'line', made('b', '', bold), ...behind), meaning = made('span', 'quiet');
-    if (told.reason) meaning.append(`it ${reasonText(told.reason)}: `, sectionElement(sectionOf(told.reason, frame)));
+    if (told.reason) meaning.append(`it ${reasonText(told.reason)}: `, sectionElement(sectionOf(told.reason, frame)), hintOf(frame, told));
     const row = made('details', told.kind, made('summary', '', made('span', 'nr', String(index + 1)), made('span', '', line, ' ', meaning)));
     row.dataset.index = index;
     row.addEventListener('toggle', () => {
@@ -174,8 +211,10 @@ function show() {
     const parts = [counted(messages.length, 'message'), counted(others.length, 'other packet'), `${dropped.length} dropped`];
     if (unread.length > 0) parts.push(`${unread.length} not read`);
     const sum = `${counted(frames.length, 'frame')}: ${parts.join(', ')}`;
-    find('sum').textContent = frames.length === 0 ? 'No frames yet. Paste some, or press an example.' : sum;
-    const lists = [];
+    const fault = packets.length > 0 ? faultOf(packets) : null;
+    find('sum').textContent = fault ? `This file can't be read: ${fault}.` : frames.length === 0 ? 'No frames yet. Paste some, or press an example.' : sum;
+    find('frames-near').replaceChildren(frames.length === 0 ? '' : `${find('sum').textContent} `, belowButton('results'));
+    const lists = areOneFrame(frames) ? [joinHint()] : [];
     if (dropped.length > 0) lists.push(made('p', 'counts', ...reasonCounts(dropped)));
     if (unread.length > 0) lists.push(list('Not read', unread));
     if (dropped.length > 0) lists.push(list('Dropped', dropped));
@@ -184,15 +223,23 @@ function show() {
     find('replay-these').hidden = !packets.some((it) => it.time !== undefined);
 }
 
+// A button that brings results into view, which are below what is entered.
+function belowButton(id) {
+    const button = made('button', '', 'Show them');
+    button.addEventListener('click', () => find(id).scrollIntoView({ block: 'start' }));
+    return button;
+}
+
 function takeText() {
     [frames, packets] = [framesOfText(find('text').value), []];
     show();
 }
 
-function takeFrames({ role = 'either', text = '' }) {
+function takeFrames({ role = 'either', text = '', frames: linked }) {
     document.querySelector(`input[name=role][value="${Object.hasOwn(ROLES, role) ? role : 'either'}"]`).checked = true;
     find('text').value = text;
     takeText();
+    if (linked) takePackets(packetsOfLink(linked));
 }
 
 // Returns true if the digits of frames may be in a link.
@@ -201,6 +248,7 @@ const isForLink = (some) => some.reduce((sum, it) => sum + 2 * it.length, 0) <= 
 // What is in the text, or the frames of the capture that was read.
 function framesState() {
     const text = find('text').value, whole = frames.filter((it) => typeof it !== 'string');
+    if (text === '' && packets.some((it) => it.time !== undefined)) return isForLink(whole) ? { role: role(), frames: linkOf(packets) } : null;
     return text !== '' || isForLink(whole) ? { role: role(), text: text || whole.map(hexOf).join('\n') } : null;
 }
 
@@ -208,14 +256,13 @@ function takePackets(read) {
     [frames, packets] = [read.map((it) => it.frame), read];
     find('text').value = '';
     show();
-    bring(find('results'));
 }
 
 function startFrames() {
     exampleButtons(find('examples'), EXAMPLES, ({ role, digits }) => {
         takeFrames({ role, text: digits.join('\n') });
         bring(find('results'));
-        remember();
+        changed();
     });
     for (const row of [...find('reasons').rows].slice(1)) {
         row.append(made('td', 'sections', ...sectionElements(sectionsOf(Number(row.id.slice(7))))));
@@ -224,6 +271,6 @@ function startFrames() {
     find('role').addEventListener('change', show);
     find('clear').addEventListener('click', () => {
         takeFrames({ role: role() });
-        remember();
+        changed();
     });
 }

@@ -3,13 +3,16 @@
 const SINCE_START = 'the moment, in milliseconds since the node started';
 // By the kind of a line: a word, and what each of the words behind it is.
 const MEANINGS = @WORDS@;
+// What the words mean that begin a line.
+const BEGINNINGS = Object.fromEntries(['output', 'script'].map((kind) => [kind,
+    Object.fromEntries(Object.entries(MEANINGS[`${kind} begins`]).map(([word, [meaning]]) => [word, meaning]))]));
 
-// Returns the words of a line, each with what it means, or with an empty text. A word that is not explained begins anew.
+// Returns the words of a line, each with what it means, or with an empty text. A word that is not explained by one before it begins anew.
 function explained(kind, line) {
     let expected = kind === 'script' ? [SINCE_START] : [];
     return line.split(' ').map((word) => {
         const meaning = expected.shift();
         if (meaning === undefined && Object.hasOwn(MEANINGS[kind], word)) expected = [...MEANINGS[kind][word]];
-        return [word, meaning ?? ''];
+        return [word, meaning ?? BEGINNINGS[kind]?.[word] ?? ''];
     });
 }
