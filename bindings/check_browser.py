@@ -1,6 +1,6 @@
 """check_browser: docs/try/index.html in a browser without a window. The frames and scripts of check_page have the lines that they are to have there too. It
-opens on two hosts that collide; a malformed line has its number; what is shown is in the address; a host hears a capture, and what it sends is drawn;
-and nothing is wider than a narrow window."""
+opens on two hosts that collide; a malformed line has its number; what is shown is in the address, and an address that is cut is incomplete; a host hears
+a capture, and what it sends is drawn; what a field doesn't take is said next to it; and nothing is wider than a narrow window."""
 import base64
 import html
 import json
@@ -107,8 +107,9 @@ def check_opening_in_browser(browser, path):
     asked, answered = "ns: is the address taken?", "na: I have the address"
     is_shown, is_running = " hidden" not in text.split(">")[0], re.search(r'<svg [^>]*class="\w+ running"', text)
     is_answered = re.search(f".*{re.escape(asked)}.*{answered}", " ".join(arrows)) and {"uses the address", "finds a duplicate"} <= notes
-    # The solicitation for routers of host 1: host 2 has no address that is assigned (docs/FORMATS.md, NotForUs).
-    is_answered = is_answered and re.search("drop 19 NotForUs *the frame is not for this node: .* or a duplicate", text_of(part_of(text, "pair-lines")))
+    # The solicitation for routers of host 1: RFC 4861, 6.1.1, hosts discard it.
+    meant = "drop 19 NotForUs *the frame is not for this node: a host takes no Router Solicitation: RFC 4861, 6.1.1"
+    is_answered = is_answered and re.search(meant, text_of(part_of(text, "pair-lines")))
     report_if("the page in a browser opens on two hosts that collide", is_shown and is_running and is_answered and "Host 1 uses the address." in text,
               f"{arrows} {notes}")
 
@@ -216,6 +217,156 @@ await go(500);""", "#capture")
     report_if(f"the page in a browser: {len(arrows)} arrows of a capture, at its times", is_right and moments == at, f"{arrows} {moments}")
 
 
+# What a page shows in a narrow window once an address or a file is opened, or a field has another value.
+SHOWN = """const result = {}, shown = (id) => find(id).checkVisibility() && find(id).textContent.trim();
+const open = async (address) => {
+    location.hash = address;
+    await go(1500);
+};
+const drop = async (tab, name, text) => {
+    await open(tab);
+    const file = new DataTransfer();
+    file.items.add(new File([Uint8Array.from(atob(text), (it) => it.charCodeAt(0))], name));
+    dispatchEvent(new DragEvent('drop', { dataTransfer: file, cancelable: true }));
+    while (!location.hash.includes('?')) await go();
+};
+const type = async (id, value) => {
+    enter(id, value);
+    await go(1500);
+};
+const isInView = (id) => find(id).getBoundingClientRect().bottom + scrollY < 800;
+const isBelow = (id, input) => find(id).getBoundingClientRect().top - find(input).getBoundingClientRect().bottom < 20;
+"""
+
+
+def shown_in(browser, path, script):
+    return browser.narrow(path, SHOWN + script, NARROW) or {}
+
+
+def check_cut_links_in_browser(browser, path):
+    """Opens the page by links of which the end is missing, and by one that has something else in place of frames."""
+    found = shown_in(browser, path, """await open('#capture');
+find('capture-example').click();
+await go(1500);
+const link = location.hash;
+await open(link);
+result.whole = shown('address-fault');
+await open(link.slice(0, -100));
+result.cut = shown('address-fault');
+await open(`${link}zz`);
+result.changed = shown('address-fault');
+await open('#node?size=20&script=500+at');
+result.script = shown('address-fault');
+await open('#pair?start=300');
+result.short = shown('address-fault');""")
+    wanted = {"whole": False, "short": False, "script": "The address is incomplete: it has 6 of 20 characters. Ask for the whole of it."}
+    is_right = all(found.get(name) == it for name, it in wanted.items()) and " of 3 frames, of which the last may be cut" in str(found.get("cut"))
+    report_if("the page in a browser: an address that is cut is incomplete", is_right and "in place of a frame" in str(found.get("changed")), str(found))
+
+
+def check_opened_rows_in_browser(browser, path):
+    """Requires that an address has the rows that are opened, and the times of a capture that is on the tab of frames."""
+    data = base64.b64encode(captures.pcap_of([bytes.fromhex(frame) for frame, _ in rows_of_link()])).decode()
+    found = shown_in(browser, path, f"""await drop('#frames', 'a.pcap', '{data}');
+document.querySelectorAll('#lists summary')[1].click();
+await go(500);
+const link = location.hash;
+await open('#pair');
+await open(link);
+result.open = [...document.querySelectorAll('#lists details')].map((it) => it.open);
+result.replays = shown('replay-these');""")
+    is_right = found.get("open") == [it == 1 for it in range(len(rows_of_link()))] and found.get("replays") == "Replay them at a host"
+    report_if("the page in a browser: opened rows and a capture's times are in the address", is_right, str(found))
+
+
+def check_copies_in_browser(browser, path):
+    """Copies the address of a page that is a file: without the place of the file. What is said of that ends with the next change."""
+    found = shown_in(browser, path, """navigator.clipboard.writeText = async (text) => { result.copied = text; };
+find('link').click();
+await go(300);
+result.said = shown('said');
+find('tab-node').click();
+await go(500);
+result.later = shown('said');""")
+    is_right = str(found.get("copied")).startswith("#pair?start=2000") and "behind the end of its address" in str(found.get("said"))
+    report_if("the page in a browser: a file's address is copied from # on", is_right and found.get("later") == "", str(found))
+
+
+def check_faults_of_fields_in_browser(browser, path):
+    """Enters in each tab what a field doesn't take. The page has to say so next to the field, with its label, and to take an address with hyphens."""
+    found = shown_in(browser, path, """await type('pair-start', '-5');
+result.start = [shown('pair-fault'), find('pair-start').getAttribute('aria-invalid'), isInView('pair-fault')];
+await open('#node');
+await type('node-mac', '02:00');
+result.mac = [shown('node-fault'), find('node-mac').getAttribute('aria-invalid'), isInView('node-fault')];
+await type('node-mac', '02-00-00-00-00-09');
+result.hyphens = [shown('node-fault'), document.querySelectorAll('#said-lines .assigned').length > 0];
+await type('script', '500 at\\n600 at\\n6000 shw addresses');
+result.line = [shown('node-near').slice(0, 6), isBelow('node-near', 'script')];
+await open('#capture');
+await type('capture-draws', 'word');
+result.draws = [shown('capture-fault').slice(0, 20), getComputedStyle(find('capture-fault')).color === getComputedStyle(find('node-near').firstChild).color];
+await open('#frames');
+await type('text', '00');
+result.text = [shown('frames-near').slice(0, 8), isBelow('frames-near', 'text')];""")
+    wanted = {"start": ["The second host starts at: found “-5”. Expected: a whole number from 0 to 8000", "true", True],
+              "mac": ["Ethernet address: found “02:00”. Expected: six pairs of hexadecimal digits, such as 34:56:78:9a:bc:de", "true", True],
+              "hyphens": [False, True], "line": ["Line 3", True], "draws": ["Random delays: found", True], "text": ["1 frame:", True]}
+    report_if(f"the page in a browser, {NARROW} pixels wide: results and faults are next to what is entered", found == wanted, str(found))
+
+
+def check_files_in_browser(browser, path):
+    """Opens files that have no frames, or those of one sender: both tabs give the same reason, and the host of a replay is one that hears."""
+    frame = bytes.fromhex(rows_of_link()[0][0])
+    files = {"text": read(f"{TOP}/README.md").encode(), "link": captures.pcap_of([frame])[:20] + (113).to_bytes(4, "little") + captures.pcap_of([frame])[24:],
+             "sole": captures.pcap_of([frame[:6] + bytes.fromhex("020000000007") + frame[12:]] * 3)}
+    drops = "".join(f"""for (const tab of ['frames', 'capture']) {{
+    await drop(`#${{tab}}`, '{name}', '{base64.b64encode(data).decode()}');
+    result[`{name} ${{tab}}`] = shown(tab === 'frames' ? 'sum' : 'capture-sum');
+}}
+""" for name, data in files.items())
+    found = shown_in(browser, path, drops)
+    faults = {"text": "This file can't be read: neither a capture nor frames in hexadecimal.",
+              "link": "This file can't be read: a frame of link type 113: only Ethernet (type 1) is read."}
+    are_same = all(found.get(f"{name} {tab}") == fault for name, fault in faults.items() for tab in ("frames", "capture"))
+    sole = str(found.get("sole capture"))
+    is_other = sole.startswith("The host hears 3 of 3 frames") and "All frames are of one node, 02:00:00:00:00:07: the host here is another one." in sole
+    report_if("the page in a browser: files without frames, and those of one sender", are_same and is_other, str(found))
+
+
+def check_hints_in_browser(browser, path):
+    """Pastes a frame in lines, and one without its Ethernet header."""
+    digits = rows_of_link()[0][0]
+    lines = "\\n".join(digits[at:at + 32] for at in range(0, len(digits), 32))
+    found = shown_in(browser, path, f"""await open('#frames');
+await type('text', '{lines}');
+document.querySelector('.hint button').click();
+await go(500);
+result.joined = find('text').value;
+await type('text', '{digits[28:]}');
+result.raw = shown('lists');""")
+    is_right = found.get("joined") == digits and "is its Ethernet header missing?" in str(found.get("raw"))
+    report_if("the page in a browser: hints for lines of one frame and for a missing header", is_right, str(found))
+
+
+def check_texts_in_browser(browser, path):
+    """Requires that in a narrow picture no text overlaps another one, and that each is drawn over all arrows."""
+    found = shown_in(browser, path, """result.wrong = [];
+for (const values of ['start=2000&delay=1500', 'start=0&delay=1100', 'start=0&delay=0', 'start=300&delay=70', 'start=1000&delay=400&lost=yes']) {
+    await open(`#pair?${values}`);
+    const svg = find('diagram').querySelector('svg'), texts = [...svg.querySelectorAll('.note, .label')].map((it) => [it, it.getBoundingClientRect()]);
+    for (const [at, [one, a]] of texts.entries()) {
+        for (const [other, b] of texts.slice(at + 1)) {
+            const isApart = a.right <= b.left || b.right <= a.left || a.bottom <= b.top + 3 || b.bottom <= a.top + 3;
+            if (!isApart) result.wrong.push(`${values}: ${one.firstChild.data} and ${other.firstChild.data}`);
+        }
+    }
+    const first = [...svg.children].findIndex((it) => it.matches('.note, .label')), last = [...svg.children].findLastIndex((it) => it.matches('.arrow'));
+    if (first < last || texts.length < 5) result.wrong.push(`${values}: the arrows are not below the texts`);
+}""")
+    report_if(f"the page in a browser, {NARROW} pixels wide: no text of a picture covers another one", found.get("wrong") == [], str(found))
+
+
 NARROW = 420
 # What a page finds of itself in a narrow window: how wide it is, what is wider, and where the results are once an example is pressed.
 LOOK = """const result = { width: innerWidth, wide: [], results: [] };
@@ -290,6 +441,7 @@ def check_browser(room):
     check_opening_in_browser(browser, path)
     check_runs_in_browser(browser, path, room)
     for check in (check_late_frames_in_browser, check_fault_in_browser, check_reasons_in_browser, check_addresses_in_browser, check_capture_in_browser,
-                  check_narrow_in_browser):
+                  check_narrow_in_browser, check_cut_links_in_browser, check_opened_rows_in_browser, check_copies_in_browser,
+                  check_faults_of_fields_in_browser, check_files_in_browser, check_hints_in_browser, check_texts_in_browser):
         check(browser, path)
     return None
