@@ -33,8 +33,8 @@ function shorten(text) {
 
 const momentText = (at) => (at < 100000 ? `${at.toLocaleString('en')} ms` : `${(at / 1000).toFixed(3)} s`);
 
-// Returns where the arrows of each row are, and its texts above and below these. Where there is no room outside the lines, the texts are between them: each
-// has a line of its own, labels and the notes of what comes before the frames above the arrows, and the other notes below.
+// Returns where the arrows of each row are, and its texts above and below these. Where there is no room outside the lines, the texts are between
+// them: each has a line of its own, labels and the notes of what precedes the frames above the arrows, and the other notes below.
 function placed(rows, arrows, isNarrow) {
     const most = (notes) => Math.max(...[0, 1].map((which) => notes.filter((it) => it.which === which).length));
     const ends = new Set(arrows.flatMap((it) => [it.row, it.to])), isEarly = (it) => EARLY.includes(it.kind);
@@ -104,8 +104,9 @@ function diagram({ name, box, heads, rows, arrows, label, wide }) {
         texts.push(...labels);
     }
     for (const [index, { at }] of rows.entries()) {
-        const isNext = at !== rows[index - 1]?.at, moment = () => drawnText({ x: 2, y: places[index].y + 4, class: 'moment' }, momentText(at), 80, SINCE_FIRST);
-        texts.push(...timed(at, [...(isNext ? [moment()] : []), ...noteTexts(places[index], lines, width, isNarrow)]));
+        const place = { x: 2, y: places[index].y + 4, class: 'moment' }, notes = noteTexts(places[index], lines, width, isNarrow);
+        if (at !== rows[index - 1]?.at) notes.unshift(drawnText(place, momentText(at), 80, SINCE_FIRST));
+        texts.push(...timed(at, notes));
     }
     // The texts are over all arrows.
     svg.append(...texts);

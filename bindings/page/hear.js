@@ -60,7 +60,7 @@ function whyNone() {
     const fault = faultOf(capture);
     if (fault) return `This file can't be read: ${fault}.`;
     const isTimed = capture.some((it) => it.time !== undefined);
-    return isTimed ? 'Each frame of this capture is cut: a host takes whole ones.' : 'These frames are text, without times: a replay needs a capture.';
+    return isTimed ? 'Each frame of this capture is cut: a host takes whole ones.' : 'This is a text, without times: a replay needs a capture.';
 }
 
 // What was passed and sent, in one sentence.
@@ -137,5 +137,5 @@ function startCapture() {
         bring(find('capture-sum'));
         changed();
     });
-    find('capture-script').addEventListener('click', hearingScript);
+    find('capture-script').addEventListener('click', () => hearingScript()?.then(changed));
 }

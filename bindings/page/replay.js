@@ -18,8 +18,8 @@ function timedFrames(packets, before) {
     });
 }
 
-// Returns the packets that have a time and bytes, as a link has them: the milliseconds since the first whole one, the digits, and how long the frame was if
-// it is cut.
+// Returns the packets that have a time and bytes, as a link has them: the milliseconds since the first whole one, the digits, and how long the frame
+// was if it is cut.
 function linkOf(packets) {
     const timed = packets.filter((it) => it.time !== undefined && typeof it.frame !== 'string' && it.frame.length > 0);
     const first = (timed.find(isWhole) ?? timed[0])?.time;

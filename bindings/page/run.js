@@ -26,7 +26,8 @@ function outputLine(line, heard, role = 'host') {
     const [first, ...others] = explainedWords('output', `${word} ${short}`);
     element.append(at, made('span', 'line', made('b', '', first), ...others));
     if (word === 'tx') element.append(meaning(rest[0]));
-    if (word === 'drop') element.append(made('span', 'quiet', dropMeaning(line.slice(moment.length + 1), heard, role), ...dropSections(rest[0], heard, role)));
+    const meant = word === 'drop' && dropMeaning(line.slice(moment.length + 1), heard, role);
+    if (meant) element.append(made('span', 'quiet', meant, ...dropSections(rest[0], heard, role)));
     return element;
 }
 
@@ -72,6 +73,14 @@ function faultElement(fault) {
     return made('div', 'fault', made('b', '', `Line ${fault.number}`), `, “${cut(fault.line)}”: ${fault.message} `, button);
 }
 
+// Shows under the script what is wrong with a line of it, or how much the node says.
+function showNear(fault) {
+    const said = counted(document.querySelectorAll('#said-lines .said').length, 'line');
+    const near = fault?.number ? [faultElement(fault)] : [`The node says ${said}. `, belowButton('said-lines')];
+    find('node-near').replaceChildren(...(fault && !fault.number ? [] : near));
+    find('node-near').classList.toggle('near', !fault);
+}
+
 // Runs the script from its beginning, up to the first line that is malformed.
 async function runScript() {
     const mine = ++runs, steps = [], module = await compiled(), lines = find('script').value.split('\n');
@@ -90,9 +99,7 @@ async function runScript() {
     if (mine !== runs) return;
     showFieldFault('node', fault?.number ? null : fault);
     find('said-lines').replaceChildren(...steps);
-    const said = counted(document.querySelectorAll('#said-lines .said').length, 'line');
-    find('node-near').replaceChildren(...(fault?.number ? [faultElement(fault)] : fault ? [] : [`The node says ${said}. `, belowButton('said-lines')]));
-    find('node-near').classList.toggle('near', !fault);
+    showNear(fault);
     const last = [...document.querySelectorAll('#said-lines .tables')].at(-1);
     if (last) last.open = true;
 }

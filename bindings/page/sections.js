@@ -16,8 +16,8 @@ function sectionOf(reason, frame) {
     return SECTIONS[reason] ?? VALIDATIONS[type];
 }
 
-// What a node says of a frame that isn't for it (reason 19), by the role of the node: words and sections. A message that the role takes is dropped by the
-// node's addresses.
+// What a node says of a frame that isn't for it (reason 19), by the role of the node: words and sections. A message that the role takes is dropped
+// by the node's addresses.
 function notForNode(frame, role) {
     const type = frame?.[54], isTaken = role === 'host' ? type !== 133 : ![134, 137].includes(type);
     if (frame?.[20] === 58 && !isTaken) return [`a ${role} takes no ${MESSAGES[type].name}`, [NOT_TAKEN[type]]];

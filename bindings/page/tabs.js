@@ -37,7 +37,7 @@ function openRows(name, text) {
 
 // What is long in the values of an address, and may be cut.
 const longOf = (values) => values.frames ?? values.text ?? values.script;
-const framesIn = (values) => (values.frames ?? values.text ?? '').split(/[_\s]+/).filter((it) => it !== '').length;
+const framesIn = ({ frames, text }) => (frames?.split('_') ?? text?.split('\n') ?? []).filter((it) => it.trim() !== '').length;
 
 // Returns the address of a tab, behind `#`: before what is long how many characters and frames that has. What is too long for a link is left out.
 function fragmentOf(name) {
@@ -63,6 +63,12 @@ function showAddressFault(text) {
     find('address-fault').hidden = text === '';
 }
 
+// A row was opened or closed. An address that is incomplete stays, so that it isn't taken for a whole one.
+function rowChanged() {
+    say('');
+    if (find('address-fault').hidden) remember();
+}
+
 // What is shown has changed: what was said of it before is no longer so, and it is put into the address.
 function changed() {
     say('');
@@ -85,9 +91,13 @@ function takeAddress() {
     const [, reason] = /^#reason-(\d+)$/.exec(location.hash) ?? [];
     if (reason) return showTab('frames').then(() => showReason(reason));
     const [, name, values] = /^#(\w+)(?:\?(.*))?$/.exec(location.hash) ?? [];
-    const given = values === undefined ? null : Object.fromEntries(new URLSearchParams(values)), isKnown = Object.hasOwn(TABS, name ?? '');
-    showAddressFault(isKnown ? faultOfAddress(given ?? {}) : location.hash.length > 1 ? 'What the address has behind # names nothing on this page.' : '');
-    return showTab(isKnown ? name : 'pair', isKnown ? given : null);
+    if (!Object.hasOwn(TABS, name ?? '')) {
+        if (location.hash.length > 1) showAddressFault('What the address has behind # names nothing on this page.');
+        return showTab('pair');
+    }
+    const given = values === undefined ? null : Object.fromEntries(new URLSearchParams(values));
+    showAddressFault(faultOfAddress(given ?? {}));
+    return showTab(name, given);
 }
 
 function say(text) {
@@ -148,7 +158,8 @@ function startFiles() {
 function showMeaning({ target }) {
     const word = target.closest('abbr[title], text[data-room]');
     find('meaning').hidden = !word;
-    if (word) find('meaning').textContent = word.title ? `${word.textContent}: ${word.title}` : `${word.firstChild.data}: ${word.lastChild.textContent}`;
+    const [what, meaning] = word?.title ? [word.textContent, word.title] : [word?.firstChild.data, word?.lastChild.textContent];
+    if (word) find('meaning').textContent = `${what}: ${meaning}`;
 }
 
 async function start() {
@@ -162,7 +173,7 @@ async function start() {
     if (isFile()) find('link').textContent = 'Copy the link from # on';
     addEventListener('input', changed);
     addEventListener('click', showMeaning);
-    addEventListener('click', ({ target }) => target.closest('summary') && changed());
+    addEventListener('click', ({ target }) => target.closest('summary') && rowChanged());
     addEventListener('hashchange', takeAddress);
     addEventListener('resize', () => ['pair', 'capture'].includes(shownTab()) && TABS[shownTab()].show());
     await takeAddress();

@@ -23,10 +23,10 @@ function made(tag, name, ...inside) {
     return element;
 }
 
-// A word, which is broken behind a colon only if it is an Ethernet address.
+// A word, which is broken only behind colons if it is an Ethernet or an IPv6 address.
 function wordParts(word) {
-    if (!/^([0-9a-f]{2}:){5}[0-9a-f]{2}$/.test(word)) return [word];
-    return [made('bdi', 'mac', ...word.match(/..:?/g).flatMap((it) => [it, made('wbr')]))];
+    if (!/^[0-9a-f]*(:[0-9a-f]*){2,}(\/\d+)?$/.test(word)) return [word];
+    return [made('bdi', 'address', ...word.match(/[^:]+:*|:+/g).flatMap((it) => [it, made('wbr')]))];
 }
 
 // The words of a line, those that mean something with that as their title.
@@ -211,8 +211,9 @@ function show() {
     const parts = [counted(messages.length, 'message'), counted(others.length, 'other packet'), `${dropped.length} dropped`];
     if (unread.length > 0) parts.push(`${unread.length} not read`);
     const sum = `${counted(frames.length, 'frame')}: ${parts.join(', ')}`;
-    const fault = packets.length > 0 ? faultOf(packets) : null;
-    find('sum').textContent = fault ? `This file can't be read: ${fault}.` : frames.length === 0 ? 'No frames yet. Paste some, or press an example.' : sum;
+    const fault = packets.length > 0 ? faultOf(packets) : null, none = 'No frames yet. Paste some, or press an example.';
+    const said = frames.length === 0 ? none : sum;
+    find('sum').textContent = fault ? `This file can't be read: ${fault}.` : said;
     find('frames-near').replaceChildren(frames.length === 0 ? '' : `${find('sum').textContent} `, belowButton('results'));
     const lists = areOneFrame(frames) ? [joinHint()] : [];
     if (dropped.length > 0) lists.push(made('p', 'counts', ...reasonCounts(dropped)));
