@@ -1,6 +1,6 @@
 """check_browser: docs/try/index.html in a browser without a window. The frames and scripts of check_page have the lines that they are to have there too. It
-opens on two hosts that collide; a malformed line has its number; what is shown is in the address, and an address that is cut is incomplete; a host hears
-a capture, and what it sends is drawn; what a field doesn't take is said next to it; and nothing is wider than a narrow window."""
+opens on two hosts that collide; a malformed line has its number; what is shown is in the address, and an address that is cut is incomplete; a host
+hears a capture, and what it sends is drawn; what a field doesn't take is said next to it; and nothing is wider than a narrow window."""
 import base64
 import html
 import json
@@ -261,7 +261,8 @@ await open('#pair?start=300');
 result.short = shown('address-fault');""")
     wanted = {"whole": False, "short": False, "script": "The address is incomplete: it has 6 of 20 characters. Ask for the whole of it."}
     is_right = all(found.get(name) == it for name, it in wanted.items()) and " of 3 frames, of which the last may be cut" in str(found.get("cut"))
-    report_if("the page in a browser: an address that is cut is incomplete", is_right and "in place of a frame" in str(found.get("changed")), str(found))
+    is_right = is_right and "in place of a frame" in str(found.get("changed"))
+    report_if("the page in a browser: an address that is cut is incomplete", is_right, str(found))
 
 
 def check_opened_rows_in_browser(browser, path):
@@ -305,7 +306,8 @@ await type('script', '500 at\\n600 at\\n6000 shw addresses');
 result.line = [shown('node-near').slice(0, 6), isBelow('node-near', 'script')];
 await open('#capture');
 await type('capture-draws', 'word');
-result.draws = [shown('capture-fault').slice(0, 20), getComputedStyle(find('capture-fault')).color === getComputedStyle(find('node-near').firstChild).color];
+const colour = (element) => getComputedStyle(element).color;
+result.draws = [shown('capture-fault').slice(0, 20), colour(find('capture-fault')) === colour(find('node-near').firstChild)];
 await open('#frames');
 await type('text', '00');
 result.text = [shown('frames-near').slice(0, 8), isBelow('frames-near', 'text')];""")
@@ -318,7 +320,8 @@ result.text = [shown('frames-near').slice(0, 8), isBelow('frames-near', 'text')]
 def check_files_in_browser(browser, path):
     """Opens files that have no frames, or those of one sender: both tabs give the same reason, and the host of a replay is one that hears."""
     frame = bytes.fromhex(rows_of_link()[0][0])
-    files = {"text": read(f"{TOP}/README.md").encode(), "link": captures.pcap_of([frame])[:20] + (113).to_bytes(4, "little") + captures.pcap_of([frame])[24:],
+    capture = captures.pcap_of([frame])
+    files = {"text": read(f"{TOP}/README.md").encode(), "link": capture[:20] + (113).to_bytes(4, "little") + capture[24:],
              "sole": captures.pcap_of([frame[:6] + bytes.fromhex("020000000007") + frame[12:]] * 3)}
     drops = "".join(f"""for (const tab of ['frames', 'capture']) {{
     await drop(`#${{tab}}`, '{name}', '{base64.b64encode(data).decode()}');
@@ -330,7 +333,7 @@ def check_files_in_browser(browser, path):
               "link": "This file can't be read: a frame of link type 113: only Ethernet (type 1) is read."}
     are_same = all(found.get(f"{name} {tab}") == fault for name, fault in faults.items() for tab in ("frames", "capture"))
     sole = str(found.get("sole capture"))
-    is_other = sole.startswith("The host hears 3 of 3 frames") and "All frames are of one node, 02:00:00:00:00:07: the host here is another one." in sole
+    is_other = sole.startswith("The host hears 3 of 3 frames") and "of one node, 02:00:00:00:00:07: the host here is another one." in sole
     report_if("the page in a browser: files without frames, and those of one sender", are_same and is_other, str(found))
 
 
@@ -354,17 +357,28 @@ def check_texts_in_browser(browser, path):
     found = shown_in(browser, path, """result.wrong = [];
 for (const values of ['start=2000&delay=1500', 'start=0&delay=1100', 'start=0&delay=0', 'start=300&delay=70', 'start=1000&delay=400&lost=yes']) {
     await open(`#pair?${values}`);
-    const svg = find('diagram').querySelector('svg'), texts = [...svg.querySelectorAll('.note, .label')].map((it) => [it, it.getBoundingClientRect()]);
+    const svg = find('diagram').querySelector('svg'), children = [...svg.children], isText = (it) => it.matches('.note, .label');
+    const texts = children.filter(isText).map((it) => [it, it.getBoundingClientRect()]);
     for (const [at, [one, a]] of texts.entries()) {
         for (const [other, b] of texts.slice(at + 1)) {
             const isApart = a.right <= b.left || b.right <= a.left || a.bottom <= b.top + 3 || b.bottom <= a.top + 3;
             if (!isApart) result.wrong.push(`${values}: ${one.firstChild.data} and ${other.firstChild.data}`);
         }
     }
-    const first = [...svg.children].findIndex((it) => it.matches('.note, .label')), last = [...svg.children].findLastIndex((it) => it.matches('.arrow'));
+    const first = children.findIndex(isText), last = children.findLastIndex((it) => it.matches('.arrow'));
     if (first < last || texts.length < 5) result.wrong.push(`${values}: the arrows are not below the texts`);
 }""")
     report_if(f"the page in a browser, {NARROW} pixels wide: no text of a picture covers another one", found.get("wrong") == [], str(found))
+    found = shown_in(browser, path, f"""await open('#frames');
+await type('text', '{rows_of_link()[1][0]}');
+document.querySelector('#lists summary').click();
+await go(500);
+const parts = [...document.querySelectorAll('#lists bdi')].flatMap((it) => [...it.childNodes]).filter((it) => it.nodeType === 3);
+const lines = (part) => (range.selectNodeContents(part), range.getClientRects().length), range = new Range();
+result.parts = parts.length;
+result.broken = parts.filter((it) => lines(it) > 1).map((it) => it.data);""")
+    is_right = found.get("parts", 0) > 20 and found.get("broken") == []
+    report_if(f"the page in a browser, {NARROW} pixels wide: addresses are broken behind colons alone", is_right, str(found))
 
 
 NARROW = 420
