@@ -232,6 +232,11 @@ def check_sections_in_node(path):
     wrong = [f"{number} {frame[:120]}: {is_so}, not {it}" for (number, frame), is_so, it in zip([*known, (19, ""), (19, "")], said, wanted) if is_so != it]
     report_if(f"the page in node: the sections of {len(wanted)} frames that are dropped, of {len({it[0] for it in known})} reasons",
               {it[0] for it in known} == set(range(1, 19)) and len(said) == len(wanted) and not wrong, "\n".join(wrong[:6]))
+    asked = next(frame for frame, line in rows_of_link() if line.startswith("ns ") and not line.startswith("ns ::"))
+    wanted = [["a host takes no Router Solicitation", ["4861 6.1.1"]], ["a router takes no Redirect", ["4861 8.2"]],
+              ["its target or destination is no address of this node, or one that it does not use", ["4861 7.2.3", "4862 5.4.3"]]]
+    said = results(path, "notForNode", [[list(bytes.fromhex(frame)), role] for frame, role in ((own[133], "host"), (own[137], "router"), (asked, "host"))])
+    report_if("the page in node: why a frame is not for a node", said == wanted, str(said))
 
 
 def heard_by_an_interface(row):

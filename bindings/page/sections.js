@@ -21,7 +21,7 @@ function sectionOf(reason, frame) {
 function notForNode(frame, role) {
     const type = frame?.[54], isTaken = role === 'host' ? type !== 133 : ![134, 137].includes(type);
     if (frame?.[20] === 58 && !isTaken) return [`a ${role} takes no ${MESSAGES[type].name}`, [NOT_TAKEN[type]]];
-    if (frame?.[20] === 58 && type === 135) return ['this node does not have the target, or does not use it yet', ['4861 7.2.3', '4862 5.4.3']];
+    if (frame?.[20] === 58 && type === 135) return ['its target or destination is no address of this node, or one that it does not use', ['4861 7.2.3', '4862 5.4.3']];
     return ['it has another destination or target, or the link-local address is not assigned yet or a duplicate', []];
 }
 
