@@ -198,14 +198,16 @@ module _ (start : Start) (plain : start.policies.speakers ≡ false) (c : Chroni
           let news : said c source solicitation ≡ given_or_marked (number_of source.0) (first_slla options) None =
           cond-false (bytes_eq source.0 unspecified_address) None (given_or_marked (number_of source.0) (first_slla options) None) is in
           let a = answered_by (has refl) (first_slla options) news in
-          let b = subst (λ o. FollowsBy o a.0) (sym news) a.1 in
-          (a.0, record {
-            gone = None;
-            placed = b.0;
-            room = record { way = none_gives_way (said c source solicitation); place = b.1 };
-            answer = used_by_answer (number_of source.0) (answer_frame (is_router start.role) start.mac target source)
-                (releasing now (said c source solicitation) (neighbour_history b.0) (heard_over b.0)) a.0 b.2;
-          })
+          let b = subst (λ o. FollowsBy o a.0) (sym news) a.1 in (
+            a.0,
+            record {
+              gone = None;
+              placed = b.0;
+              room = record { way = none_gives_way (said c source solicitation); place = b.1 };
+              answer = used_by_answer (number_of source.0) (answer_frame (is_router start.role) start.mac target source)
+                  (releasing now (said c source solicitation) (neighbour_history b.0) (heard_over b.0)) a.0 b.2;
+            },
+          )
 
     -- ---- any message, which may have no room
 
