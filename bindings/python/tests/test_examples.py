@@ -28,7 +28,7 @@ def lines_of_readme() -> List[List[str]]:
 
 def run(words: List[str], room: str) -> Tuple[int, str, str]:
     """Runs a command, whose capture is where it is, and which writes into a folder."""
-    paths = {CAPTURE: str(EXAMPLES / "captures" / "link.pcapng"), "/tmp/link.svg": f"{room}/link.svg"}
+    paths = {CAPTURE: str(EXAMPLES / "captures" / "link.pcapng"), "link.svg": f"{room}/link.svg"}
     out, err = io.StringIO(), io.StringIO()
     with contextlib.redirect_stdout(out), contextlib.redirect_stderr(err):
         status = main([paths.get(word, word) for word in words])
