@@ -1,8 +1,8 @@
 -- Each event adds something.
 use Rattle.std.proofs.Common.{◌≡◌, ℕ, Bool, true, false, cond, eqb, List, [], ◌∷◌, ◌++◌, Option, Some, None, refl, sym, ◌∙◌, ap, subst}
-use Rattle.std.specs.Prelude.{MatchBool, MatchOption, ◌&&◌, map, bytes_eq, length, nat_lt, ◌==◌}
+use Rattle.std.specs.Prelude.{MatchBool, MatchOption, map, bytes_eq, length, nat_lt, ◌==◌}
 use Rattle.std.proofs.lemmas.Bool.Decides.{eqb_tells}
-use Rattle.std.proofs.lemmas.Bool.{cond-true, cond-false, eq-eqb, true≢false}
+use Rattle.std.proofs.lemmas.Bool.{and_right, cond-true, cond-false, eq-eqb, true≢false}
 use Rattle.nd_addr.specs.declared.addr.Addr.{Addr}
 use Rattle.nd_addr.specs.declared.mac.Mac.{Mac}
 use Rattle.nd_addr.specs.declared.role.Role.{Role}
@@ -99,16 +99,12 @@ releasing_rows at (Some news) h c =
     told_rows at news.0 (mac_of ((at, news.1) ∷ story news.0 h)) (is_awaited (story news.0 h)) _
     ∙ known_rows at (mac_of ((at, news.1) ∷ story news.0 h)) (released_by at news.1 (story news.0 h)) c
 
-and_false : (a : Bool) → (a && false) ≡ false
-and_false true = refl
-and_false false = refl
-
 module _ (start : Start) (plain : start.policies.speakers ≡ false) (c : Chronicle) (now : ℕ) where
   -- ---- no neighbour gives way to another one without the policy `speakers`
 
   without : (news : Option (ℕ × RowKind)) → makes_way start news ≡ false
   without None = refl
-  without (Some news) = ap (λ b. lets_enter news.1 && b) plain ∙ and_false (lets_enter news.1)
+  without (Some news) = and_right (lets_enter news.1) start.policies.speakers plain
 
   way_by : (b : Bool) (key : ℕ) (gone : Option ℕ) → b ≡ false → gone ≡ None → MatchBool b (GivesWay start.limits.neighbours now key (neighbour_history c) gone) (gone ≡ None)
   way_by true key gone is none = absurd (true≢false is)

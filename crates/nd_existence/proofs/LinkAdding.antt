@@ -17,7 +17,7 @@ use Rattle.nd_existence.specs.Intervals.{AreTimed}
 use Rattle.nd_existence.proofs.Adding.{event_adds}
 use Rattle.nd_existence.proofs.Timing.{event_timed}
 use Rattle.nd_existence.specs.LinkIntervals.{LeavesTime}
-use Rattle.nd_existence.proofs.LinkWalking.{IsFine, there_is, fine_with}
+use Rattle.nd_existence.proofs.LinkWalking.{IsFine, same_start, there_is, fine_with}
 
 -- ---- frames
 
@@ -67,9 +67,6 @@ fine_begun node start log numbered plain fine = record {
       cond_both (node == i) (Some start) (start_of i log) (λ (o : Option Start). o ≡ Some s → s.policies.speakers ≡ false)
       (λ own e. subst (λ (x : Start). x.policies.speakers ≡ false) (same_start start s e) plain) (λ other e. fine.plain i s e) is;
 }
-  where
-    same_start : (a b : Start) → Some a ≡ Some b → a ≡ b
-    same_start a b e = cc
 
 module _ (limits : Limits) (now : ℕ) where
   abbrev Adds' : (Log → Type 0) → Type 0

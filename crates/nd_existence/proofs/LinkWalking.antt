@@ -26,6 +26,9 @@ pub record IsFine (log : Log) : Type 0 where
 pub fine_nothing : IsFine []
 fine_nothing = record { numbered = tt; timed = λ i. tt; plain = λ i start is. absurd (let never : ⊥ = cc in never) }
 
+pub same_start : (a b : Start) → Some a ≡ Some b → a ≡ b
+same_start a b e = cc
+
 pub there_is : (o : Option Start) → is_some o ≡ true → (start : Start) × (o ≡ Some start)
 there_is None is = absurd (true≢false (sym is))
 there_is (Some start) is = (start, refl)
@@ -56,9 +59,6 @@ module _ (m end : ℕ) (le : m ≤ end) where
   -- nothing is due at the nodes below this one
   abbrev Below : ℕ → Log → Type 0
   Below i log = (other : ℕ) → other < i → IsIdle other log m
-
-  same_start : (a b : Start) → Some a ≡ Some b → a ≡ b
-  same_start a b e = cc
 
   below_with : (i : ℕ) (rows : Chronicle) (log : Log) → Below i log → Below i (adding i rows log)
   below_with i rows log below other lt start is =

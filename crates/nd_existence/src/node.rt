@@ -16,7 +16,8 @@ ghost use Rattle.nd_existence.specs.Intervals.{AreTimed, LeaveTime};
 ///
 /// There are two premises. A router is given no MinRtrAdvInterval of 0 (RFC 4861, section 6.2.1: it "MUST be no less than 3 seconds");
 /// `no_end_without_an_interval` says why. And the node doesn't have the policy `speakers`: of a chronicle with more neighbours than the limit, as
-/// `onward` may be asked for, one that gives way leaves no room for another one. That no history with the policy leads to such a chronicle is not proved here.
+/// `onward` may be asked for, one that gives way leaves no room for another one. That no history with the policy leads to such a chronicle is not
+/// proved here.
 pub fn each_history_has_a_chronicle()
     ensures beginning { (start : Start) (events : List (ℕ × Event)) → start.policies.speakers ≡ false → LeaveTime events → (c : Chronicle) × IsChronicle start events c }
     // A chronicle with such settings goes on with all further events of this kind, and keeps such settings.
