@@ -71,6 +71,8 @@ pub data Happening : Type 0 where
   Address : (key : ℕ) (kind : addresses.RowKind) → Happening
   -- a router left the list
   LeftRouter : (key : ℕ) → Happening
+  -- a router that advertised itself is not listed, for want of room
+  Unlisted : (key : ℕ) → Happening
   -- the on-link prefixes, the redirects, the servers and search names were cleared
   ClearedPrefixes : Happening
   ClearedRedirects : Happening
@@ -98,6 +100,8 @@ pub data Happening : Type 0 where
   Resolved : (neighbour mac : ℕ) → Happening
   -- an event was refused
   Refused : (refusal : Refusal) → Happening
+  -- parts of a message were passed over, for which a table has no room
+  Ignored : (limit : Limit) → Happening
   -- rows of a table were shown, each a text
   Shown : (rows : List (List ℕ)) → Happening
   -- an event was too late, and was only reported as past: time had passed up to this moment

@@ -25,7 +25,7 @@ use Rattle.nd_nexthop.specs.History as redirects
 use Rattle.nd_advertiser.specs.History as advertising
 use Rattle.nd_forwarding.specs.History as routes
 use Rattle.nd_chronicle.specs.Start.{Start, link_local_key}
-use Rattle.nd_chronicle.specs.Happening.{ForReachableTime, Drew, Heard, Neighbour, Address, LeftRouter, ClearedPrefixes, ClearedRedirects, ClearedDns, Configured, Offered, Ceased, Advertised, Planned, RoutePut, RedirectMade, Chronicle}
+use Rattle.nd_chronicle.specs.Happening.{ForReachableTime, Drew, Heard, Neighbour, Address, LeftRouter, Unlisted, ClearedPrefixes, ClearedRedirects, ClearedDns, Configured, Offered, Ceased, Advertised, Planned, RoutePut, RedirectMade, Chronicle}
 use Rattle.nd_chronicle.specs.LinkLayerAddress.{first_slla, first_tlla}
 
 -- ---- the parameters of the link: what Router Advertisements announce, and the draws of ReachableTime (RFC 4861, section 6.3.4)
@@ -95,6 +95,8 @@ abbrev pub router_history : Chronicle → List routers.RouterRow
 router_history [] = []
 router_history ((at, Heard source destination message) ∷ c) = then_router at source message.body (router_history c)
 router_history ((at, LeftRouter key) ∷ c) = routers.LeftList at key ∷ router_history c
+-- its advertisement is heard whole, and behind it the router is not in the list
+router_history ((at, Unlisted key) ∷ c) = routers.LeftList at key ∷ router_history c
 router_history ((at, Neighbour key kind) ∷ c) = then_failed at key kind (router_history c)
 router_history ((at, _) ∷ c) = router_history c
 

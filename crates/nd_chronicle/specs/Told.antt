@@ -13,7 +13,7 @@ use Rattle.nd_decode.specs.declared.body.Body.TheVariants as bodies
 use Rattle.nd_text.specs.Digits.{hex_text}
 use Rattle.nd_neighbour.specs.History as neighbours
 use Rattle.nd_slaac.specs.History as addresses
-use Rattle.nd_chronicle.specs.Happening.{Happening, Passed, Drew, Heard, Dropped, Up, Neighbour, Address, LeftRouter, ClearedPrefixes, ClearedRedirects, ClearedDns, SolicitedRouters, Configured, Offered, Ceased, Advertised, Planned, RoutePut, RedirectMade, Sent, Lost, Path, Resolved, Refused, Shown, TooLate, Chronicle, Way, NoWay, WayTo, Loss, Unreachable, Replaced, Forgotten, NoRoute, HopLimit, Limit, Neighbours, Routers, Prefixes, Addresses, Servers, Names, Offers, StaticRoutes, Refusal, WrongRole, Disabled, Tentative, NotOurs, TooLong, Full}
+use Rattle.nd_chronicle.specs.Happening.{Happening, Passed, Drew, Heard, Dropped, Up, Neighbour, Address, LeftRouter, Unlisted, ClearedPrefixes, ClearedRedirects, ClearedDns, SolicitedRouters, Configured, Offered, Ceased, Advertised, Planned, RoutePut, RedirectMade, Sent, Lost, Path, Resolved, Refused, Ignored, Shown, TooLate, Chronicle, Way, NoWay, WayTo, Loss, Unreachable, Replaced, Forgotten, NoRoute, HopLimit, Limit, Neighbours, Routers, Prefixes, Addresses, Servers, Names, Offers, StaticRoutes, Refusal, WrongRole, Disabled, Tentative, NotOurs, TooLong, Full}
 use Rattle.nd_chronicle.specs.Shown.{key_text, mac_or_none_text}
 
 abbrev pub kind_text : Body → List ℕ
@@ -78,6 +78,7 @@ told_of (Up packet) = (codes "up " ++ hex_text packet) ∷ []
 told_of (Neighbour key kind) = told_of_neighbour key kind
 told_of (Address key kind) = told_of_address key kind
 told_of (LeftRouter key) = (codes "ended router " ++ key_text key) ∷ []
+told_of (Unlisted key) = []
 told_of ClearedPrefixes = []
 told_of ClearedRedirects = []
 told_of ClearedDns = []
@@ -94,6 +95,7 @@ told_of (Lost why packet) = (codes "lost " ++ loss_text why ++ codes " " ++ way_
 told_of (Path destination way) = (codes "path " ++ address_text destination.0 ++ codes " " ++ path_text way) ∷ []
 told_of (Resolved key mac) = (codes "resolved " ++ path_text (WayTo key (Some mac))) ∷ []
 told_of (Refused refusal) = (codes "refused " ++ refusal_text refusal) ∷ []
+told_of (Ignored limit) = (codes "ignored " ++ limit_text limit) ∷ []
 told_of (Shown rows) = rows ++ (codes "end " ++ decimal (length rows)) ∷ []
 told_of (TooLate last) = (codes "refused past " ++ decimal last) ∷ []
 

@@ -9,7 +9,7 @@ use Rattle.nd_advertiser.specs.Config.{Settings, is_max_interval, is_min_interva
 use Rattle.nd_advertiser.specs.declared.config_fault.ConfigFault.{ConfigFault}
 use Rattle.nd_slaac.specs.History as addresses
 use Rattle.nd_chronicle.specs.Start.{Start, link_local_key}
-use Rattle.nd_chronicle.specs.Happening.{Chronicle, Passed, Drew, Heard, Dropped, Up, Neighbour, Address, LeftRouter, ClearedPrefixes, ClearedRedirects, ClearedDns, SolicitedRouters, Configured, Offered, Ceased, Advertised, Planned, RoutePut, RedirectMade, Sent, Lost, Path, Resolved, Refused, Shown, TooLate}
+use Rattle.nd_chronicle.specs.Happening.{Chronicle, Passed, Drew, Heard, Dropped, Up, Neighbour, Address, LeftRouter, Unlisted, ClearedPrefixes, ClearedRedirects, ClearedDns, SolicitedRouters, Configured, Offered, Ceased, Advertised, Planned, RoutePut, RedirectMade, Sent, Lost, Path, Resolved, Refused, Ignored, Shown, TooLate}
 use Rattle.nd_chronicle.specs.Histories.{advertising_history, then_assigned}
 use Rattle.nd_chronicle.specs.Generator.{stream_left, interval_drawn}
 use Rattle.nd_chronicle.specs.Advertising.{advertising_by, then_advertising}
@@ -41,6 +41,7 @@ timed start ((at, Dropped why) ∷ c) s t is = timed start c s t is
 timed start ((at, Up packet) ∷ c) s t is = timed start c s t is
 timed start ((at, Neighbour key kind) ∷ c) s t is = timed start c s t is
 timed start ((at, LeftRouter key) ∷ c) s t is = timed start c s t is
+timed start ((at, Unlisted key) ∷ c) s t is = timed start c s t is
 timed start ((at, ClearedPrefixes) ∷ c) s t is = timed start c s t is
 timed start ((at, ClearedRedirects) ∷ c) s t is = timed start c s t is
 timed start ((at, ClearedDns) ∷ c) s t is = timed start c s t is
@@ -56,6 +57,7 @@ timed start ((at, Lost why packet) ∷ c) s t is = timed start c s t is
 timed start ((at, Path destination way) ∷ c) s t is = timed start c s t is
 timed start ((at, Resolved neighbour mac) ∷ c) s t is = timed start c s t is
 timed start ((at, Refused refusal) ∷ c) s t is = timed start c s t is
+timed start ((at, Ignored limit) ∷ c) s t is = timed start c s t is
 timed start ((at, Shown rows) ∷ c) s t is = timed start c s t is
 timed start ((at, TooLate last) ∷ c) s t is = timed start c s t is
 
