@@ -1,8 +1,9 @@
 // A script of `ndpctl run`: its lines, done at a node, and the texts of what the node reports and of its tables (docs/FORMATS.md). The node is proved; its
 // records are put into words here.
 
-const KINDS = ['', 'tx', 'heard', 'drop', 'up', 'duplicate', 'assigned', 'ended address', 'ended router', 'failed', 'lost', 'refused', '', 'resolved'];
-const [TX, HEARD, DROP, UP, LOST, REFUSAL, RESOLVED] = [1, 2, 3, 4, 10, 11, 13];
+const KINDS = ['', 'tx', 'heard', 'drop', 'up', 'duplicate', 'assigned', 'ended address', 'ended router', 'failed', 'lost', 'refused', '', 'resolved',
+    'ignored'];
+const [TX, HEARD, DROP, UP, LOST, REFUSAL, RESOLVED, IGNORED] = [1, 2, 3, 4, 10, 11, 13, 14];
 const MESSAGE_NAMES = ['rs', 'ra', 'ns', 'na', 'redirect'];
 const LOSSES = ['', 'unreachable', 'replaced', 'forgotten', 'no-route', 'hop-limit'];
 const REFUSALS = ['', 'wrong-role', 'disabled', 'not-ours', 'too-long', 'full', '', '', 'tentative'];
@@ -134,6 +135,7 @@ function recordText(record) {
         case LOST: return `${word} ${LOSSES[record.code]} ${addressText(record.bytes.subarray(8, 24))} ${addressText(record.bytes.subarray(24, 40))}`;
         case REFUSAL: return refusalText(record);
         case RESOLVED: return `${word} ${addressText(record.address)} ${mac(record.bytes)}`;
+        case IGNORED: return `${word} ${LIMITS[record.limit]}`;
         default: return `${word} ${addressText(record.address)}`;
     }
 }

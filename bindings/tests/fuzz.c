@@ -8,7 +8,7 @@
 #include "heap.h"
 #include "fuzz.h"
 
-enum { LONGEST_INPUT = 1024, STATUSES = 8, KINDS = 14 };
+enum { LONGEST_INPUT = 1024, STATUSES = 8, KINDS = 15 };
 
 /* The calls by the value of a byte, the frequent ones more often. */
 static const enum call OFTEN[] = {TURN,  TURN,        RECEIVE,        RECEIVE,  RECEIVE,   RECEIVE, RECEIVE, RECEIVE, SEND, SEND, CONFIRM, CONFIRM_TO, FORGET,

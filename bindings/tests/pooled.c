@@ -10,7 +10,7 @@
 #include "spelled.h"
 #include "words.h"
 
-enum { OPENED_AT = 3000, RA_FIELDS = 16, UNIT = 16, SHORTEST = 200, RANDOM_STEPS = 6000, STAGES = 5, LAST_KIND = ND_OUT_RESOLVED, SPENT = 3 };
+enum { OPENED_AT = 3000, RA_FIELDS = 16, UNIT = 16, SHORTEST = 200, RANDOM_STEPS = 6000, STAGES = 5, LAST_KIND = ND_OUT_IGNORED, SPENT = 3 };
 
 /* Where a program with ND_POOL_GIVEN has its pool. */
 struct head *nd_pool;

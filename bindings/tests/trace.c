@@ -171,6 +171,7 @@ static void print_record(const nd_out *out)
     case ND_OUT_LOST: print_lost(out); break;
     case ND_OUT_REFUSED: print_refused(out); break;
     case ND_OUT_RESOLVED: print_resolved(out); break;
+    case ND_OUT_IGNORED: say("ignored %s", WORD(LIMITS, out->limit)); break;
     default: require(false, "a record has a kind");
     }
     say("\n");
@@ -182,7 +183,7 @@ static void require_zeros(const nd_out *out)
     static const nd_addr none = {{0}};
     bool has_code = out->kind == ND_OUT_HEARD || out->kind == ND_OUT_DROPPED || out->kind == ND_OUT_LOST || out->kind == ND_OUT_REFUSED;
     bool has_bytes = out->kind == ND_OUT_FRAME || out->kind == ND_OUT_UP || out->kind == ND_OUT_LOST || out->kind == ND_OUT_RESOLVED;
-    bool is_full = out->kind == ND_OUT_REFUSED && out->code == ND_REFUSAL_FULL;
+    bool is_full = out->kind == ND_OUT_IGNORED || (out->kind == ND_OUT_REFUSED && out->code == ND_REFUSAL_FULL);
     bool has_address = out->kind == ND_OUT_HEARD || (out->kind >= ND_OUT_DUPLICATE && out->kind <= ND_OUT_FAILED) || out->kind == ND_OUT_RESOLVED ||
                        (out->kind == ND_OUT_REFUSED && out->code == ND_REFUSAL_NOT_OURS);
     require(out->reserved == 0 && (out->code != 0) == has_code && (out->length > 0) == has_bytes, "the fields of a record");

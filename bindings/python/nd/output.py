@@ -100,6 +100,13 @@ class Resolved:
 
 
 @dataclass(frozen=True)
+class Ignored:
+    """Parts of a message were passed over, for which a table has no room."""
+    moment: int
+    limit: Limit
+
+
+@dataclass(frozen=True)
 class Other:
     """A kind of a later version."""
     moment: int
@@ -107,7 +114,7 @@ class Other:
     code: int
 
 
-Record = Union[Frame, Heard, Dropped, Up, Duplicate, Assigned, EndedAddress, EndedRouter, Failed, Lost, Refused, Resolved, Other]
+Record = Union[Frame, Heard, Dropped, Up, Duplicate, Assigned, EndedAddress, EndedRouter, Failed, Lost, Refused, Resolved, Ignored, Other]
 
 _WITH_BYTES = {Kind.FRAME: Frame, Kind.UP: Up}
 _WITH_ADDRESS = {Kind.DUPLICATE: Duplicate, Kind.ASSIGNED: Assigned, Kind.ENDED_ADDRESS: EndedAddress, Kind.ENDED_ROUTER: EndedRouter,
@@ -131,6 +138,8 @@ def record_of(out: raw.nd_out, content: bytes) -> Record:
         return _refused(out, address)
     if kind == Kind.RESOLVED:
         return Resolved(moment, address, Mac(content))
+    if kind == Kind.IGNORED:
+        return Ignored(moment, Limit(out.limit))
     return Other(moment, kind, out.code)
 
 

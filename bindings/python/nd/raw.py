@@ -202,6 +202,7 @@ class Kind(Numbers):
     LOST = 10
     REFUSED = 11
     RESOLVED = 13
+    IGNORED = 14
 
 
 class Loss(Numbers):

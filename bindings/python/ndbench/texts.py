@@ -135,6 +135,8 @@ def record_text(record: nd.Record) -> str:
         return f"lost {word_of(record.loss)} {address_text(source)} {address_text(destination)}"
     if isinstance(record, nd.Refused):
         return refusal_text(record)
+    if isinstance(record, nd.Ignored):
+        return f"ignored {word_of(record.limit)}"
     return state_text(record)
 
 

@@ -50,6 +50,8 @@ pub enum Output<Bytes> {
     Refused(Refusal),
     /// The link-layer address of a neighbour is known, for which `Node::resolve` had none. What `Node::send` left waiting was sent before.
     Resolved { neighbour: Ipv6Addr, mac: [u8; 6] },
+    /// Parts of a message were passed over, for which the table has no room.
+    Ignored(Limit),
     /// A kind of a later version.
     Other { kind: u32, code: u32 },
 }
@@ -95,6 +97,7 @@ pub(crate) fn report_of<Bytes: AsRef<[u8]>>(out: &nd_out, bytes: Bytes) -> Repor
         10 => Output::Lost(Loss::from(out.code), bytes),
         11 => Output::Refused(refusal_of(out.code, address, out.limit)),
         13 => Output::Resolved { neighbour: address, mac: mac_in(bytes.as_ref()) },
+        14 => Output::Ignored(Limit::from(out.limit)),
         kind => Output::Other { kind, code: out.code },
     };
     Report { moment: out.moment, output }

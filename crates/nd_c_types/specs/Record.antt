@@ -71,6 +71,7 @@ contents_of (outs.Path destination way) = nothing
 contents_of (outs.Resolved neighbour mac) = record nothing { kind = 13; address = neighbour.0 }
 contents_of (outs.Shown rows) = nothing
 contents_of (outs.Refused why) = of_refusal why
+contents_of (outs.Ignored full) = record nothing { kind = 14; limit = limit_number full }
 contents_of (outs.Past last) = nothing
 
 -- the bytes: a frame that is sent, a packet from its IPv6 header on, or a link-layer address that was resolved
@@ -89,6 +90,7 @@ bytes_in (outs.Path destination way) = []
 bytes_in (outs.Resolved neighbour mac) = mac.0
 bytes_in (outs.Shown rows) = []
 bytes_in (outs.Refused why) = []
+bytes_in (outs.Ignored full) = []
 bytes_in (outs.Past last) = []
 
 -- the whole record

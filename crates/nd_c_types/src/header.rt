@@ -60,6 +60,8 @@ pub const OUT_REFUSED: u32 = 11;
 // 12 is kept for a record that is planned.
 pub const OUT_RESOLVED: u32 = 13;
 
+pub const OUT_IGNORED: u32 = 14;
+
 // Why a packet is not sent: `enum nd_loss`.
 pub const LOSS_UNREACHABLE: u32 = 1;
 

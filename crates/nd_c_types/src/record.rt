@@ -7,9 +7,9 @@ use crate::header::{
     LIMIT_ADDRESSES, LIMIT_NAMES, LIMIT_NEIGHBOURS, LIMIT_OFFERS, LIMIT_PREFIXES, LIMIT_ROUTERS,
     LIMIT_SERVERS, LIMIT_STATIC_ROUTES, LOSS_FORGOTTEN, LOSS_HOP_LIMIT, LOSS_NO_ROUTE,
     LOSS_REPLACED, LOSS_UNREACHABLE, OUT_ASSIGNED, OUT_DROPPED, OUT_DUPLICATE, OUT_ENDED_ADDRESS,
-    OUT_ENDED_ROUTER, OUT_FAILED, OUT_FRAME, OUT_HEARD, OUT_LOST, OUT_REFUSED, OUT_RESOLVED,
-    OUT_UP, REFUSAL_DISABLED, REFUSAL_FULL, REFUSAL_NOT_OURS, REFUSAL_TENTATIVE, REFUSAL_TOO_LONG,
-    REFUSAL_WRONG_ROLE,
+    OUT_ENDED_ROUTER, OUT_FAILED, OUT_FRAME, OUT_HEARD, OUT_IGNORED, OUT_LOST, OUT_REFUSED,
+    OUT_RESOLVED, OUT_UP, REFUSAL_DISABLED, REFUSAL_FULL, REFUSAL_NOT_OURS, REFUSAL_TENTATIVE,
+    REFUSAL_TOO_LONG, REFUSAL_WRONG_ROLE,
 };
 use nd_addr::{Addr, ETHERNET_HEADER_LENGTH};
 use nd_out::{Limit, Loss, Out, Refusal};
@@ -23,7 +23,7 @@ pub struct Record {
     pub moment: u64,
     /// The number of its bytes.
     pub length: usize,
-    /// ND_OUT_FRAME to ND_OUT_RESOLVED.
+    /// ND_OUT_FRAME to ND_OUT_IGNORED.
     pub kind: u32,
     /// Why a frame was dropped, a packet is not sent or an event was refused; or the ICMPv6 type of a message.
     pub code: u32,
@@ -78,6 +78,10 @@ impl Record {
             Out::Failed(neighbour) => Record::about(OUT_FAILED, *neighbour),
             Out::Lost(why, _) => Record::with_code(OUT_LOST, loss_number(*why)),
             Out::Refused(why) => Record::of_refusal(why),
+            Out::Ignored(full) => Record {
+                limit: limit_number(*full),
+                ..Record::with_code(OUT_IGNORED, 0)
+            },
             Out::Resolved(neighbour, _) => Record::about(OUT_RESOLVED, *neighbour),
             Out::Path(_, _) | Out::Shown(_) | Out::Past(_) => NOTHING,
         }

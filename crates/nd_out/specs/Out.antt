@@ -68,6 +68,7 @@ happening (outs.Path destination way) = happenings.Path destination (way_of way)
 happening (outs.Resolved addr mac) = happenings.Resolved (number_of addr.0) (number_of mac.0)
 happening (outs.Shown rows) = happenings.Shown (map string_bytes rows.items)
 happening (outs.Refused why) = happenings.Refused (refusal_of why)
+happening (outs.Ignored full) = happenings.Ignored (limit_of full)
 happening (outs.Past last) = happenings.TooLate last
 
 -- the lines of what happened at a moment

@@ -14,7 +14,7 @@ use crate::line::{write_address, write_front, write_line, write_moment, write_nu
 use crate::lost::{loss_word, write_way};
 use crate::out::{Loss, Out};
 use crate::path::{write_path, write_resolved};
-use crate::reasons::{write_dropped, write_heard, write_refused};
+use crate::reasons::{write_dropped, write_heard, write_ignored, write_refused};
 use nd_addr::Addr;
 use nd_text::write_hex;
 use std::alloc::{AllocError, Allocator};
@@ -140,6 +140,7 @@ fn write_out<A: Allocator, B: Allocator>(
         Out::Resolved(addr, mac) => write_resolved(text, at, *addr, *mac),
         Out::Shown(rows) => write_rows(text, None, at, rows),
         Out::Refused(why) => write_refused(text, at, *why),
+        Out::Ignored(limit) => write_ignored(text, at, *limit),
         Out::Past(last) => write_counted(text, at, "refused past ", *last),
     }
 }

@@ -103,6 +103,8 @@ pub enum Out<A: Allocator> {
     Shown(Vec<String<A>, A>),
     /// An event was refused.
     Refused(Refusal),
+    /// Parts of a message were passed over, for which this table has no room.
+    Ignored(Limit),
     /// An event was too late: time had passed up to this moment, in milliseconds.
     Past(u64),
 }

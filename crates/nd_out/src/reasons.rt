@@ -1,7 +1,7 @@
-//! The texts of messages that were heard, and of the reasons of drops and refusals.
+//! The texts of messages that were heard, of the reasons of drops and refusals, and of parts of a message that were passed over.
 
 ghost use Rattle.std.specs.Prelude.{◌≡◌, ◌++◌, OnOk, codes, string_bytes};
-ghost use Rattle.nd_chronicle.specs.Happening.{Dropped, Refused};
+ghost use Rattle.nd_chronicle.specs.Happening.{Dropped, Ignored, Refused};
 ghost use Rattle.nd_chronicle.specs.Told.{kind_text, line_at, limit_text, lines_of, refusal_text};
 ghost use Rattle.nd_out.specs.Out.{limit_of, refusal_of};
 
@@ -101,5 +101,19 @@ pub(crate) fn write_refused<A: Allocator>(
     write_moment(text, at)?;
     text.push_str("refused ")?;
     write_reason(text, why)?;
+    text.push_str("\n")
+}
+
+/// Writes the line of parts of a message that were passed over, for which a table has no room.
+pub(crate) fn write_ignored<A: Allocator>(
+    text: &mut String<A>,
+    at: u64,
+    limit: Limit,
+) -> Result<(), AllocError>
+    ensures { OnOk result (string_bytes text.new ≡ string_bytes text.old ++ lines_of (at, Ignored (limit_of limit))) }
+{
+    write_moment(text, at)?;
+    text.push_str("ignored ")?;
+    text.push_str(limit_word(limit))?;
     text.push_str("\n")
 }
