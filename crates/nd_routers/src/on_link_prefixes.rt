@@ -4,7 +4,7 @@ ghost use Rattle.nd_addr.specs.Prefix.{PrefixValue};
 ghost use Rattle.nd_addr.specs.Same.{same_prefix};
 ghost use Rattle.nd_decode.specs.Pieces.{options_left};
 ghost use Rattle.nd_table.specs.Announcements.{Row, last_moment};
-ghost use Rattle.nd_table.specs.Listing.{fits, then_announced, Lists};
+ghost use Rattle.nd_table.specs.Listing.{fits, with_room, then_announced, Lists};
 ghost use Rattle.nd_table.specs.ListingKept.{announced_all, Distinct, Stands};
 ghost use Rattle.nd_table.specs.declared.lasting.Lasting.{Lasting as Entry};
 ghost use Rattle.nd_table.specs.Moment.{IsMoment};
@@ -49,16 +49,15 @@ impl<A: Allocator> Prefixes<A> {
         Ok(())
     }
 
-    /// Does what `heard_ra` does, for options that fit. Returns true if they only refresh prefixes that are on the link: they add none and remove
-    /// none. It takes no memory.
+    /// Does what `heard_ra` does, but passes over a prefix for which there is no room. Returns true if those that it takes only refresh prefixes that
+    /// are on the link: they add none and remove none. It takes no memory.
     pub fn take_ra(&mut self, now: u64, options: Options<'_>) -> bool
         requires moment { IsMoment now }
-        requires fits { fits same_prefix self.old.limit now (prefixes_in (options_left options)) self.old.entries ≡ true }
 
-        ensures refreshes { result ≡ only_refreshes same_prefix now (prefixes_in (options_left options.entry)) self.old.entries }
+        ensures refreshes { result ≡ only_refreshes same_prefix now (with_room same_prefix self.old.limit now (prefixes_in (options_left options.entry)) self.old.entries) self.old.entries }
         ensures stands { (history : List (Row PrefixValue)) → last_moment history ≤ now → Stands same_prefix self.old.entries history
-            → Stands same_prefix self.new.entries (then_announced now (prefixes_in (options_left options.entry)) history) }
-        ensures value { self.new ≡ record { limit = self.old.limit; entries = announced_all same_prefix now (prefixes_in (options_left options.entry)) self.old.entries } }
+            → Stands same_prefix self.new.entries (then_announced now (with_room same_prefix self.old.limit now (prefixes_in (options_left options.entry)) self.old.entries) history) }
+        ensures value { self.new ≡ record { limit = self.old.limit; entries = announced_all same_prefix now (with_room same_prefix self.old.limit now (prefixes_in (options_left options.entry)) self.old.entries) self.old.entries } }
     {
         announce_all(&mut self.entries, self.limit, now, OnLink { options })
     }

@@ -14,7 +14,7 @@ use crate::router::Router;
 use crate::router_failures::forget;
 use crate::routers::Routers;
 use nd_addr::{Addr, Preference};
-use nd_table::{Lasting, Limit, TableRefusal, announce, count, has, stands};
+use nd_table::{Limit, TableRefusal, announce, has, has_room};
 use std::alloc::Allocator;
 
 /// What a Router Advertisement does to the list of default routers.
@@ -43,7 +43,7 @@ impl<A: Allocator> Routers<A> {
         ensures by_history { (history : List RouterRow) (es : List (Lasting ℕ)) → Stands self.now history → Lists same (announcements history) now es
             → result ≡ fits same self.now.limit now ((number_of source.0, lifetime) ∷ []) es }
     {
-        fits_one(&self.entries, self.limit, now, source, lifetime)
+        has_room(&self.entries, self.limit, now, &source, u32::from(lifetime))
     }
 
     /// Takes a router that announces itself at `now`, in milliseconds, for a lifetime in seconds, with its preference (RFC 4861, section 6.3.4; RFC
@@ -121,23 +121,6 @@ impl<A: Allocator> Routers<A> {
         prefer(&mut self.preferences, before, source, preference);
         change_by(before, true)
     }
-}
-
-/// Returns true if there is room for a router that announces itself.
-fn fits_one(
-    entries: &[Lasting<Router>],
-    limit: usize,
-    now: u64,
-    source: Addr,
-    lifetime: u16,
-) -> bool
-    requires { length entries.now ≤ limit }
-    ensures { result ≡ fits same limit now ((number_of source.0, lifetime) ∷ []) entries.now }
-{
-    if stands(entries, now, &source) {
-        return true;
-    }
-    lifetime == 0 || count(entries, now) < limit
 }
 
 /// Returns what has changed. `before` and `after`: the router was listed before, is listed then.

@@ -18,3 +18,4 @@ pub mod Steps
 pub mod UniqueKeys
 pub mod Refreshing
 pub mod Walking
+pub mod WithRoom

@@ -59,3 +59,10 @@ module _ {K : Type 0} (same : K → K → Bool) where
   fits limit now [] es = true
   fits limit now ((key, lifetime) ∷ more) es =
       nat_le (length (announced now key lifetime es)) limit && fits limit now more (announced now key lifetime es)
+
+  -- those of them for which there is room: one that would lead to more entries than this is passed over (RFC 8106, section 5.3.1, lets a host ignore it)
+  abbrev pub with_room : ℕ → ℕ → List (K × ℕ) → List (Lasting K) → List (K × ℕ)
+  with_room limit now [] es = []
+  with_room limit now ((key, lifetime) ∷ more) es =
+      if nat_le (length (announced now key lifetime es)) limit then (key, lifetime) ∷ with_room limit now more (announced now key lifetime es) else
+      with_room limit now more es

@@ -1,6 +1,6 @@
 ghost use Rattle.std.specs.Prelude.{◌≡◌, ◌≤◌, ◌<◌, ◌*◌, ◌^◌, true, length, vec_len, vec_capacity, List};
 ghost use Rattle.nd_table.specs.declared.lasting.Lasting.{Lasting};
-ghost use Rattle.nd_table.specs.Listing.{fits};
+ghost use Rattle.nd_table.specs.Listing.{fits, with_room};
 ghost use Rattle.nd_table.specs.ListingKept.{announced_all, Distinct};
 ghost use Rattle.nd_table.specs.Moment.{IsMoment};
 ghost use Rattle.nd_table.specs.Refreshing.{only_refreshes};
@@ -8,7 +8,7 @@ ghost use Rattle.nd_table.specs.WalkKept.{LeadsTo};
 
 use crate::announces::Announces;
 use crate::lasting::Lasting;
-use crate::lasting_entries::{announce, count, stands};
+use crate::lasting_entries::{announce, count, has_room, stands};
 use crate::names_key::NamesKey;
 use crate::walk::Walk;
 use std::alloc::Allocator;
@@ -88,8 +88,8 @@ pub fn only_refreshes<K, Q: NamesKey<K> + Drop, I: Announces<K, Q> + Drop>(
     true
 }
 
-/// Takes the announcements of a message in order. There is room for them. Returns true if they only refresh what is listed at `now`, in
-/// milliseconds: each key is, and no lifetime is 0.
+/// Takes the announcements of a message in order, but those for which there is no room. Returns true if the ones that it takes only refresh what is
+/// listed at `now`, in milliseconds: each key is, and no lifetime is 0.
 pub fn announce_all<K: NamesKey<K> + Copy + Drop, I: Announces<K, K> + Drop, A: Allocator>(
     entries: &mut Vec<Lasting<K>, A>,
     limit: usize,
@@ -98,17 +98,19 @@ pub fn announce_all<K: NamesKey<K> + Copy + Drop, I: Announces<K, K> + Drop, A: 
 ) -> bool
     requires moment { IsMoment now }
     requires itself { (k : K) → K.named k ≡ k }
-    requires fits { fits K.same limit now (I.told announced) entries.old.items ≡ true }
     requires few { vec_len entries.old ≤ limit }
     requires room { limit ≤ vec_capacity entries.old }
-    ensures refreshes { result ≡ only_refreshes K.same now (I.told announced) entries.old.items }
-    ensures items { entries.new.items ≡ announced_all K.same now (I.told announced) entries.old.items }
+    ensures refreshes { result ≡ only_refreshes K.same now (with_room K.same limit now (I.told announced) entries.old.items) entries.old.items }
+    ensures items { entries.new.items ≡ announced_all K.same now (with_room K.same limit now (I.told announced) entries.old.items) entries.old.items }
     ensures few { vec_len entries.new ≤ limit }
     ensures capacity { vec_capacity entries.new ≡ vec_capacity entries.old }
 {
     let mut rest = announced;
     let mut refreshes = true;
     while let Some((key, lifetime)) = rest.next_told() {
+        if !has_room(entries, limit, now, &key, lifetime) {
+            continue;
+        }
         if !announce(entries, now, &key, Some(key), lifetime) {
             refreshes = false;
         }

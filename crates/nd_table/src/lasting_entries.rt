@@ -1,4 +1,4 @@
-ghost use Rattle.std.specs.Prelude.{◌≡◌, ◌≤◌, ◌<◌, ◌&&◌, ◌==◌, not, Some, false, MatchOption, length, map, is_some, vec_len, vec_capacity};
+ghost use Rattle.std.specs.Prelude.{◌≡◌, ◌≤◌, ◌<◌, ◌&&◌, ◌==◌, nat_le, not, Some, false, MatchOption, length, map, is_some, vec_len, vec_capacity};
 ghost use Rattle.std.specs.List.{list_all};
 ghost use Rattle.nd_table.specs.Ends.{is_before};
 ghost use Rattle.nd_table.specs.Listing.{end_in, renewed, without, open_at, announced};
@@ -126,6 +126,27 @@ pub fn announce<K: Drop, Q: NamesKey<K>, A: Allocator>(
         entries.push_reserved(Lasting { key, end });
     }
     false
+}
+
+/// Returns true if there is room for an announcement: it leads to no more entries than `limit`.
+pub fn has_room<K, Q: NamesKey<K>>(
+    entries: &[Lasting<K>],
+    limit: usize,
+    now: u64,
+    name: &Q,
+    lifetime: u32,
+) -> bool
+    requires { length entries.now ≤ limit }
+    ensures { result ≡ nat_le (length (announced Q.same now (Q.named name.now) lifetime entries.now)) limit }
+{
+    // Mostly there is room for one more.
+    if entries.len() < limit {
+        return true;
+    }
+    if !enters(entries, now, name, lifetime) {
+        return true;
+    }
+    count(entries, now) < limit
 }
 
 /// Returns true if an announcement adds the key that it names.

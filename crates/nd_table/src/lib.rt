@@ -36,7 +36,7 @@ pub use date::Date;
 pub use dated::Dated;
 pub use ends::{INFINITY, end_time, is_before, time_left};
 pub use lasting::Lasting;
-pub use lasting_entries::{announce, count, drop_ended, enters, has, remove, stands};
+pub use lasting_entries::{announce, count, drop_ended, enters, has, has_room, remove, stands};
 pub use moments::{is_at, lesser};
 pub use names_key::NamesKey;
 pub use order::compare;

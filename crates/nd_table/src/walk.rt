@@ -53,6 +53,8 @@ impl<'a, K> Walk<'a, K> {
         ensures adds { (entries : List (Lasting K)) → LeadsTo Q.same Q.named self.old kept.old entries
             → MatchOption result (self.old.limit < length (announced Q.same self.old.now (Q.named name) lifetime entries))
             (λ adds. (adds ≡ enters Q.same self.old.now (Q.named name) lifetime entries) × LeadsTo Q.same Q.named self.new kept.new (announced Q.same self.old.now (Q.named name) lifetime entries)) }
+        // One for which there is no room leaves the walk where it is.
+        ensures passed { (result ≡ None) → (self.new ≡ self.old) × (kept.new ≡ kept.old) }
         ensures limit { self.new.limit ≡ self.old.limit }
         ensures now { self.new.now ≡ self.old.now }
     {

@@ -1,20 +1,17 @@
-use Rattle.std.proofs.Common.{◌∙◌, ap, sym, rules}
+use Rattle.std.proofs.Common.{◌∙◌, ap, sym, arith, rules}
 use Rattle.std.specs.Prelude.{◌&&◌}
-use Rattle.nd_table.specs.Refreshing.{only_refreshes}
-use Rattle.nd_table.proofs.Refreshing.{refreshes_behind}
+use Rattle.nd_table.proofs.WithRoom.{few_after, leads_on, refreshes_on}
 use Rattle.nd_table.proofs.announcements.announce_all.Goals as goal
 
 pub loop-key-preserved : goal.loop-key-preserved
 loop-key-preserved g c =
     let same = g.K.NamesKey.same in
-    let now = c.args.now in
-    let more = g.I.Announces.told c.next_told.new.self in
     let es = c.loop-key.entries.items in
-    let later = ap (λ l. only_refreshes same now more l) c.announce.ensures.items ∙ refreshes_behind same now _ _ more es (sym c.announce.ensures.refreshes ∙ c.if-not-announce.false) in
-    let whole = later ∙ ap (λ l. only_refreshes same now l es) (sym c.in-Some.ensures) in (
-      ap (λ r. c.loop-key.refreshes && r) whole ∙ c.loop-key.invariant.0,
-      search rules,
-      search rules,
-      search rules,
+    let room = sym c.has_room.ensures ∙ c.if-not-has_room.false in
+    let items = c.announce.ensures.items in
+    let seen = c.deref.ensures.value in (
+      ap (λ r. c.loop-key.refreshes && r) (refreshes_on same c.args.limit c.args.now _ _ _ _ _ es _ c.in-Some.ensures seen room items (sym c.announce.ensures.refreshes ∙ c.if-not-announce.false)) ∙ c.loop-key.invariant.0,
+      leads_on same c.args.limit c.args.now _ _ _ _ _ es _ c.in-Some.ensures seen room items ∙ c.loop-key.invariant.1,
+      omega (arith, few_after same c.args.limit c.args.now _ _ _ _ _ es _ c.in-Some.ensures seen room items),
       search rules,
     )
