@@ -5,6 +5,7 @@ use Rattle.nd_addr.specs.Same.{same_addr}
 use Rattle.nd_decode.specs.Option.{Said}
 use Rattle.nd_table.specs.declared.lasting.Lasting.{Lasting}
 use Rattle.nd_table.specs.Announcements.{Row}
+use Rattle.nd_table.specs.Listing.{with_room}
 use Rattle.nd_table.specs.ListingKept as lifetimes
 use Rattle.nd_table.specs.ListingKept.{announced_all, entered}
 use Rattle.nd_dns.specs.AnnouncedServers.{servers_told}
@@ -22,15 +23,22 @@ pub record Stands (table : Table) (servers : List (Row Addr)) (names : List (Row
   pub servers_stand : lifetimes.Stands same_addr table.servers servers
   pub names_stand : lifetimes.Stands same_name table.names names
 
--- what a message makes of the lists
+-- the servers and the names of a message for which there is room, where the others are passed over
+abbrev pub servers_taken : ℕ → List Said → Table → List (Addr × ℕ)
+servers_taken now options table = with_room same_addr table.server_limit now (servers_told options) table.servers
+
+abbrev pub names_taken : ℕ → List Said → Table → List (List ℕ × ℕ)
+names_taken now options table = with_room same_name table.name_limit now (names_told options) table.names
+
+-- what these make of the lists
 abbrev pub after : ℕ → List Said → Table → Table
 after now options table = record {
   server_limit = table.server_limit;
   name_limit = table.name_limit;
-  servers = announced_all same_addr now (servers_told options) table.servers;
-  names = announced_all same_name now (names_told options) table.names;
+  servers = announced_all same_addr now (servers_taken now options table) table.servers;
+  names = announced_all same_name now (names_taken now options table) table.names;
 }
 
--- the names that a message adds, each as often as it enters
+-- the names that they add, each as often as it enters
 abbrev pub new_names : ℕ → List Said → Table → List (List ℕ)
-new_names now options table = entered same_name now (names_told options) table.names
+new_names now options table = entered same_name now (names_taken now options table) table.names

@@ -1,6 +1,6 @@
 ghost use Rattle.std.specs.Prelude.{◌≡◌, [], IfOk, IsOk, length, ◌≤◌, true, false, vec_len, vec_capacity};
 ghost use Rattle.nd_search_list.specs.NameRef.{name_of};
-ghost use Rattle.nd_table.specs.Listing.{fits};
+ghost use Rattle.nd_table.specs.Listing.{with_room};
 ghost use Rattle.nd_table.specs.ListingKept.{entered, enters, announced_all, Distinct};
 ghost use Rattle.nd_table.specs.Moment.{IsMoment};
 ghost use Rattle.nd_dns.specs.Dns.{max_names};
@@ -11,7 +11,7 @@ use crate::announced_names::AnnouncedNames;
 use crate::dns::MAX_NAMES;
 use crate::search_name::SearchName;
 use nd_decode::NameRef;
-use nd_table::{Lasting, Walk, announce, enters};
+use nd_table::{Lasting, Walk, announce, enters, has_room};
 use std::alloc::{AllocError, Allocator};
 use std::collections::VecDeque;
 use std::marker::Model;
@@ -83,8 +83,7 @@ impl<A: Allocator + Clone> NewNames<A> {
     }
 }
 
-/// Returns copies of the names that the announcements of a message add, in their order. Returns an error if out of memory, or at a name for which
-/// there is no room.
+/// Returns copies of the names that the announcements of a message add for which there is room, in their order. Returns an error if out of memory.
 pub(crate) fn copies<A: Allocator + Clone>(
     alloc: &A,
     entries: &[Lasting<SearchName<A>>],
@@ -95,20 +94,17 @@ pub(crate) fn copies<A: Allocator + Clone>(
     requires distinct { Distinct same_name entries.now }
     requires few { length entries.now ≤ limit }
     requires limit { limit ≤ max_names }
-    ensures value { IfOk result (λ names. names ≡ entered same_name now (names_to_come announced.entry) entries.now) }
-    ensures quiet { entered same_name now (names_to_come announced.entry) entries.now ≡ [] → IsOk result }
+    ensures value { IfOk result (λ names. names ≡ entered same_name now (with_room same_name limit now (names_to_come announced.entry) entries.now) entries.now) }
+    ensures quiet { entered same_name now (with_room same_name limit now (names_to_come announced.entry) entries.now) entries.now ≡ [] → IsOk result }
 {
     let mut kept = [None; 2 * MAX_NAMES];
     let mut walk = Walk::new(entries, limit, now);
     let mut copies = NewNames::none();
     let mut rest = announced;
     while let Some((name, lifetime)) = rest.next_name() {
-        let adds = match walk.adds(&mut kept, name, lifetime) {
-            Some(adds) => adds,
-            None => return Err(AllocError),
-        };
-        if adds {
-            copies.add(alloc, &name)?;
+        match walk.adds(&mut kept, name, lifetime) {
+            Some(true) => copies.add(alloc, &name)?,
+            Some(false) | None => {}
         }
     }
     Ok(copies)
@@ -129,7 +125,7 @@ fn is_added<A: Allocator>(
     !copies.is_empty() && enters(entries, now, name, lifetime)
 }
 
-/// Takes the announcements of names of a message in order, with copies of those that enter. There is room for them.
+/// Takes the announcements of names of a message in order, but those for which there is no room, with copies of those that enter.
 pub(crate) fn announce_names<A: Allocator>(
     entries: &mut Vec<Lasting<SearchName<A>>, A>,
     limit: usize,
@@ -138,17 +134,19 @@ pub(crate) fn announce_names<A: Allocator>(
     copies: NewNames<A>,
 )
     requires moment { IsMoment now }
-    requires fits { fits same_name limit now (names_to_come announced) entries.old.items ≡ true }
     requires few { vec_len entries.old ≤ limit }
     requires room { limit ≤ vec_capacity entries.old }
-    requires copied { copies ≡ entered same_name now (names_to_come announced) entries.old.items }
-    ensures items { entries.new.items ≡ announced_all same_name now (names_to_come announced.entry) entries.old.items }
+    requires copied { copies ≡ entered same_name now (with_room same_name limit now (names_to_come announced) entries.old.items) entries.old.items }
+    ensures items { entries.new.items ≡ announced_all same_name now (with_room same_name limit now (names_to_come announced.entry) entries.old.items) entries.old.items }
     ensures few { vec_len entries.new ≤ limit }
     ensures capacity { vec_capacity entries.new ≡ vec_capacity entries.old }
 {
     let mut rest = announced;
     let mut copies = copies;
     while let Some((name, lifetime)) = rest.next_name() {
+        if !has_room(entries, limit, now, &name, lifetime) {
+            continue;
+        }
         let key = if is_added(entries, now, &name, lifetime, &copies) {
             copies.next()
         } else {

@@ -6,7 +6,7 @@ ghost use Rattle.nd_decode.specs.Pieces.{options_left};
 ghost use Rattle.nd_table.specs.declared.lasting.Lasting.{Lasting};
 ghost use Rattle.nd_table.specs.Announcements.{Row, last_moment};
 ghost use Rattle.nd_table.specs.Listing.{fits, then_announced, Lists};
-ghost use Rattle.nd_table.specs.ListingKept.{Distinct};
+ghost use Rattle.nd_table.specs.ListingKept.{Distinct, entered};
 ghost use Rattle.nd_table.specs.Moment.{IsMoment};
 ghost use Rattle.nd_table.specs.Refreshing.{only_refreshes};
 ghost use Rattle.nd_dns.specs.Dns.{max_servers};
@@ -22,7 +22,7 @@ use nd_table::{Lasting, Limit, TableRefusal, announce_all, fits_all, only_refres
 use std::alloc::{AllocError, Allocator};
 
 impl<A: Allocator> Dns<A> {
-    ghost use Rattle.nd_dns.specs.DnsKept.{Stands, after, new_names};
+    ghost use Rattle.nd_dns.specs.DnsKept.{Stands, after, new_names, servers_taken, names_taken};
     ghost use Rattle.nd_dns.specs.AnnouncedNames.{same_name, names_told};
 
     /// Returns true if there is room for the servers that the options of a Router Advertisement announce at `now`, in milliseconds, taken in order.
@@ -40,7 +40,7 @@ impl<A: Allocator> Dns<A> {
         ensures value { result ≡ fits same_name self.now.name_limit now (names_told (options_left options.entry)) self.now.names }
         ensures by_history { (servers : List (Row Addr)) (history : List (Row (List ℕ))) (es : List (Lasting (List ℕ))) → Stands self.now servers history → last_moment history ≤ now → Lists same_name history now es
             → result ≡ fits same_name self.now.name_limit now (names_told (options_left options.entry)) es }
-        ensures quiet { new_names now (options_left options.entry) self.now ≡ [] → result ≡ true }
+        ensures quiet { entered same_name now (names_told (options_left options.entry)) self.now.names ≡ [] → result ≡ true }
     {
         let told = AnnouncedNames::new(options);
         let mut kept = [None; 2 * MAX_NAMES];
@@ -78,15 +78,13 @@ impl<A: Allocator> Dns<A> {
         Ok(())
     }
 
-    /// Does what `heard_ra` does, for servers and names that fit. It takes no memory.
+    /// Does what `heard_ra` does, but passes over servers and names for which there is no room. It takes no memory.
     pub fn take_ra(&mut self, now: u64, options: Options<'_>, names: NewNames<A>)
         requires moment { IsMoment now }
-        requires fits_servers { fits same_addr self.old.server_limit now (servers_told (options_left options)) self.old.servers ≡ true }
-        requires fits_names { fits same_name self.old.name_limit now (names_told (options_left options)) self.old.names ≡ true }
         requires names { names ≡ new_names now (options_left options) self.old }
 
         ensures stands { (servers : List (Row Addr)) (names : List (Row (List ℕ))) → last_moment servers ≤ now → last_moment names ≤ now → Stands self.old servers names
-            → Stands self.new (then_announced now (servers_told (options_left options.entry)) servers) (then_announced now (names_told (options_left options.entry)) names) }
+            → Stands self.new (then_announced now (servers_taken now (options_left options.entry) self.old) servers) (then_announced now (names_taken now (options_left options.entry) self.old) names) }
         ensures value { self.new ≡ after now (options_left options.entry) self.old }
     {
         let told_servers = AnnouncedServers::new(options);
@@ -143,7 +141,7 @@ impl<A: Allocator + Clone> Dns<A> {
         ensures refusal { IfErr result (λ refusal. (refusal ≡ TableRefusal.Full Limit.Names) ⊎ (refusal ≡ TableRefusal.Memory)) }
 
         // If no name is added it succeeds, even if no memory is left.
-        ensures quiet { new_names now (options_left options.entry) self.now ≡ [] → IsOk result }
+        ensures quiet { entered same_name now (names_told (options_left options.entry)) self.now.names ≡ [] → IsOk result }
     {
         if !self.fits_names(now, options) {
             return Err(TableRefusal::Full(Limit::Names));
@@ -154,8 +152,8 @@ impl<A: Allocator + Clone> Dns<A> {
         }
     }
 
-    /// Copies the search names that they add, of options that `fits_names` found room for. Returns an error if out of memory, or at a name for which
-    /// there is no room. If they add none it takes no memory.
+    /// Copies the search names that they add, but those for which there is no room. Returns an error if out of memory. If they add none it takes no
+    /// memory.
     pub fn new_names(&self, now: u64, options: Options<'_>) -> Result<NewNames<A>, AllocError>
         ensures value { IfOk result (λ names. names ≡ new_names now (options_left options.entry) self.now) }
 

@@ -7,6 +7,7 @@ pub mod Preferring
 pub mod Steps
 pub mod Told
 pub mod Unique
+pub mod Unlisted
 pub mod Planning
 pub mod OfType
 pub mod Showing
