@@ -8,7 +8,7 @@ use Rattle.nd_slaac.specs.History.{Story, Lifetimes}
 use Rattle.nd_table.specs.Ends.{end_time}
 use Rattle.nd_slaac.specs.Ends.{preferred_end, valid_end}
 use Rattle.nd_slaac.specs.TwoHours.{renewed}
-use Rattle.nd_slaac.specs.State.{Forming, forming_of, has_conflict, is_by_hand, is_known, was_assigned, sent_of, step_at}
+use Rattle.nd_slaac.specs.State.{Forming, forming_of, has_conflict, is_by_hand, was_assigned, sent_of, step_at}
 use Rattle.nd_slaac.specs.AddressKept.{Address, stage_by, address_by, address_of}
 use Rattle.nd_slaac.specs.Due.{happens}
 use Rattle.nd_slaac.specs.Dates.{next_step, falls_by, stepped}

@@ -1,5 +1,5 @@
 -- Whether there is room for the addresses that options would form.
-use Rattle.std.proofs.Common.{◌≡◌, ℕ, ◌+◌, ◌*◌, ◌/◌, ◌<◌, ◌≤◌, Bool, true, false, eqb, ltb, List, [], ◌∷◌, ◌++◌, length, Option, Some, None, refl, sym, ◌∙◌, ap, arith, suc, ◌⊎◌, inl, inr}
+use Rattle.std.proofs.Common.{◌≡◌, ℕ, ◌+◌, ◌*◌, ◌/◌, ◌<◌, ◌≤◌, Bool, true, false, cond, eqb, ltb, List, [], ◌∷◌, ◌++◌, length, Option, Some, None, refl, sym, ◌∙◌, ap, arith, suc, ◌⊎◌, inl, inr}
 use Rattle.std.specs.Prelude.{is_some, ◌&&◌, ◌||◌, not, IsOk, IfSome, Result, Ok, Err}
 use Rattle.std.proofs.lemmas.Bool.Decides.{nat_tests}
 use Rattle.std.proofs.lemmas.Bool.{true≢false, cond-true, cond-false, cases_Bool}
@@ -19,7 +19,7 @@ use Rattle.nd_slaac.specs.declared.prefix_option.Full.{Full}
 use Rattle.nd_slaac.specs.AddressKept.{Address}
 use Rattle.nd_slaac.specs.TableKept.{key_of, address_in}
 use Rattle.nd_slaac.specs.PrefixOption.{is_taken, named_by, lifetimes_of, is_forming, prefixes_in}
-use Rattle.nd_slaac.specs.Room.{is_among, would_form, fits_in}
+use Rattle.nd_slaac.specs.Room.{is_among, would_form, fits_in, with_room}
 use Rattle.nd_slaac.specs.RoomKept.{is_listed, is_new}
 use Rattle.nd_slaac.specs.Calls.{keys_in, formed, announced, is_by_hand_in, taken_by, Changes, row_taken, GainsRowIfAny}
 use Rattle.nd_slaac.specs.History.{Row, story}
@@ -37,6 +37,20 @@ fits_same limit mac keys ks (info ∷ infos) same len =
     let more : fits_in limit mac (key ∷ keys) infos ≡ fits_in limit mac (key ∷ ks) infos = fits_same limit mac (key ∷ keys) (key ∷ ks) infos (λ k. ap (λ b. eqb key k || b) (same k)) (ap suc len) in
     let rest : fits_in limit mac keys infos ≡ fits_in limit mac ks infos = fits_same limit mac keys ks infos same len in
     rw (e, len, more, rest) refl
+
+pub room_same : (limit : ℕ) (mac : Mac) (keys ks : List ℕ) (infos : List PrefixInfo) → ((key : ℕ) → is_among key keys ≡ is_among key ks) → length keys ≡ length ks → with_room limit mac keys infos ≡ with_room limit mac ks infos
+room_same limit mac keys ks [] same len = refl
+room_same limit mac keys ks (info ∷ infos) same len =
+    let key = named_by mac info in
+    let e : is_among key keys ≡ is_among key ks = same key in
+    let more : with_room limit mac (key ∷ keys) infos ≡ with_room limit mac (key ∷ ks) infos = room_same limit mac (key ∷ keys) (key ∷ ks) infos (λ k. ap (λ b. eqb key k || b) (same k)) (ap suc len) in
+    let rest : with_room limit mac keys infos ≡ with_room limit mac ks infos = room_same limit mac keys ks infos same len in
+    rw (e, len, more, rest) refl
+
+-- an option that would form none isn't passed over
+pub idle_first : (limit : ℕ) (mac : Mac) (keys : List ℕ) (info : PrefixInfo) (infos : List PrefixInfo) → would_form mac keys info ≡ false → with_room limit mac keys (info ∷ infos) ≡ info ∷ with_room limit mac keys infos
+idle_first limit mac keys info infos idle =
+    cond-false (would_form mac keys info) (cond (ltb (length keys) limit) (info ∷ with_room limit mac (named_by mac info ∷ keys) infos) (with_room limit mac keys infos)) (info ∷ with_room limit mac keys infos) idle
 
 abbrev did : Taken → Result Taken Full
 did taken = Ok taken
@@ -156,6 +170,36 @@ fits_on limit now mac info delay retrans (Err full) old new infos taken is chang
     let room : ltb (length (keys_in old)) limit ≡ false = ap (λ n. ltb n limit) (keys-length old) ∙ parts.2 in
     let none : false ≡ true = rw (taken, nz, free, room) at h in
     absurd (true≢false (sym none))
+
+-- an option that isn't refused is the first of those that have room, and the others are what has room behind it
+pub room_on : (limit now : ℕ) (mac : Mac) (info : PrefixInfo) (delay retrans : ℕ) (r : Result Taken Full) (old new : List Address) (infos : List PrefixInfo) → is_taken info ≡ true → r ≡ taken_by limit (is_by_hand_in (address_in (named_by mac info) old)) (is_some (address_in (named_by mac info) old)) info.valid_lifetime (length old) → Changes now (named_by mac info) (lifetimes_of info) delay retrans r old new → IsOk r → with_room limit mac (keys_in old) (info ∷ infos) ≡ info ∷ with_room limit mac (keys_in new) infos
+room_on limit now mac info delay retrans (Ok Formed) old new infos taken is changes ok =
+    let key = named_by mac info in
+    let parts = formed_parts limit (is_by_hand_in (address_in key old)) (is_some (address_in key old)) info.valid_lifetime (length old) is in
+    let nz : eqb info.valid_lifetime 0 ≡ false = parts.1 in
+    let free : is_among key (keys_in old) ≡ false = sym (known_among key old) ∙ parts.0 in
+    let room : ltb (length (keys_in old)) limit ≡ true = ap (λ n. ltb n limit) (keys-length old) ∙ parts.2 in
+    let first : with_room limit mac (keys_in old) (info ∷ infos) ≡ info ∷ with_room limit mac (key ∷ keys_in old) infos = rw (taken, nz, free, room) refl in
+    let put : new ≡ put_in key_of (formed key now delay retrans (Some (lifetimes_of info))) old = changes.1 in
+    first ∙ ap (λ (l : List PrefixInfo). info ∷ l) (sym (ap (λ (l : List Address). with_room limit mac (keys_in l) infos) put ∙ room_same limit mac (keys_in (put_in key_of (formed key now delay retrans (Some (lifetimes_of info))) old)) (key ∷ keys_in old) infos
+    (λ k. among-put k (formed key now delay retrans (Some (lifetimes_of info))) old)
+    (keys-length (put_in key_of (formed key now delay retrans (Some (lifetimes_of info))) old) ∙ (length-put (formed key now delay retrans (Some (lifetimes_of info))) old ∙ ap suc (sym (keys-length old))))))
+room_on limit now mac info delay retrans (Ok Renewed) old new infos taken is changes ok =
+    let key = named_by mac info in
+    let there : is_among key (keys_in old) ≡ true = sym (known_among key old) ∙ (renewed_parts limit (is_by_hand_in (address_in key old)) (is_some (address_in key old)) info.valid_lifetime (length old) is).0 in
+    let idle : would_form mac (keys_in old) info ≡ false = idle_by (is_forming info) (is_among key (keys_in old)) there in
+    let same : keys_in new ≡ keys_in old = ap keys_in changes.new_is ∙ keys-set old changes.at (announced now (lifetimes_of info) changes.address) changes.address (ap key_of (sym changes.is)) in
+    idle_first limit mac (keys_in old) info infos idle ∙ ap (λ ks. info ∷ with_room limit mac ks infos) (sym same)
+room_on limit now mac info delay retrans (Ok Ignored) old new infos taken is changes ok =
+    let key = named_by mac info in
+    let there : is_by_hand_in (address_in key old) ≡ true → is_forming info && not (is_among key (keys_in old)) ≡ false =
+    λ hand. idle_by (is_forming info) (is_among key (keys_in old)) (sym (known_among key old) ∙ known_by_hand (address_in key old) hand) in
+    let idle : would_form mac (keys_in old) info ≡ false = elim (ignored_parts limit (is_by_hand_in (address_in key old)) (is_some (address_in key old)) info.valid_lifetime (length old) is) [
+      | inl hand ↦ there hand
+      | inr zero' ↦ rw (taken, zero') refl
+    ] in
+    idle_first limit mac (keys_in old) info infos idle ∙ ap (λ (l : List Address). info ∷ with_room limit mac (keys_in l) infos) (sym changes)
+room_on limit now mac info delay retrans (Err full) old new infos taken is changes ok = absurd (true≢false (sym ok))
 
 -- what the call adds to the history
 pub gains_taken : (now : ℕ) (mac : Mac) (info : PrefixInfo) (delay retrans : ℕ) (r : Result Taken Full) (old new : List Address) → Changes now (named_by mac info) (lifetimes_of info) delay retrans r old new → GainsRowIfAny (row_taken now mac info delay retrans r) old new

@@ -9,13 +9,13 @@ use Rattle.nd_slaac.specs.declared.prefix_option.Full.{Full}
 use Rattle.nd_slaac.specs.AddressKept.{Address}
 use Rattle.nd_slaac.specs.TableKept.{Table, address_in, Stands}
 use Rattle.nd_slaac.specs.PrefixOption.{is_taken, named_by, lifetimes_of}
-use Rattle.nd_slaac.specs.Room.{fits_in, would_form}
+use Rattle.nd_slaac.specs.Room.{fits_in, would_form, with_room}
 use Rattle.nd_slaac.specs.Calls.{is_by_hand_in, keys_in, taken_by, taken_of, Changes, row_taken, GainsRowIfAny}
 use Rattle.nd_slaac.specs.History.{Row, story}
 use Rattle.nd_slaac.specs.State.{is_by_hand, is_known}
 use Rattle.nd_slaac.specs.MayCome.{MayCome}
 use Rattle.nd_slaac.proofs.Stories.{hand_story, known_story}
-use Rattle.nd_slaac.proofs.Counting.{gains_taken, comes_taken, fits_on, keys_on}
+use Rattle.nd_slaac.proofs.Counting.{gains_taken, comes_taken, fits_on, keys_on, room_on}
 
 module _ (now : ℕ) (info : PrefixInfo) (delay retrans key : ℕ) (r : Result Taken Full) (t : Table) (limit : ℕ) (mac : Mac) (inside new : List Address) (limit_is : limit ≡ t.limit) (mac_is : mac ≡ t.mac) (same : inside ≡ t.addresses) (named : key ≡ named_by mac info) (changes : Changes now key (lifetimes_of info) delay retrans r inside new) where
   changed : Changes now (named_by t.mac info) (lifetimes_of info) delay retrans r t.addresses new
@@ -54,6 +54,11 @@ module _ (now : ℕ) (info : PrefixInfo) (delay retrans key : ℕ) (r : Result T
   fits_heard taken value infos fit =
       let both = fits_on t.limit now t.mac info delay retrans r t.addresses new infos taken (valued value) changed fit in
       (both.0, ap (λ n. fits_in n mac (keys_in new) infos) limit_is ∙ (ap (λ m. fits_in t.limit m (keys_in new) infos) mac_is ∙ both.1))
+
+  pub room_heard : is_taken info ≡ true → IsValue → (infos : List PrefixInfo) → IsOk r → with_room t.limit t.mac (keys_in t.addresses) (info ∷ infos) ≡ info ∷ with_room limit mac (keys_in new) infos
+  room_heard taken value infos ok =
+      room_on t.limit now t.mac info delay retrans r t.addresses new infos taken (valued value) changed ok
+      ∙ ap (λ (l : List PrefixInfo). info ∷ l) (sym (ap (λ n. with_room n mac (keys_in new) infos) limit_is ∙ ap (λ m. with_room t.limit m (keys_in new) infos) mac_is))
 
   pub keys_heard : is_taken info ≡ true → IsValue → would_form t.mac (keys_in t.addresses) info ≡ false → keys_in new ≡ keys_in t.addresses
   keys_heard taken value idle = keys_on t.limit now t.mac info delay retrans r t.addresses new taken (valued value) changed idle

@@ -1,6 +1,6 @@
 -- Addresses that are given by hand: static ones, those of DHCPv6, a router's global one, those that a stack chose itself (RFC 4862, section 5.4: each is
 -- tried, "regardless of whether they are obtained through stateless autoconfiguration, DHCPv6, or manual configuration").
-use Rattle.std.specs.Prelude.{◌≡◌, ℕ, ◌==◌, nat_le, Bool, true, ◌&&◌, not, bytes_eq}
+use Rattle.std.specs.Prelude.{◌≡◌, ◌==◌, nat_le, Bool, true, ◌&&◌, not, bytes_eq}
 use Rattle.nd_addr.specs.declared.addr.Addr.{Addr}
 use Rattle.nd_addr.specs.Bytes.{AreBytes}
 use Rattle.nd_addr.specs.Kind.{loopback_address, multicast_prefix, unspecified_address}

@@ -12,11 +12,10 @@ use Rattle.nd_slaac.specs.declared.prefix_option.Full.{Full}
 use Rattle.nd_slaac.specs.History as kinds
 use Rattle.nd_slaac.specs.History.{Row, Lifetimes, story}
 use Rattle.nd_slaac.specs.State.{is_by_hand, is_known}
-use Rattle.nd_slaac.specs.ByHand.{AddressByHand}
 use Rattle.nd_table.specs.Ends.{end_time}
 use Rattle.nd_slaac.specs.TwoHours.{renewed}
 use Rattle.nd_slaac.specs.AddressKept.{Address}
-use Rattle.nd_slaac.specs.TableKept.{key_of, address_in, GainsRow, GainsRows, Stands}
+use Rattle.nd_slaac.specs.TableKept.{key_of, address_in, GainsRow, Stands}
 use Rattle.nd_slaac.specs.PrefixOption.{is_taken, named_by, lifetimes_of}
 
 -- the numbers of the addresses

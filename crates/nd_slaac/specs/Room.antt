@@ -26,6 +26,14 @@ fits_in limit mac keys [] = true
 fits_in limit mac keys (info ∷ infos) =
     if would_form mac keys info then (nat_lt (length keys) limit && fits_in limit mac (named_by mac info ∷ keys) infos) else fits_in limit mac keys infos
 
+-- those of the options that aren't passed over, where one that would form an address too many is
+abbrev pub with_room : ℕ → Mac → List ℕ → List PrefixInfo → List PrefixInfo
+with_room limit mac keys [] = []
+with_room limit mac keys (info ∷ infos) =
+    if would_form mac keys info then
+    (if nat_lt (length keys) limit then info ∷ with_room limit mac (named_by mac info ∷ keys) infos else with_room limit mac keys infos)
+    else info ∷ with_room limit mac keys infos
+
 -- there is room for one address more or not, asked of what happened: of the addresses that the history knows
 pub record HasRoomBy (limit : ℕ) (history : List Row) (room : Bool) : Type 0 where
   pub known : List Address

@@ -39,7 +39,7 @@ impl<A: Allocator> Addresses<A> {
     ghost use Rattle.nd_slaac.specs.State.{is_by_hand, is_known};
     ghost use Rattle.nd_slaac.specs.TableKept.{address_in, Stands};
     ghost use Rattle.nd_slaac.specs.PrefixOption.{named_by};
-    ghost use Rattle.nd_slaac.specs.Room.{fits_in, would_form};
+    ghost use Rattle.nd_slaac.specs.Room.{fits_in, would_form, with_room};
     ghost use Rattle.nd_slaac.specs.Calls.{is_by_hand_in, keys_in, taken_of, row_taken, GainsRowIfAny, TakenBy};
     ghost use Rattle.nd_slaac.specs.MayCome.{MayCome};
 
@@ -66,6 +66,9 @@ impl<A: Allocator> Addresses<A> {
 
         // If it would form no address, the same ones are known.
         ensures keys { would_form self.old.mac (keys_in self.old.addresses) info.now ≡ false → keys_in self.new.addresses ≡ keys_in self.old.addresses }
+
+        // If it isn't refused, it is the first of those for which there is room, and the others are what has room behind it.
+        ensures room { (infos : List PrefixInfo) → IsOk result → with_room self.old.limit self.old.mac (keys_in self.old.addresses) (info.now ∷ infos) ≡ info.now ∷ with_room self.new.limit self.new.mac (keys_in self.new.addresses) infos }
 
         // If the options fit, the first isn't refused, and the others still fit.
         ensures fits { (infos : List PrefixInfo) → fits_in self.old.limit self.old.mac (keys_in self.old.addresses) (info.now ∷ infos) ≡ true → IsOk result × (fits_in self.new.limit self.new.mac (keys_in self.new.addresses) infos ≡ true) }

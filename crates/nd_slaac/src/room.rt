@@ -1,6 +1,6 @@
 //! Room for the addresses that prefix options form (RFC 4862, section 5.5.3). The definitions are in `specs/Room.antt`.
 
-ghost use Rattle.std.specs.Prelude.{◌≡◌, ◌≤◌, ◌&&◌, not, length, List, MatchOption, true, false, is_some};
+ghost use Rattle.std.specs.Prelude.{◌≡◌, ◌≤◌, ◌&&◌, nat_lt, not, length, List, MatchOption, true, false, is_some};
 ghost use Rattle.nd_addr.specs.Number.{number_of};
 ghost use Rattle.nd_decode.specs.Pieces.{options_left};
 ghost use Rattle.nd_slaac.specs.PrefixOption.{is_forming, named_by, prefixes_in};
@@ -34,6 +34,13 @@ impl<A: Allocator> Addresses<A> {
         ensures by_history { (history : List Row) → Stands self.now.addresses history → result ≡ (is_forming info.now && not (is_known (story (named_by self.now.mac info.now) history))) }
     {
         would_form(&self.entries, self.mac, info)
+    }
+
+    /// Returns true if there is room for one address more. An address is known until `turn` has returned its end.
+    pub fn has_room(&self) -> bool
+        ensures value { result ≡ nat_lt (length self.now.addresses) self.now.limit }
+    {
+        self.entries.len() < self.limit
     }
 
     /// Returns true if there is room for each address that the options of a Router Advertisement, taken in their order, would form. If so,

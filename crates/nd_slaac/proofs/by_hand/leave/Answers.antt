@@ -1,7 +1,5 @@
-use Rattle.std.proofs.Common.{◌<◌, List, length, subst}
 use Rattle.nd_addr.specs.Number.{number_of}
 use Rattle.nd_table.proofs.Keyed.{key_is, found_is}
-use Rattle.nd_slaac.specs.AddressKept.{Address}
 use Rattle.nd_slaac.specs.TableKept.{key_of}
 use Rattle.nd_slaac.proofs.by_hand.leave.Goals as goal
 

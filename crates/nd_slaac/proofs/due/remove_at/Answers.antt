@@ -1,4 +1,4 @@
-use Rattle.std.proofs.Common.{◌<◌, length, sym, refl, arith}
+use Rattle.std.proofs.Common.{◌<◌, length, sym, arith}
 use Rattle.nd_addr.specs.Number.{number_of}
 use Rattle.nd_slaac.proofs.Planning.{had_end, had_step, gone_planned}
 use Rattle.nd_slaac.proofs.due.remove_at.Goals as goal

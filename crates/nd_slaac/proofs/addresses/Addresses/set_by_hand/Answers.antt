@@ -1,7 +1,6 @@
 use Rattle.std.proofs.Common.{ℕ, ap, subst}
 use Rattle.nd_addr.specs.declared.addr.Addr.{Addr}
 use Rattle.nd_addr.specs.Number.{number_of}
-use Rattle.nd_slaac.specs.ByHand.{AddressByHand}
 use Rattle.nd_slaac.specs.TableKept.{Table}
 use Rattle.nd_slaac.specs.Calls.{Sets}
 use Rattle.nd_slaac.proofs.Altering.{gains_set}

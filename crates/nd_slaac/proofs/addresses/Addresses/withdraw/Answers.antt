@@ -1,4 +1,4 @@
-use Rattle.std.proofs.Common.{ℕ, ap, subst}
+use Rattle.std.proofs.Common.{subst}
 use Rattle.nd_addr.specs.Number.{number_of}
 use Rattle.nd_slaac.specs.TableKept.{Table}
 use Rattle.nd_slaac.specs.Calls.{Leaves}
