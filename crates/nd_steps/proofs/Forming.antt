@@ -1,8 +1,8 @@
 -- What a prefix option does to the own addresses of a node and to its generator.
-use Rattle.std.proofs.Common.{◌≡◌, ℕ, Bool, true, false, List, ◌∷◌, length, Some, sym, subst, refl, ap, ◌∙◌, cond, eqb, ltb}
+use Rattle.std.proofs.Common.{◌≡◌, ℕ, Bool, true, false, List, [], ◌∷◌, ◌++◌, length, ◌⊎◌, inl, inr, Some, sym, subst, refl, ap, ◌∙◌, cond, eqb, ltb}
 use Rattle.std.specs.Prelude.{IsOk, Result, Ok, Err, ◌&&◌, not}
 use Rattle.std.proofs.lemmas.Bool.{false≢true}
-use Rattle.std.proofs.Math.Bool.{and-true, and-false}
+use Rattle.std.proofs.Math.Bool.{and-true, and-false, and_assoc}
 use Rattle.rand_core.specs.Stream.{Stream}
 use Rattle.nd_addr.specs.declared.mac.Mac.{Mac}
 use Rattle.nd_decode.specs.declared.prefix_info.PrefixInfo.{PrefixInfo}
@@ -16,6 +16,7 @@ use Rattle.nd_slaac.proofs.Stories.{known_by_hand}
 use Rattle.nd_slaac.specs.AddressKept.{Address}
 use Rattle.nd_slaac.specs.TableKept.{Table, Stands}
 use Rattle.nd_slaac.specs.PrefixOption.{is_taken, is_forming, named_by, lifetimes_of}
+use Rattle.nd_slaac.specs.Room.{fits_in, would_form, with_room}
 use Rattle.nd_slaac.specs.Calls.{taken_of, taken_by, row_taken, GainsRowIfAny}
 use Rattle.nd_chronicle.specs.Start.{Start}
 use Rattle.nd_chronicle.specs.Happening.{Chronicle, Address as AddressRow}
@@ -23,7 +24,8 @@ use Rattle.nd_chronicle.specs.Histories.{address_history}
 use Rattle.nd_chronicle.specs.InForce.{retrans_timer}
 use Rattle.nd_chronicle.specs.Generator.{stream_left}
 use Rattle.nd_chronicle.specs.OwnAddress.{story_of}
-use Rattle.nd_chronicle.specs.RouterAdvertisement.{with_delay, delay_for, forming, naming, then_option}
+use Rattle.nd_chronicle.specs.RouterAdvertisement.{with_delay, delay_for, forming, naming, then_option, then_options}
+use Rattle.nd_steps.specs.DestinationCache.{forms_none}
 use Rattle.nd_steps.specs.OwnAddresses.{delay_from, Forms}
 
 -- what becomes of an option: whether it is taken, its address was given by hand, is known, and its valid lifetime is 0
@@ -175,3 +177,24 @@ module _ (start : Start) (now : ℕ) (to_all : Bool) (info : PrefixInfo) (old ne
       taken_as t (is ∙ ap (λ (b : Bool). delay_from (to_all && b) before) forms_is)
       (subst (λ (r : Result Taken Full). GainsRowIfAny (row_taken now old.mac info delay retrans r) old.addresses new.addresses) result_is gains) in
       subst (λ (d : Chronicle). Forms start new after retrans d) (sym (by_taken start now c to_all info (is_taken info) hand known)) forms
+
+-- an option that would form no address, or for whose address there is room, fits, and isn't passed over
+module _ (limit : ℕ) (mac : Mac) (keys : List ℕ) (info : PrefixInfo) where
+  pub one_fits : (would_form mac keys info ≡ false) ⊎ (ltb (length keys) limit ≡ true) → (fits_in limit mac keys (info ∷ []) ≡ true) × (with_room limit mac keys (info ∷ []) ≡ info ∷ [])
+  one_fits (inl idle) = (rw idle refl, rw idle refl)
+  one_fits (inr room) = by (would_form mac keys info) refl
+    where
+      by : (b : Bool) → would_form mac keys info ≡ b → (fits_in limit mac keys (info ∷ []) ≡ true) × (with_room limit mac keys (info ∷ []) ≡ info ∷ [])
+      by true forms = (rw (forms, room) refl, rw (forms, room) refl)
+      by false idle = (rw idle refl, rw idle refl)
+
+-- options behind others
+module _ (start : Start) (now : ℕ) (to_all : Bool) where
+  pub options_behind : (infos more : List PrefixInfo) (c : Chronicle) → then_options start now to_all (infos ++ more) c ≡ then_options start now to_all more (then_options start now to_all infos c)
+  options_behind [] more c = refl
+  options_behind (info ∷ infos) more c = options_behind infos more (then_option start now to_all info c)
+
+pub none_behind : (mac : Mac) (keys : List ℕ) (infos more : List PrefixInfo) → forms_none mac keys (infos ++ more) ≡ (forms_none mac keys infos && forms_none mac keys more)
+none_behind mac keys [] more = refl
+none_behind mac keys (info ∷ infos) more =
+    ap (λ (rest : Bool). not (would_form mac keys info) && rest) (none_behind mac keys infos more) ∙ sym (and_assoc (not (would_form mac keys info)) (forms_none mac keys infos) (forms_none mac keys more))

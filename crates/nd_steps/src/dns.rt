@@ -2,14 +2,11 @@
 
 ghost use Rattle.std.specs.Prelude.{◌≡◌, ◌≤◌, ◌<◌, ℕ, List, true};
 ghost use Rattle.nd_addr.specs.declared.addr.Addr.{Addr};
-ghost use Rattle.nd_addr.specs.Same.{same_addr};
 ghost use Rattle.nd_decode.specs.Pieces.{options_left};
 ghost use Rattle.nd_table.specs.Announcements.{Row, last_moment};
-ghost use Rattle.nd_table.specs.Listing.{fits, then_announced};
+ghost use Rattle.nd_table.specs.Listing.{then_announced};
 ghost use Rattle.nd_table.specs.Moment.{IsMoment};
-ghost use Rattle.nd_dns.specs.DnsKept.{new_names};
-ghost use Rattle.nd_dns.specs.AnnouncedNames.{same_name, names_told};
-ghost use Rattle.nd_dns.specs.AnnouncedServers.{servers_told};
+ghost use Rattle.nd_dns.specs.DnsKept.{new_names, servers_taken, names_taken};
 ghost use Rattle.nd_dns.specs.DnsKept as known;
 
 use nd_addr::Addr;
@@ -17,15 +14,13 @@ use nd_decode::Options;
 use nd_dns::{Dns, NewNames};
 use std::alloc::Allocator;
 
-/// Takes the DNS servers and search names of a Router Advertisement at `now`, in milliseconds; `names` are copies of the names that it adds. There
-/// is room for them (RFC 8106, section 6.1).
+/// Takes the DNS servers and search names of a Router Advertisement at `now`, in milliseconds, but those for which there is no room; `names` are copies
+/// of the names that it adds (RFC 8106, sections 5.3.1 and 6.1).
 pub fn hear_dns<A: Allocator>(dns: &mut Dns<A>, now: u64, options: Options<'_>, names: NewNames<A>)
     requires moment { IsMoment now }
     requires names { names ≡ new_names now (options_left options) dns.old }
-    requires fits_servers { fits same_addr dns.old.server_limit now (servers_told (options_left options)) dns.old.servers ≡ true }
-    requires fits_names { fits same_name dns.old.name_limit now (names_told (options_left options)) dns.old.names ≡ true }
     ensures stands { (servers : List (Row Addr)) (names : List (Row (List ℕ))) → last_moment servers ≤ now → last_moment names ≤ now → known.Stands dns.old servers names
-        → known.Stands dns.new (then_announced now (servers_told (options_left options.entry)) servers) (then_announced now (names_told (options_left options.entry)) names) }
+        → known.Stands dns.new (then_announced now (servers_taken now (options_left options.entry) dns.old) servers) (then_announced now (names_taken now (options_left options.entry) dns.old) names) }
     ensures server_limit { dns.new.server_limit ≡ dns.old.server_limit }
     ensures name_limit { dns.new.name_limit ≡ dns.old.name_limit }
 {

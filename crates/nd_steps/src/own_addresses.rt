@@ -1,7 +1,7 @@
 //! The node's own addresses (RFC 4862, section 5): which advertisements form them, what another node's claim to one does, and which frames are
 //! for them.
 
-ghost use Rattle.std.specs.Prelude.{◌≡◌, ◌+◌, ◌≤◌, vec_len, vec_capacity, ◌↔◌, true, ◌<◌, ◌&&◌, ◌∷◌, List, [], ℕ, false, if◌then◌else◌};
+ghost use Rattle.std.specs.Prelude.{◌≡◌, ◌+◌, ◌++◌, ◌≤◌, not, vec_len, vec_capacity, ◌↔◌, true, ◌<◌, ◌&&◌, ◌∷◌, List, [], ℕ, false, if◌then◌else◌};
 ghost use Rattle.nd_addr.specs.Number.{number_of, addr_at};
 ghost use Rattle.nd_slaac.specs.PrefixOption.{link_local_of, prefixes_in};
 ghost use Rattle.nd_addr.specs.Kind.{all_nodes_address, all_routers_address};
@@ -12,9 +12,9 @@ ghost use Rattle.nd_chronicle.specs.Histories.{address_history};
 ghost use Rattle.nd_chronicle.specs.Start.{Start};
 ghost use Rattle.nd_decode.specs.declared.prefix_info.PrefixInfo.{PrefixInfo};
 ghost use Rattle.nd_decode.specs.Pieces.{options_left};
-ghost use Rattle.nd_slaac.specs.Room.{fits_in, would_form};
+ghost use Rattle.nd_slaac.specs.Room.{with_room};
 ghost use Rattle.nd_slaac.specs.Calls.{keys_in};
-ghost use Rattle.nd_chronicle.specs.RouterAdvertisement.{then_option, then_options};
+ghost use Rattle.nd_chronicle.specs.RouterAdvertisement.{then_options};
 ghost use Rattle.nd_steps.specs.DestinationCache.{forms_none};
 ghost use Rattle.nd_steps.specs.OwnAddresses.{delay_from, Forms, Conflicts};
 ghost use Rattle.nd_nexthop.specs.Memo.{forgotten};
@@ -118,8 +118,8 @@ fn delay<R: Rng>(generator: &mut R, to_all: bool, forms: bool) -> u32
     drawn_from(generator, 0, MAX_RTR_SOLICITATION_DELAY) as u32
 }
 
-/// Takes a prefix option of a Router Advertisement, which may form an address; there is room for it (RFC 4862, section 5.5.3). `now` and `retrans`,
-/// the RetransTimer in force, are in milliseconds. Returns true if it forms one.
+/// Takes a prefix option of a Router Advertisement, which may form an address (RFC 4862, section 5.5.3). One that would form an address for which there is
+/// no room is passed over, and nothing is drawn for it. `now` and `retrans`, the RetransTimer in force, are in milliseconds. Returns true if it forms one.
 fn hear_prefix_option<R: Rng, A: Allocator>(
     addresses: &mut Addresses<A>,
     generator: &mut R,
@@ -129,14 +129,18 @@ fn hear_prefix_option<R: Rng, A: Allocator>(
     retrans: u32,
 ) -> bool
     requires moment { IsMoment now }
-    requires fits { fits_in addresses.old.limit addresses.old.mac (keys_in addresses.old.addresses) (info.now ∷ []) ≡ true }
-    ensures forms { (start : Start) (c : Chronicle) → Forms start addresses.old (R.stream generator.old) retrans c → Forms start addresses.new (R.stream generator.new) retrans (then_option start now to_all info.now c) }
-    ensures fits { (infos : List PrefixInfo) → fits_in addresses.old.limit addresses.old.mac (keys_in addresses.old.addresses) (info.now ∷ infos) ≡ true → fits_in addresses.new.limit addresses.new.mac (keys_in addresses.new.addresses) infos ≡ true }
-    ensures value { result ≡ would_form addresses.old.mac (keys_in addresses.old.addresses) info.now }
+    ensures forms { (start : Start) (c : Chronicle) → Forms start addresses.old (R.stream generator.old) retrans c
+        → Forms start addresses.new (R.stream generator.new) retrans (then_options start now to_all (with_room addresses.old.limit addresses.old.mac (keys_in addresses.old.addresses) (info.now ∷ [])) c) }
+    ensures room { (infos : List PrefixInfo) → with_room addresses.old.limit addresses.old.mac (keys_in addresses.old.addresses) (info.now ∷ infos)
+        ≡ with_room addresses.old.limit addresses.old.mac (keys_in addresses.old.addresses) (info.now ∷ []) ++ with_room addresses.new.limit addresses.new.mac (keys_in addresses.new.addresses) infos }
+    ensures none { forms_none addresses.old.mac (keys_in addresses.old.addresses) (with_room addresses.old.limit addresses.old.mac (keys_in addresses.old.addresses) (info.now ∷ [])) ≡ not result }
     ensures same { result ≡ false → keys_in addresses.new.addresses ≡ keys_in addresses.old.addresses }
     ensures mac { addresses.new.mac ≡ addresses.old.mac }
 {
     let forms = addresses.would_form(info);
+    if forms && !addresses.has_room() {
+        return false;
+    }
     let delay = delay(generator, to_all, forms);
     match addresses.heard_prefix(now, info, delay, retrans) {
         Ok(_) => forms,
@@ -144,8 +148,8 @@ fn hear_prefix_option<R: Rng, A: Allocator>(
     }
 }
 
-/// Takes the prefix options of a Router Advertisement in their order. They may form addresses; there is room for these (RFC 4862, section 5.5.3).
-/// `now` and `retrans`, the RetransTimer in force, are in milliseconds. Returns true if they form none.
+/// Takes the prefix options of a Router Advertisement in their order, but those that would form an address for which there is no room (RFC 4862, section
+/// 5.5.3). `now` and `retrans`, the RetransTimer in force, are in milliseconds. Returns true if they form none.
 #[tactic(auto, using(nd_slaac::proofs::OfType::prefixes_by_first))]
 pub fn hear_prefix_options<R: Rng, A: Allocator>(
     addresses: &mut Addresses<A>,
@@ -156,9 +160,9 @@ pub fn hear_prefix_options<R: Rng, A: Allocator>(
     retrans: u32,
 ) -> bool
     requires moment { IsMoment now }
-    requires fits { fits_in addresses.old.limit addresses.old.mac (keys_in addresses.old.addresses) (prefixes_in (options_left options)) ≡ true }
-    ensures forms { (start : Start) (c : Chronicle) → Forms start addresses.old (R.stream generator.old) retrans c → Forms start addresses.new (R.stream generator.new) retrans (then_options start now to_all (prefixes_in (options_left options.entry)) c) }
-    ensures none { result ≡ forms_none addresses.old.mac (keys_in addresses.old.addresses) (prefixes_in (options_left options.entry)) }
+    ensures forms { (start : Start) (c : Chronicle) → Forms start addresses.old (R.stream generator.old) retrans c
+        → Forms start addresses.new (R.stream generator.new) retrans (then_options start now to_all (with_room addresses.old.limit addresses.old.mac (keys_in addresses.old.addresses) (prefixes_in (options_left options.entry))) c) }
+    ensures none { result ≡ forms_none addresses.old.mac (keys_in addresses.old.addresses) (with_room addresses.old.limit addresses.old.mac (keys_in addresses.old.addresses) (prefixes_in (options_left options.entry))) }
 {
     let mut rest = options;
     let mut none_formed = true;
