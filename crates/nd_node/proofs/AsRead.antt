@@ -1,17 +1,13 @@
 -- What the tables take of a message is the same as its options are read, but for the link-layer addresses.
-use Rattle.std.proofs.Common.{◌≡◌, ℕ, Bool, true, false, List, ◌∷◌, Option, sym, ◌∙◌, ap, subst}
+use Rattle.std.proofs.Common.{◌≡◌, ℕ, Bool, true, false, List, ◌∷◌, Option, sym, ◌∙◌, ap}
 use Rattle.rand_core.specs.Stream.{Stream}
 use Rattle.nd_addr.specs.declared.addr.Addr.{Addr}
-use Rattle.nd_addr.specs.declared.mac.Mac.{Mac}
 use Rattle.nd_addr.specs.Prefix.{PrefixValue}
 use Rattle.nd_addr.specs.Same.{same_addr, same_prefix}
 use Rattle.nd_decode.specs.Option.{Said}
 use Rattle.nd_decode.specs.declared.prefix_info.PrefixInfo.{PrefixInfo}
 use Rattle.nd_decode.specs.declared.router_advertisement.RouterAdvertisement.{RouterAdvertisement}
-use Rattle.nd_table.specs.declared.lasting.Lasting.{Lasting}
-use Rattle.nd_table.specs.Announcements as lifetimes
-use Rattle.nd_table.specs.ListingKept as lists
-use Rattle.nd_table.specs.Listing.{fits, then_announced}
+use Rattle.nd_table.specs.Listing.{fits}
 use Rattle.nd_params.specs.History.{mtu_of}
 use Rattle.nd_params.specs.Params.{redraws}
 use Rattle.nd_params.specs.ParamsKept as parameters
@@ -19,25 +15,26 @@ use Rattle.nd_params.specs.ParamsKept.{Values}
 use Rattle.nd_params.specs.RouterAdvertisement.{first_mtu, valid_mtu_or}
 use Rattle.nd_routers.specs.OnLinkPrefixes as prefixes
 use Rattle.nd_slaac.specs.PrefixOption as addresses
-use Rattle.nd_slaac.specs.TableKept as own
+use Rattle.nd_slaac.specs.Room as roomy
 use Rattle.nd_slaac.specs.Room.{fits_in}
+use Rattle.nd_slaac.proofs.Counting.{all_have_room as addresses_have_room}
+use Rattle.nd_table.proofs.WithRoom.{all_have_room}
 use Rattle.nd_slaac.specs.Calls.{keys_in}
-use Rattle.nd_dns.specs.DnsKept as known
 use Rattle.nd_dns.specs.AnnouncedNames.{same_name, names_told}
 use Rattle.nd_dns.specs.AnnouncedServers.{servers_told}
-use Rattle.nd_chronicle.specs.Start.{Policies, Start}
+use Rattle.nd_chronicle.specs.Start.{Start}
 use Rattle.nd_chronicle.specs.Happening.{Chronicle, Heard}
 use Rattle.nd_chronicle.specs.Histories.{parameter_history}
 use Rattle.nd_chronicle.specs.InForce.{base_reachable_time}
 use Rattle.nd_chronicle.specs.Generator.{stream_left}
 use Rattle.nd_chronicle.specs.RouterAdvertisement.{redrawing, then_options}
 use Rattle.nd_chronicle.specs.Reading.{read_options}
-use Rattle.nd_chronicle.proofs.Reading.{links_as_said, names_as_said, prefixes_as_said, servers_as_said}
+use Rattle.nd_chronicle.proofs.Reading.{links_as_said, mtu_as_said, names_as_said, prefixes_as_said, servers_as_said}
 use Rattle.nd_steps.specs.Parameters.{HearsParameters}
-use Rattle.nd_steps.specs.OwnAddresses.{Forms}
 use Rattle.nd_steps.specs.DestinationCache.{forms_none}
 use Rattle.nd_node.specs.declared.node.Node.{Node}
-use Rattle.nd_node.specs.RouterAdvertisement.{advertised}
+use Rattle.nd_node.specs.Fullness.{HasRoom}
+use Rattle.nd_node.specs.RouterAdvertisement.{advertised, IsTaken}
 
 module _ {R A : Type 0} (node : Node R A) (now : ℕ) (options : List Said) where
   abbrev read : List Said
@@ -102,24 +99,23 @@ hears_as_read old new before after now ra said read same h = record {
       generator_same start c now source destination ra said read same after (redraws (base_reachable_time c) ra.reachable_time) (h.generator start c source destination s e);
 }
 
--- ---- the lists of a table, the addresses and the DNS
+-- ---- where there is room for all, all is taken as it is read
 
-module _ (policies : Policies) (mac : Mac) (options : List Said) where
-  pub none_formed_as_read : (own : Mac) (keys : List ℕ) (none : Bool) → none ≡ forms_none own keys (addresses.prefixes_in options) → none ≡ forms_none own keys (addresses.prefixes_in (read_options policies mac options))
-  none_formed_as_read own keys none e = e ∙ ap (λ (infos : List PrefixInfo). forms_none own keys infos) (sym (prefixes_as_said policies mac options))
-
-  pub links_stand : (now : ℕ) (entries : List (Lasting PrefixValue)) (history : List (lifetimes.Row PrefixValue)) → lists.Stands same_prefix entries (then_announced now (prefixes.prefixes_in options) history)
-      → lists.Stands same_prefix entries (then_announced now (prefixes.prefixes_in (read_options policies mac options)) history)
-  links_stand now entries history s = subst (λ (told : List (PrefixValue × ℕ)). lists.Stands same_prefix entries (then_announced now told history)) (sym (links_as_said policies mac options)) s
-
-  pub forms_as_read : (start : Start) (table : own.Table) (stream : Stream) (retrans now : ℕ) (to_all : Bool) (c : Chronicle) → Forms start table stream retrans (then_options start now to_all (addresses.prefixes_in options) c)
-      → Forms start table stream retrans (then_options start now to_all (addresses.prefixes_in (read_options policies mac options)) c)
-  forms_as_read start table stream retrans now to_all c f =
-      subst (λ (infos : List PrefixInfo). Forms start table stream retrans (then_options start now to_all infos c)) (sym (prefixes_as_said policies mac options)) f
-
-  pub dns_stands : (now : ℕ) (table : known.Table) (servers : List (lifetimes.Row Addr)) (names : List (lifetimes.Row (List ℕ)))
-      → known.Stands table (then_announced now (servers_told options) servers) (then_announced now (names_told options) names)
-      → known.Stands table (then_announced now (servers_told (read_options policies mac options)) servers) (then_announced now (names_told (read_options policies mac options)) names)
-  dns_stands now table servers names s =
-      subst (λ (told : List (Addr × ℕ)). known.Stands table (then_announced now told servers) (then_announced now (names_told (read_options policies mac options)) names)) (sym (servers_as_said policies mac options))
-      (subst (λ (told : List (List ℕ × ℕ)). known.Stands table (then_announced now (servers_told options) servers) (then_announced now told names)) (sym (names_as_said policies mac options)) s)
+pub all_taken : {R A : Type 0} (node : Node R A) (now : ℕ) (source : Addr) (ra : RouterAdvertisement) (said : List Said) (place : Bool) → HasRoom node now source ra said place
+    → IsTaken node now said (read_options node.policies node.mac said)
+all_taken node now source ra said place room =
+    let policies = node.policies in
+    let mac = node.mac in
+    let read = read_options policies mac said in
+    let own = node.addresses.mac in
+    let keys = keys_in node.addresses.addresses in
+    let infos : addresses.prefixes_in read ≡ roomy.with_room node.addresses.limit own keys (addresses.prefixes_in said) =
+    prefixes_as_said policies mac said ∙ sym (addresses_have_room node.addresses.limit own keys (addresses.prefixes_in said) room.addresses) in
+    record {
+      mtu = mtu_as_said policies mac said;
+      prefixes = links_as_said policies mac said ∙ sym (all_have_room same_prefix node.prefixes.limit now (prefixes.prefixes_in said) node.prefixes.entries room.prefixes);
+      forms = λ start to_all c. ap (λ (infos : List PrefixInfo). then_options start now to_all infos c) infos;
+      none = ap (λ (infos : List PrefixInfo). forms_none own keys infos) infos;
+      servers = servers_as_said policies mac said ∙ sym (all_have_room same_addr node.dns.server_limit now (servers_told said) node.dns.servers room.servers);
+      names = names_as_said policies mac said ∙ sym (all_have_room same_name node.dns.name_limit now (names_told said) node.dns.names room.names);
+    }

@@ -1,6 +1,6 @@
 //! Handles a Router Advertisement (RFC 4861, section 6.3.4; RFC 4862, section 5.5.3; RFC 8106, section 6.1).
 
-ghost use Rattle.std.specs.Prelude.{◌≡◌, ◌∷◌, ◌≤◌, ◌<◌, ◌+◌, ◌-◌, if◌then◌else◌, true, Some, IsOk, OnErr, vec_len, vec_capacity, IfOk};
+ghost use Rattle.std.specs.Prelude.{◌≡◌, [], ◌∷◌, List, ◌≤◌, ◌<◌, ◌+◌, ◌-◌, if◌then◌else◌, true, Some, IsOk, OnErr, vec_len, vec_capacity, IfOk};
 ghost use Rattle.std.specs.Option.{option_map};
 ghost use Rattle.nd_decode.specs.Pieces.{options_left};
 ghost use Rattle.nd_decode.specs.declared.body.Body.TheVariants as bodies;
@@ -14,10 +14,13 @@ ghost use Rattle.nd_chronicle.specs.Start.{Start};
 ghost use Rattle.nd_steps.specs.GivingWay.{HasPlaceOrWay};
 ghost use Rattle.nd_steps.specs.NeighbourCache.{said_by, told_for};
 ghost use Rattle.nd_packet.specs.Waiting.{max_waiting};
-ghost use Rattle.nd_node.specs.RouterAdvertisement.{TakesAdvertisement};
+ghost use Rattle.nd_node.specs.RouterAdvertisement.{IsTaken, TakesAdvertisement};
 ghost use Rattle.nd_node.specs.Hearing.{AddsMessage, options_read};
 ghost use Rattle.nd_node.specs.Memory.{AddsNoName};
-ghost use Rattle.nd_node.specs.Fullness.{HasRoom};
+ghost use Rattle.nd_table.specs.Listing.{fits};
+ghost use Rattle.nd_routers.specs.Routers.{same};
+ghost use Rattle.nd_addr.specs.Number.{number_of};
+ghost use Rattle.nd_decode.specs.Option.{Said};
 ghost use Rattle.nd_node.specs.Answer.{answer_of};
 
 use crate::answer::Answer;
@@ -41,8 +44,8 @@ const BESIDE_FRAMES: usize = 2;
 impl<R: Rng + Drop, A: Allocator + Clone> Node<R, A> {
     ghost use Rattle.nd_node.specs.NodeKept.{Stands, next_of};
 
-    /// Applies a Router Advertisement for which there is room in all tables, and advances the clock. The caller passes its news of the sender and the
-    /// search names that it adds. It takes no memory.
+    /// Applies what has room of a Router Advertisement in each table, and advances the clock. There is room for its sender among the neighbours and the
+    /// routers. The caller passes its news of the sender and the search names that it adds. It takes no memory.
     fn take_router_advertisement(
         &mut self,
         now: u64,
@@ -54,12 +57,13 @@ impl<R: Rng + Drop, A: Allocator + Clone> Node<R, A> {
     )
         requires moment { IsMoment now }
         requires settled { now < next_of self.old }
-        requires room { HasRoom self.old now heard.now.source ra.now (options_left heard.now.message.options) true }
+        requires listed { fits same self.old.routers.limit now ((number_of heard.now.source.0, ra.now.router_lifetime) ∷ []) self.old.routers.entries ≡ true }
         requires place { HasPlaceOrWay self.old.policies.speakers self.old.neighbours.limit now news self.old.neighbours.entries }
-        requires news { (times : Times) → option_map (said_by times) news ≡ said_of_neighbour heard.now.source (bodies.Ra ra.now) (options_read self.old heard.now.message.options) times.reachable }
         requires names { names ≡ new_names now (options_left heard.now.message.options) self.old.dns }
         requires space { vec_len outs.old + (if self.old.policies.speakers then max_waiting + 1 else 0) + told_for news self.old.neighbours.entries + 1 ≤ vec_capacity outs.old }
-        ensures { TakesAdvertisement R.stream self.old self.new outs.old.items outs.new.items now heard.now.source heard.now.destination ra.now (options_read self.old heard.now.message.options) }
+        ensures { (taken : List Said) → IsTaken self.old now (options_left heard.now.message.options) taken
+            → ((times : Times) → option_map (said_by times) news ≡ said_of_neighbour heard.now.source (bodies.Ra ra.now) taken times.reachable)
+            → TakesAdvertisement R.stream self.old self.new outs.old.items outs.new.items now heard.now.source heard.now.destination ra.now taken }
     {
         nd_neighbour::laws::one_is_pushed_out();
         nd_neighbour::laws::an_end_ends_once();

@@ -2,7 +2,7 @@
 use Rattle.std.proofs.Common.{◌≡◌, ℕ, ◌+◌, ◌*◌, ◌/◌, ◌<◌, ◌≤◌, Bool, true, false, cond, eqb, ltb, List, [], ◌∷◌, ◌++◌, length, Option, Some, None, refl, sym, ◌∙◌, ap, arith, suc, ◌⊎◌, inl, inr}
 use Rattle.std.specs.Prelude.{is_some, ◌&&◌, ◌||◌, not, IsOk, IfSome, Result, Ok, Err}
 use Rattle.std.proofs.lemmas.Bool.Decides.{nat_tests}
-use Rattle.std.proofs.lemmas.Bool.{true≢false, cond-true, cond-false, cases_Bool}
+use Rattle.std.proofs.lemmas.Bool.{true≢false, cond-true, cond-false, cases_Bool, and_parts}
 use Rattle.std.proofs.Math.Bool.{or-false}
 use Rattle.std.proofs.lemmas.List.{length-append}
 use Rattle.std.proofs.lemmas.List.Folds.{list_any-append}
@@ -170,6 +170,20 @@ fits_on limit now mac info delay retrans (Err full) old new infos taken is chang
     let room : ltb (length (keys_in old)) limit ≡ false = ap (λ n. ltb n limit) (keys-length old) ∙ parts.2 in
     let none : false ≡ true = rw (taken, nz, free, room) at h in
     absurd (true≢false (sym none))
+
+-- where they fit there is room for all of them
+pub all_have_room : (limit : ℕ) (mac : Mac) (keys : List ℕ) (infos : List PrefixInfo) → fits_in limit mac keys infos ≡ true → with_room limit mac keys infos ≡ infos
+all_have_room limit mac keys [] h = refl
+all_have_room limit mac keys (info ∷ infos) h = elim (cases_Bool (would_form mac keys info)) [
+  | inl forms ↦
+      let both : (ltb (length keys) limit && fits_in limit mac (named_by mac info ∷ keys) infos) ≡ true = rw forms at h in
+      let parts = and_parts (ltb (length keys) limit) (fits_in limit mac (named_by mac info ∷ keys) infos) both in
+      let rest : with_room limit mac (named_by mac info ∷ keys) infos ≡ infos = all_have_room limit mac (named_by mac info ∷ keys) infos parts.1 in
+      rw (forms, parts.0, rest) refl
+  | inr idle ↦
+      let fit : fits_in limit mac keys infos ≡ true = rw idle at h in
+      idle_first limit mac keys info infos idle ∙ ap (λ (l : List PrefixInfo). info ∷ l) (all_have_room limit mac keys infos fit)
+]
 
 -- an option that isn't refused is the first of those that have room, and the others are what has room behind it
 pub room_on : (limit now : ℕ) (mac : Mac) (info : PrefixInfo) (delay retrans : ℕ) (r : Result Taken Full) (old new : List Address) (infos : List PrefixInfo) → is_taken info ≡ true → r ≡ taken_by limit (is_by_hand_in (address_in (named_by mac info) old)) (is_some (address_in (named_by mac info) old)) info.valid_lifetime (length old) → Changes now (named_by mac info) (lifetimes_of info) delay retrans r old new → IsOk r → with_room limit mac (keys_in old) (info ∷ infos) ≡ info ∷ with_room limit mac (keys_in new) infos

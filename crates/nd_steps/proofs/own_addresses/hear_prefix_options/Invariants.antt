@@ -17,9 +17,9 @@ abbrev pub invariant-loop-info : goal.invariant-loop-info
 invariant-loop-info g l =
     ((start : Start) (c : Chronicle) → Forms start l.fn.addresses (g.R.Rng.stream l.fn.generator) l.retrans c → (mid : Chronicle) × Forms start l.addresses (g.R.Rng.stream l.generator) l.retrans mid
     × (then_options start l.now l.to_all (with_room l.fn.addresses.limit l.fn.addresses.mac (keys_in l.fn.addresses.addresses) (prefixes_in (options_left l.options))) c
-        ≡ then_options start l.now l.to_all (with_room l.addresses.limit l.addresses.mac (keys_in l.addresses.addresses) (prefixes_in (options_left l.rest))) mid)) ×
+    ≡ then_options start l.now l.to_all (with_room l.addresses.limit l.addresses.mac (keys_in l.addresses.addresses) (prefixes_in (options_left l.rest))) mid)) ×
     ((l.none_formed && forms_none l.addresses.mac (keys_in l.addresses.addresses) (with_room l.addresses.limit l.addresses.mac (keys_in l.addresses.addresses) (prefixes_in (options_left l.rest))))
-        ≡ forms_none l.fn.addresses.mac (keys_in l.fn.addresses.addresses) (with_room l.fn.addresses.limit l.fn.addresses.mac (keys_in l.fn.addresses.addresses) (prefixes_in (options_left l.options))))
+    ≡ forms_none l.fn.addresses.mac (keys_in l.fn.addresses.addresses) (with_room l.fn.addresses.limit l.fn.addresses.mac (keys_in l.fn.addresses.addresses) (prefixes_in (options_left l.options))))
 
 abbrev pub decreases-loop-info : goal.decreases-loop-info
 decreases-loop-info g l = length (options_left l.rest)

@@ -8,6 +8,8 @@ use Rattle.nd_chronicle.specs.Happening.{Limit, Passed}
 use Rattle.nd_chronicle.specs.LinkLayerAddress.{first_slla}
 use Rattle.nd_chronicle.specs.Full.{AdvertisementFills}
 use Rattle.nd_node.specs.RouterAdvertisement.{advertised}
+use Rattle.nd_decode.specs.Pieces.{options_left}
+use Rattle.nd_node.proofs.AsRead.{all_taken}
 use Rattle.nd_node.proofs.Memory.{told_of_sender}
 use Rattle.nd_node.proofs.TakenOrRefused.{sender_placed, refuses, takes}
 use Rattle.nd_node.proofs.Refusals.{router_advertisement_left}
@@ -27,9 +29,6 @@ returns-in-Some-clause-adds g c =
 pub take_router_advertisement-requires-clause-place : goal.take_router_advertisement-requires-clause-place
 take_router_advertisement-requires-clause-place g c = (rw c.speakers-speakers.ensures at c.has_place-place.ensures.room) (c.first_full.ensures.room c.in_default.is).neighbours
 
-pub take_router_advertisement-requires-clause-news : goal.take_router_advertisement-requires-clause-news
-take_router_advertisement-requires-clause-news g c = λ times. rw (c.own_mac.ensures, c.requires.body) at (c.news_of-news.ensures times)
-
 pub returns-clause-adds : goal.returns-clause-adds
 returns-clause-adds g c =
     let stream = g.R.Rng.stream in
@@ -38,7 +37,9 @@ returns-clause-adds g c =
     (λ start c' s le. subst (λ (limit : Option Limit). AdvertisementFills start c' c.args.now c.args.heard.now.source c.args.ra.now (advertised c.args.ra.now options) limit) (ap (option_map limit_of) c.in_default.is)
     (c.first_full.ensures.fills start c' s le (sender_placed stream c.args.now c.args.heard.now.source c.args.heard.now.destination c.args.ra.now options c.args.self.now c.news_of-news.result c.has_place-place.result (λ times. rw (c.own_mac.ensures, c.requires.body) at (c.news_of-news.ensures times)) (rw c.speakers-speakers.ensures at c.has_place-place.ensures.placed) start c' s)))
     c.in_ok-reserve.ensures.items (rw c.requires.body at c.push_heard.ensures.items)
-    c.take_router_advertisement.ensures
+    (c.take_router_advertisement.ensures options
+    (all_taken c.args.self.now c.args.now c.args.heard.now.source c.args.ra.now (options_left c.args.heard.now.message.options) c.has_place-place.result (c.first_full.ensures.room c.in_default.is))
+    (λ times. rw (c.own_mac.ensures, c.requires.body) at (c.news_of-news.ensures times)))
 
 pub returns-in_err-reserve-clause-quiet : goal.returns-in_err-reserve-clause-quiet
 returns-in_err-reserve-clause-quiet g c = λ adds.
