@@ -1,5 +1,6 @@
 pub mod Places
 pub mod Reading
+pub mod Parts
 pub mod Hops
 pub mod Dues
 pub mod Events

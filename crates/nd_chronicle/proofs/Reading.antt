@@ -1,5 +1,5 @@
 -- What the policies leave as it is.
-use Rattle.std.proofs.Common.{◌≡◌, ℕ, List, [], ◌∷◌, Option, None, refl, sym, ◌∙◌, ap, inl, inr}
+use Rattle.std.proofs.Common.{◌≡◌, ℕ, Bool, true, false, List, [], ◌∷◌, Option, None, refl, sym, ◌∙◌, ap, inl, inr}
 use Rattle.std.specs.Prelude.{◌++◌}
 use Rattle.std.specs.Option.{option_to_list}
 use Rattle.std.proofs.lemmas.Bool.{cases_Bool}
@@ -17,6 +17,8 @@ use Rattle.nd_slaac.specs.PrefixOption as addresses
 use Rattle.nd_dns.specs.AnnouncedServers.{servers_of, servers_told}
 use Rattle.nd_dns.specs.AnnouncedNames.{names_of, names_told}
 use Rattle.nd_chronicle.specs.Start.{Policies, no_policies}
+use Rattle.nd_chronicle.specs.LinkLayerAddress.{first_slla, first_tlla}
+use Rattle.nd_chronicle.specs.Parts.{as_placed}
 use Rattle.nd_chronicle.specs.Reading.{is_passed_over, own_address, read_body, read_message, read_options, without}
 
 -- ---- without a policy a message is read as it is
@@ -65,6 +67,22 @@ module _ {A : Type 0} (f : List Said → A) (keeps : (option : Said) (a b : List
   by_others own (dnssl lifetime names ∷ options) = keeps (dnssl lifetime names) _ _ (by_others own options)
   by_others own (other kind rest ∷ options) = keeps (other kind rest) _ _ (by_others own options)
 
+  -- the same where all link-layer addresses are passed over
+  by_unplaced : (options : List Said) → f (as_placed false options) ≡ f options
+  by_unplaced [] = refl
+  by_unplaced (slla mac ∷ options) = by_unplaced options ∙ sym (no_slla mac options)
+  by_unplaced (tlla mac ∷ options) = by_unplaced options ∙ sym (no_tlla mac options)
+  by_unplaced (prefix p ∷ options) = keeps (prefix p) _ _ (by_unplaced options)
+  by_unplaced (redirected packet ∷ options) = keeps (redirected packet) _ _ (by_unplaced options)
+  by_unplaced (mtu n ∷ options) = keeps (mtu n) _ _ (by_unplaced options)
+  by_unplaced (rdnss lifetime servers ∷ options) = keeps (rdnss lifetime servers) _ _ (by_unplaced options)
+  by_unplaced (dnssl lifetime names ∷ options) = keeps (dnssl lifetime names) _ _ (by_unplaced options)
+  by_unplaced (other kind rest ∷ options) = keeps (other kind rest) _ _ (by_unplaced options)
+
+  as_read : (place : Bool) (options : List Said) → f (as_placed place options) ≡ f options
+  as_read true options = refl
+  as_read false options = by_unplaced options
+
   as_said : (policies : Policies) (mac : Mac) (options : List Said) → f (read_options policies mac options) ≡ f options
   as_said policies mac options = by_others (own_address policies mac) options
 
@@ -81,9 +99,16 @@ mtu_kept (other _ _) a b e = e
 pub mtu_as_said : (policies : Policies) (mac : Mac) (options : List Said) → first_mtu (read_options policies mac options) ≡ first_mtu options
 mtu_as_said = as_said first_mtu mtu_kept (λ mac options. refl) (λ mac options. refl)
 
+pub mtu_as_placed : (place : Bool) (options : List Said) → first_mtu (as_placed place options) ≡ first_mtu options
+mtu_as_placed = as_read first_mtu mtu_kept (λ mac options. refl) (λ mac options. refl)
+
 pub links_as_said : (policies : Policies) (mac : Mac) (options : List Said) → prefixes.prefixes_in (read_options policies mac options) ≡ prefixes.prefixes_in options
 links_as_said =
     as_said prefixes.prefixes_in (λ option a b e. ap (λ (more : List (PrefixValue × ℕ)). option_to_list (prefixes.on_link_of option) ++ more) e) (λ mac options. refl) (λ mac options. refl)
+
+pub links_as_placed : (place : Bool) (options : List Said) → prefixes.prefixes_in (as_placed place options) ≡ prefixes.prefixes_in options
+links_as_placed =
+    as_read prefixes.prefixes_in (λ option a b e. ap (λ (more : List (PrefixValue × ℕ)). option_to_list (prefixes.on_link_of option) ++ more) e) (λ mac options. refl) (λ mac options. refl)
 
 prefixes_kept : (option : Said) (a b : List Said) → addresses.prefixes_in a ≡ addresses.prefixes_in b → addresses.prefixes_in (option ∷ a) ≡ addresses.prefixes_in (option ∷ b)
 prefixes_kept (slla _) a b e = e
@@ -98,8 +123,40 @@ prefixes_kept (other _ _) a b e = e
 pub prefixes_as_said : (policies : Policies) (mac : Mac) (options : List Said) → addresses.prefixes_in (read_options policies mac options) ≡ addresses.prefixes_in options
 prefixes_as_said = as_said addresses.prefixes_in prefixes_kept (λ mac options. refl) (λ mac options. refl)
 
+pub prefixes_as_placed : (place : Bool) (options : List Said) → addresses.prefixes_in (as_placed place options) ≡ addresses.prefixes_in options
+prefixes_as_placed = as_read addresses.prefixes_in prefixes_kept (λ mac options. refl) (λ mac options. refl)
+
 pub servers_as_said : (policies : Policies) (mac : Mac) (options : List Said) → servers_told (read_options policies mac options) ≡ servers_told options
 servers_as_said = as_said servers_told (λ option a b e. ap (λ (more : List (Addr × ℕ)). servers_of option ++ more) e) (λ mac options. refl) (λ mac options. refl)
 
+pub servers_as_placed : (place : Bool) (options : List Said) → servers_told (as_placed place options) ≡ servers_told options
+servers_as_placed = as_read servers_told (λ option a b e. ap (λ (more : List (Addr × ℕ)). servers_of option ++ more) e) (λ mac options. refl) (λ mac options. refl)
+
 pub names_as_said : (policies : Policies) (mac : Mac) (options : List Said) → names_told (read_options policies mac options) ≡ names_told options
 names_as_said = as_said names_told (λ option a b e. ap (λ (more : List (List ℕ × ℕ)). names_of option ++ more) e) (λ mac options. refl) (λ mac options. refl)
+
+pub names_as_placed : (place : Bool) (options : List Said) → names_told (as_placed place options) ≡ names_told options
+names_as_placed = as_read names_told (λ option a b e. ap (λ (more : List (List ℕ × ℕ)). names_of option ++ more) e) (λ mac options. refl) (λ mac options. refl)
+
+-- then no link-layer address is given
+pub no_slla_placed : (options : List Said) → first_slla (as_placed false options) ≡ None
+no_slla_placed [] = refl
+no_slla_placed (slla mac ∷ options) = no_slla_placed options
+no_slla_placed (tlla mac ∷ options) = no_slla_placed options
+no_slla_placed (prefix p ∷ options) = no_slla_placed options
+no_slla_placed (redirected packet ∷ options) = no_slla_placed options
+no_slla_placed (mtu n ∷ options) = no_slla_placed options
+no_slla_placed (rdnss lifetime servers ∷ options) = no_slla_placed options
+no_slla_placed (dnssl lifetime names ∷ options) = no_slla_placed options
+no_slla_placed (other kind rest ∷ options) = no_slla_placed options
+
+pub no_tlla_placed : (options : List Said) → first_tlla (as_placed false options) ≡ None
+no_tlla_placed [] = refl
+no_tlla_placed (slla mac ∷ options) = no_tlla_placed options
+no_tlla_placed (tlla mac ∷ options) = no_tlla_placed options
+no_tlla_placed (prefix p ∷ options) = no_tlla_placed options
+no_tlla_placed (redirected packet ∷ options) = no_tlla_placed options
+no_tlla_placed (mtu n ∷ options) = no_tlla_placed options
+no_tlla_placed (rdnss lifetime servers ∷ options) = no_tlla_placed options
+no_tlla_placed (dnssl lifetime names ∷ options) = no_tlla_placed options
+no_tlla_placed (other kind rest ∷ options) = no_tlla_placed options

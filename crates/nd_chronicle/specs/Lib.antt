@@ -16,6 +16,7 @@ pub mod ByHand
 pub mod NeighborSolicitation
 pub mod NeighborAdvertisement
 pub mod Full
+pub mod Parts
 pub mod Advertising
 pub mod Forwarding
 pub mod Resolve
