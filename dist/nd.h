@@ -582,9 +582,11 @@ enum nd_kind {
     ND_OUT_LOST = 10,         /* a packet is not sent; `code`: enum nd_loss; the bytes begin with
                                  its IPv6 header. ICMPv6 errors are yours (RFC 4443, 3.1 and 3.3) */
     ND_OUT_REFUSED = 11,      /* an event was refused; `code`: enum nd_refusal */
-    ND_OUT_RESOLVED = 13      /* the link-layer address of neighbour `address` is known, for which
+    ND_OUT_RESOLVED = 13,     /* the link-layer address of neighbour `address` is known, for which
                                  nd_resolve returned ND_WAITING (RFC 4861, 7.2.2); the bytes are
                                  that address, 6 bytes. It follows what nd_send had left waiting */
+    ND_OUT_IGNORED = 14       /* parts of a message were passed over, for which the table `limit`
+                                 has no room. No node reports it yet */
 };
 
 enum nd_loss {
@@ -620,7 +622,7 @@ typedef struct nd_out {
     size_t length;    /* of its bytes: FRAME, UP, LOST and RESOLVED have some, the others none */
     uint32_t kind;    /* enum nd_kind */
     uint32_t code;    /* as the kind says; else 0 */
-    uint32_t limit;   /* enum nd_limit, of ND_REFUSAL_FULL; else 0 */
+    uint32_t limit;   /* enum nd_limit, of ND_REFUSAL_FULL and ND_OUT_IGNORED; else 0 */
     uint32_t reserved;
     nd_addr address;  /* as the kind or the refusal says; else :: */
 } nd_out;
