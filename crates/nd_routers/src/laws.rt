@@ -1,13 +1,12 @@
 //! Laws of the definitions, each the contract of a function that does nothing.
 
-ghost use Rattle.std.specs.Prelude.{◌≡◌, ℕ, List, ◌∷◌, Option, None};
+ghost use Rattle.std.specs.Prelude.{◌≡◌, ℕ, List, Option};
 ghost use Rattle.nd_table.specs.declared.lasting.Lasting.{Lasting};
 ghost use Rattle.nd_table.specs.Announcements.{Row};
-ghost use Rattle.nd_table.specs.Listing.{Lists, end_in};
+ghost use Rattle.nd_table.specs.Listing.{Lists};
 ghost use Rattle.nd_addr.specs.Prefix.{PrefixValue};
 ghost use Rattle.nd_addr.specs.Same.{same_prefix};
-ghost use Rattle.nd_addr.specs.declared.preference.Preference.{Preference};
-ghost use Rattle.nd_routers.specs.History.{RouterRow, Heard, LeftList};
+ghost use Rattle.nd_routers.specs.History.{RouterRow};
 ghost use Rattle.nd_routers.specs.Routers.{same};
 ghost use Rattle.nd_routers.specs.RoutersKept.{Table, Stands};
 ghost use Rattle.nd_routers.specs.RouterFailures.{Failures};
@@ -21,10 +20,4 @@ pub fn one_answer()
     ensures table { (history : List RouterRow) (a b : Table) → Stands a history → Stands b history → (a.entries ≡ b.entries) × (a.preferences ≡ b.preferences) × (a.failed ≡ b.failed) }
     ensures failures { (history : List RouterRow) (a b : List ℕ) → Failures history a → Failures history b → a ≡ b }
     ensures due { (history : List RouterRow) (moment : ℕ) (a b : Option ℕ) → FirstDue history moment a → FirstDue history moment b → a ≡ b }
-{}
-
-/// A router that isn't listed leaves no trace where it announces itself and is left out of the list at once.
-pub fn the_unlisted_leave_no_trace()
-    ensures { (table : Table) (history : List RouterRow) (at key lifetime : ℕ) (preference : Preference) → end_in same key table.entries ≡ None → Stands table history
-        → Stands table (LeftList at key ∷ Heard at key lifetime preference ∷ history) }
 {}

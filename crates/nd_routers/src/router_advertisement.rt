@@ -31,7 +31,7 @@ pub enum Change {
 }
 
 impl<A: Allocator> Routers<A> {
-    ghost use Rattle.nd_routers.specs.History.{RouterRow, Heard, announcements};
+    ghost use Rattle.nd_routers.specs.History.{RouterRow, Heard, LeftList, announcements};
     ghost use Rattle.nd_routers.specs.Routers.{same};
     ghost use Rattle.nd_routers.specs.RoutersKept.{Stands, GainsRow, IsSettled};
     ghost use Rattle.nd_routers.specs.RouterAdvertisement.{change_of};
@@ -79,6 +79,19 @@ impl<A: Allocator> Routers<A> {
             return Err(TableRefusal::Full(Limit::Routers));
         }
         Ok(self.take_ra(now, source, lifetime, preference))
+    }
+
+    /// Leaves a router out that announces itself at `now`, in milliseconds, and for which there is no room: the list is what it would be if the router
+    /// had left it at once (RFC 4861, section 5.3, leaves open how many routers a host keeps). Nothing changes.
+    pub fn leave_out(&self, now: u64, source: Addr, lifetime: u16, preference: Preference)
+        requires settled { IsSettled self.now.entries now }
+        requires full { fits same self.now.limit now ((number_of source.0, lifetime) ∷ []) self.now.entries ≡ false }
+
+        ensures stands { (history : List RouterRow) → Stands self.now history → Stands self.now (LeftList now (number_of source.0) ∷ Heard now (number_of source.0) lifetime preference ∷ history) }
+        ensures lasting { (lifetime == 0) ≡ false }
+    {
+        // It has no more entries than its limit.
+        let _len = self.len();
     }
 
     /// Does what `heard_ra` does, for a router that fits. It takes no memory.
