@@ -43,11 +43,11 @@ draws_in draws seed = if draws == 0 then Seed seed else Word seed
 
 -- a sum of enum nd_policy
 abbrev pub are_policies : ℕ → Bool
-are_policies bits = bit_and bits (2 ^ 32 - 1 - 2 - 4 - 8 - 16) == 0
+are_policies bits = bit_and bits (2 ^ 32 - 1 - 1 - 2 - 4 - 8 - 16) == 0
 
 -- the policies whose bits are set
 abbrev pub policies_in : ℕ → Policies
-policies_in bits = record { speakers = is_set bits 2; timers = is_set bits 4; own = is_set bits 8; unicast = is_set bits 16 }
+policies_in bits = record { parts = is_set bits 1; speakers = is_set bits 2; timers = is_set bits 4; own = is_set bits 8; unicast = is_set bits 16 }
 
 -- the role of 0 or 1
 abbrev pub role_in : ℕ → Role

@@ -22,6 +22,9 @@ pub const DRAWS_SEED: u8 = 0;
 /// Each random word is `seed`.
 pub const DRAWS_WORD: u8 = 1;
 
+/// A message is taken in part where a table has no room for all of it.
+pub const POLICY_PARTS: u32 = 1;
+
 /// A neighbour that is only asked for gives way to one that speaks.
 pub const POLICY_SPEAKERS: u32 = 2;
 
@@ -33,6 +36,9 @@ pub const POLICY_SELF: u32 = 8;
 
 /// A router sends on only what came to its own address.
 pub const POLICY_UNICAST: u32 = 16;
+
+/// All policies, for a link that isn't trusted.
+pub const POLICIES_ROBUST: u32 = 31;
 
 // What a node reports: `enum nd_kind`.
 pub const OUT_FRAME: u32 = 1;

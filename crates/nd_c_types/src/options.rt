@@ -8,8 +8,8 @@ ghost use Rattle.nd_c_types.specs.Options.{are_draws, are_policies, draws_in, is
 
 use crate::bytes::{byte_at, u32_at, u64_at};
 use crate::header::{
-    DRAWS_SEED, DRAWS_WORD, MOMENT_LIMIT, POLICY_SELF, POLICY_SPEAKERS, POLICY_TIMERS,
-    POLICY_UNICAST,
+    DRAWS_SEED, DRAWS_WORD, MOMENT_LIMIT, POLICY_PARTS, POLICY_SELF, POLICY_SPEAKERS,
+    POLICY_TIMERS, POLICY_UNICAST,
 };
 use crate::limits::Limits;
 use crate::role::role_of;
@@ -177,7 +177,7 @@ fn are_draws(draws: u8, seed: u64) -> bool
 fn are_policies(bits: u32) -> bool
     ensures { result ≡ are_policies bits }
 {
-    bits & !(POLICY_SPEAKERS | POLICY_TIMERS | POLICY_SELF | POLICY_UNICAST) == 0
+    bits & !(POLICY_PARTS | POLICY_SPEAKERS | POLICY_TIMERS | POLICY_SELF | POLICY_UNICAST) == 0
 }
 
 /// Returns the policies whose bits are set.
@@ -185,10 +185,15 @@ fn policies_of(bits: u32) -> Policies
     ensures { result ≡ policies_in bits }
 {
     let none = Policies::none();
-    let speakers = if bits & POLICY_SPEAKERS == 0 {
+    let parts = if bits & POLICY_PARTS == 0 {
         none
     } else {
-        none.with_speakers()
+        none.with_parts()
+    };
+    let speakers = if bits & POLICY_SPEAKERS == 0 {
+        parts
+    } else {
+        parts.with_speakers()
     };
     let timers = if bits & POLICY_TIMERS == 0 {
         speakers

@@ -7,13 +7,13 @@ use Rattle.nd_neighbour.specs.Sending.{Sending, Sends, Queues}
 use Rattle.std.specs.List.{AllByRecursion}
 use Rattle.nd_chronicle.specs.Start.{Start}
 use Rattle.nd_chronicle.specs.Happening.{Chronicle, Forgotten, Happening, Loss, Lost, Passed, Refused, Refusal}
-use Rattle.nd_chronicle.specs.Event.{Event, EventAdds, MessageAdds, clearing}
+use Rattle.nd_chronicle.specs.Event.{Event, EventAdds, InPart, MessageAdds, clearing}
 use Rattle.nd_chronicle.specs.Packet.{Goes, losing, then_packet}
 use Rattle.nd_chronicle.specs.Refused.{GrowsUnrefused, is_refusal}
 use Rattle.nd_chronicle.specs.Happening as rows
 use Rattle.nd_chronicle.specs.Answer as answers
 use Rattle.nd_chronicle.specs.Answer.{Done, answer_after, answer_by, answer_to_loss, is_packet}
-use Rattle.nd_chronicle.proofs.Keeping.{is_plain, message_keeps}
+use Rattle.nd_chronicle.proofs.Keeping.{in_part_keeps, is_plain, message_keeps}
 use Rattle.nd_chronicle.proofs.Refusals.{refused_or_not}
 
 loss_done : (why : Loss) → answer_to_loss why false ≡ Done
@@ -31,6 +31,13 @@ pub message_done : (start : Start) (now : ℕ) (source destination : Addr) (mess
 message_done start now source destination message c d before adds =
     message_keeps start now (λ e. answer_after e false ≡ Done) (λ what e is k. plain_done what is) (λ key delay lifetimes e k. refl) (λ key lifetimes e k. refl)
     (λ from to other e none k. refl) (λ from to target other e targets k. refl) source destination message message.body refl c d adds before
+
+-- and one that was taken in part
+pub in_part_done : (start : Start) (now : ℕ) (source destination : Addr) (message : Parts) (c d : Chronicle) → answer_after c false ≡ Done
+    → InPart start now source destination message c d → answer_after d false ≡ Done
+in_part_done start now source destination message c d before adds =
+    in_part_keeps start now (λ e. answer_after e false ≡ Done) (λ what e is k. plain_done what is) (λ key delay lifetimes e k. refl) (λ key lifetimes e k. refl)
+    (λ from to other e none k. refl) (λ from to target other e targets k. refl) source destination message c d adds before
 
 packet_done : (start : Start) (at key retrans : ℕ) (packet : List ℕ) (s : Sending) (c : Chronicle) (sends : Bool) → answer_after (then_packet start at key retrans packet s c) sends ≡ Done
 packet_done start at key retrans packet (Sends mac frame) c sends = refl

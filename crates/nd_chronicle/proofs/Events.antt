@@ -26,10 +26,10 @@ use Rattle.nd_slaac.specs.Shown as addresses
 use Rattle.nd_slaac.specs.PrefixOption.{prefixes_in}
 use Rattle.nd_slaac.specs.History.{Lifetimes}
 use Rattle.nd_slaac.specs.State.{is_known}
-use Rattle.nd_slaac.proofs.Unique.{one_fit, one_room}
+use Rattle.nd_slaac.proofs.Unique.{one_fit, one_room, one_table}
 use Rattle.nd_dns.specs.AnnouncedNames.{same_name}
 use Rattle.nd_chronicle.specs.Start.{Start, link_local_key}
-use Rattle.nd_chronicle.specs.Happening.{Chronicle, Heard, ClearedRedirects, RedirectMade, Sent, Shown, Limit, Refusal, Full, Passed, TooLate, last_moment}
+use Rattle.nd_chronicle.specs.Happening.{Chronicle, Heard, ClearedRedirects, RedirectMade, Sent, Shown, Limit, Neighbours, Refusal, Full, Passed, TooLate, last_moment}
 use Rattle.nd_chronicle.specs.Histories.{neighbour_history, prefix_history, address_history, server_history, name_history, route_history, router_history}
 use Rattle.nd_chronicle.specs.Message.{said, HasWay, PlaceFor, RoomFor, WayFor, failing_for, makes_way, releasing}
 use Rattle.nd_chronicle.specs.RouterAdvertisement.{forming, then_advertised}
@@ -46,10 +46,11 @@ use Rattle.nd_chronicle.specs.Advertising.{planning, wants_answer, full_of_offer
 use Rattle.nd_chronicle.specs.Forwarding.{better_hop_frame, frame_sent_on, Redirects, SendsOn, FateAdds, redirect_to}
 use Rattle.nd_chronicle.specs.NeighborAdvertisement.{then_neighbor_advertised}
 use Rattle.nd_chronicle.specs.Full.{needs, Placed, Fills}
+use Rattle.nd_chronicle.specs.Parts.{Taken, TakenOfMessage, IsTakenInPart, as_placed, passed_over, ignoring}
 use Rattle.nd_chronicle.specs.Shown as tables
 use Rattle.nd_chronicle.specs.Shown.{Table, AreRows, neighbour_row, router_row, prefix_row, address_row, server_row, search_row}
 use Rattle.nd_chronicle.specs.Event as events
-use Rattle.nd_chronicle.specs.Event.{Event, Clearable, packet_bytes, MessageAdds, VerdictAdds, FrameAdds, PacketAdds, SendAdds, refusal_of_packet, ClearAdds, clearing, all_leaving, EventAdds}
+use Rattle.nd_chronicle.specs.Event.{Event, Clearable, packet_bytes, HeardAdds, InPart, MessageAdds, PartAdds, VerdictAdds, FrameAdds, PacketAdds, SendAdds, refusal_of_packet, ClearAdds, clearing, all_leaving, EventAdds}
 use Rattle.nd_routers.specs.History.{preference_of}
 use Rattle.nd_routers.specs.Shown as routers_shown
 use Rattle.nd_chronicle.specs.History.{Walk, Follows, Runs}
@@ -153,12 +154,66 @@ module _ (start : Start) (c : Chronicle) (now : ℕ) where
 
     one_message : (body : Body) (d e : Chronicle) → MessageAdds start now source destination message body c d → MessageAdds start now source destination message body c e → d ≡ e
     one_message (bodies.Ns ns) d e h k = by_test (bytes_eq source.0 unspecified_address) (λ x y. x ∙ sym y) (one_answer ns.target d e) h k
-    one_message (bodies.Ra ra) d e h k = one_behind_room (λ gone placed. then_advertised start now source destination ra message gone (neighbour_history c) placed) d e h k
+    one_message (bodies.Ra ra) d e h k = one_behind_room (λ gone placed. then_advertised start now source destination ra message true gone (neighbour_history c) placed) d e h k
     one_message (bodies.Na na) d e h k = one_behind (λ placed. then_neighbor_advertised now source destination na.target message placed) d e h k
     one_message bodies.Rs d e h k =
         one_behind_room (λ gone placed. planning start now (wants_answer start c) (releasing now (said c source message) (neighbour_history placed) (heard_behind gone placed))) d e h k
     one_message (bodies.Redirect r) d e h k =
         one_behind_room (λ gone placed. releasing now (said c source message) (neighbour_history placed) (heard_behind gone placed)) d e h k
+
+  -- ---- one message is taken in one way in part
+
+  same_taken : (a b : Taken) → a.place ≡ b.place → a.message ≡ b.message → a.listed ≡ b.listed → a.ignored ≡ b.ignored → a ≡ b
+  same_taken a b place message listed ignored =
+      ap (λ (p : Bool). record { place = p; message = a.message; listed = a.listed; ignored = a.ignored }) place
+      ∙ (ap (λ (m : Parts). record { place = b.place; message = m; listed = a.listed; ignored = a.ignored }) message
+      ∙ (ap (λ (l : Bool). record { place = b.place; message = b.message; listed = l; ignored = a.ignored }) listed
+      ∙ ap (λ (i : List Limit). record { place = b.place; message = b.message; listed = b.listed; ignored = i }) ignored))
+
+  one_named : (source : Addr) (message : Parts) (a b : Taken) → TakenOfMessage start c now source message a → TakenOfMessage start c now source message b → a ≡ b
+  one_named source message a b h k =
+      let place = one_placed (makes_way start (said c source message)) (needs c source message message.body) a.place b.place h.placed k.placed in
+      same_taken a b place
+      (h.message_is ∙ (ap (λ (p : Bool). record { body = message.body; options = as_placed p message.options }) place ∙ sym k.message_is))
+      (h.listed_is ∙ sym k.listed_is)
+      (h.ignored_is ∙ (ap (λ (p : Bool). passed_over p Neighbours) place ∙ sym k.ignored_is))
+
+  one_in_part : (source : Addr) (message : Parts) (body : Body) (a b : Taken) → IsTakenInPart start c now source message body a → IsTakenInPart start c now source message body b → a ≡ b
+  one_in_part source message (bodies.Ra ra) a b h k =
+      let e1 = one_placed (makes_way start (said c source message)) (needs c source message message.body) a.place b.place h.placed k.placed in
+      let e2 = one_router_list c now h.routers k.routers h.those_routers k.those_routers in
+      let e3 = one_listing same_prefix prefixes_tell (prefix_history c) now h.prefixes k.prefixes h.those_prefixes k.those_prefixes in
+      let e4 = one_table (address_history c) h.known k.known h.those_addresses k.those_addresses in
+      let e5 = one_listing same_addr addrs_tell (server_history c) now h.servers k.servers h.those_servers k.those_servers in
+      let e6 = one_listing same_name bytes_tell (name_history c) now h.names k.names h.those_names k.those_names in
+      let listed : a.listed ≡ b.listed = (let f = h.listed_is in let g = k.listed_is in cc) in
+      let message_is : a.message ≡ b.message = (let f = h.message_is in let g = k.message_is in cc) in
+      let ignored : a.ignored ≡ b.ignored = (let f = h.ignored_is in let g = k.ignored_is in cc) in
+      same_taken a b e1 message_is listed ignored
+  one_in_part source message bodies.Rs a b h k = one_named source message a b h k
+  one_in_part source message (bodies.Ns ns) a b h k = one_named source message a b h k
+  one_in_part source message (bodies.Na na) a b h k = one_named source message a b h k
+  one_in_part source message (bodies.Redirect r) a b h k = one_named source message a b h k
+
+  module _ (source destination : Addr) (message : Parts) (taken : Taken) where
+    one_part : (body : Body) (d e : Chronicle) → PartAdds start now source destination message taken body c d → PartAdds start now source destination message taken body c e → d ≡ e
+    one_part (bodies.Ns ns) d e h k = by_test taken.place (one_message source destination taken.message (bodies.Ns ns) d e) (λ x y. x ∙ sym y) h k
+    one_part (bodies.Ra ra) d e h k =
+        one_behind_room source destination taken.message (λ gone placed. then_advertised start now source destination ra taken.message taken.listed gone (neighbour_history c) placed) d e h k
+    one_part (bodies.Na na) d e h k = one_message source destination taken.message (bodies.Na na) d e h k
+    one_part bodies.Rs d e h k = one_message source destination taken.message bodies.Rs d e h k
+    one_part (bodies.Redirect r) d e h k = one_message source destination taken.message (bodies.Redirect r) d e h k
+
+  module _ (source destination : Addr) (message : Parts) where
+    one_taken_in_part : (d e : Chronicle) → InPart start now source destination message c d → InPart start now source destination message c e → d ≡ e
+    one_taken_in_part d e h k =
+        let same : h.taken ≡ k.taken = one_in_part source message message.body h.taken k.taken h.is_taken k.is_taken in
+        let told : h.told ≡ k.told = one_part source destination message k.taken message.body h.told k.told (subst (λ (t : Taken). PartAdds start now source destination message t message.body c h.told) same h.adds) k.adds in
+        h.all ∙ (ap (λ (t : Taken). ignoring now t.ignored h.told) same ∙ (ap (λ (x : Chronicle). ignoring now k.taken.ignored x) told ∙ sym k.all))
+
+    one_heard_message : (full : Option Limit) (d e : Chronicle) → HeardAdds start now full source destination message c d → HeardAdds start now full source destination message c e → d ≡ e
+    one_heard_message None d e h k = one_message source destination message message.body d e h k
+    one_heard_message (Some limit) d e h k = by_test start.policies.parts (one_taken_in_part d e) (λ x y. x ∙ sym y) h k
 
   one_if_placed : (key : ℕ) (packet : List ℕ) (d e : Chronicle) → GoesIfPlaced start now key packet c d → GoesIfPlaced start now key packet c e → d ≡ e
   one_if_placed key packet d e h k =
@@ -190,8 +245,7 @@ module _ (start : Start) (c : Chronicle) (now : ℕ) where
   one_verdict frame (goes_on packet) d e h k = one_fate packet (packet_bytes frame) (fate (is_own c) (routes (route_history c)) packet.header) d e h k
   one_verdict frame (hears source destination message) d e h k =
       let same : h.0 ≡ k.0 = one_full source message message.body h.0 k.0 h.1 k.1 in
-      unless_refused (option_map Full k.0) (MessageAdds start now source destination message message.body c) d e (one_message source destination message message.body d e)
-      (subst (λ (full : Option Limit). UnlessRefused now (option_map Full full) (MessageAdds start now source destination message message.body c) c d) same h.2) k.2
+      one_heard_message source destination message k.0 d e (subst (λ (full : Option Limit). HeardAdds start now full source destination message c d) same h.2) k.2
 
   pub one_frame : (frame : List ℕ) (d e : Chronicle) → FrameAdds start now frame c d → FrameAdds start now frame c e → d ≡ e
   one_frame frame d e h k =

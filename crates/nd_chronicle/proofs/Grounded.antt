@@ -12,7 +12,7 @@ use Rattle.nd_table.proofs.Pasts.{past_self, past_below, all_before}
 use Rattle.nd_slaac.specs.Due.{Falls, Ends, Solicits, Assigns, FirstDue, due_row}
 use Rattle.nd_slaac.specs.Ends.{valid_end}
 use Rattle.nd_slaac.specs.History.{Row, RowKind, Story, story, is_end, Formed, SetByHand, Announced, Solicited, Conflict, Assigned, Ended}
-use Rattle.nd_slaac.specs.PrefixOption.{is_taken, named_by, lifetimes_of, prefixes_in}
+use Rattle.nd_slaac.specs.PrefixOption.{is_taken, named_by, lifetimes_of}
 use Rattle.nd_slaac.specs.State.{is_by_hand, is_known, has_conflict, was_assigned, is_tentative, is_assigned}
 use Rattle.nd_slaac.proofs.Dues.{tentative_parts}
 use Rattle.nd_slaac.proofs.Steps.{other_story, same_story, ended_story}
@@ -24,7 +24,7 @@ use Rattle.nd_chronicle.specs.OwnAddress.{story_of, is_own, is_up}
 use Rattle.nd_chronicle.specs.RouterAdvertisement.{with_delay, forming, naming, then_option, then_options}
 use Rattle.nd_chronicle.specs.Event.{ComeAsBytes, ComesAsBytes, Event, EventAdds}
 use Rattle.nd_chronicle.specs.History.{Walk, over, adds, passes, Runs, beginning, first_delay, with_reachable_time}
-use Rattle.nd_chronicle.proofs.Named.{names_another, heard_fit}
+use Rattle.nd_chronicle.proofs.Named.{names_another}
 use Rattle.nd_chronicle.proofs.Growth.{runs_grows}
 use Rattle.nd_chronicle.proofs.Pasts.{history_past}
 use Rattle.nd_chronicle.proofs.OwnRows.{Brings, Nothing, Conflicts, Announces, SetsKnown, FormsSet, EndsKnown, BringsDue, NoRow, ItsRow, delay_same, event_brings, comes_brings}
@@ -176,10 +176,9 @@ module _ (start : Start) where
   stands_event {now = now} {c = c} bytes (FormsSet own set not unknown up is) s =
       let key = number_of own.address.0 in
       let formed : StandsUp ((now, key, Formed 0 (retrans_timer c) (Some own.lifetimes)) ∷ address_history c) = up_row now false key _ (address_history c) not (s, up) in
-      subst (λ (x : Chronicle). Stands (address_history x)) (sym is) (up_row now false key (SetByHand own.lifetimes) _ not formed).0
-  stands_event {now = now} bytes (Announces frame message to_all e received spelled up same is) s =
-      subst (λ (x : Chronicle). Stands (address_history x)) (sym is)
-      (up_options now to_all (prefixes_in message.options) e (heard_fit frame message (bytes.frame frame received) spelled) (subst StandsUp (sym same) (s, up))).0
+      subst Stands (sym is) (up_row now false key (SetByHand own.lifetimes) _ not formed).0
+  stands_event {now = now} bytes (Announces frame infos to_all e received fit up same is) s =
+      subst Stands (sym is) (up_options now to_all infos e (fit (bytes.frame frame received)) (subst StandsUp (sym same) (s, up))).0
 
   stands_follows : (t : Bool) (c : Chronicle) (now last : ℕ) (event : Event) (d : Chronicle) → ComesAsBytes event → Stands (address_history c)
       → MatchBool t (d ≡ (now, TooLate last) ∷ c) ((e : Chronicle) × Walk start c (last_moment start.at c) now e × EventAdds start now event ((now, Passed) ∷ e) d) → Stands (address_history d)

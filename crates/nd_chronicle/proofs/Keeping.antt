@@ -2,9 +2,10 @@
 use Rattle.std.proofs.Common.{◌≡◌, ℕ, Bool, true, false, cond, List, [], ◌∷◌, Option, Some, None, refl, sym, ◌∙◌, ap, subst}
 use Rattle.std.proofs.lemmas.Bool.{true≢false}
 use Rattle.std.proofs.lemmas.Slice.Eq.{bytes_eq-Decides}
-use Rattle.std.specs.Prelude.{MatchBool, MatchOption, bytes_eq, ◌==◌, ◌&&◌, not}
+use Rattle.std.specs.Prelude.{MatchBool, MatchOption, bytes_eq, ◌==◌, ◌&&◌, not, if◌then◌else◌}
 use Rattle.std.specs.Option.{option_map, option_to_list}
 use Rattle.nd_addr.specs.declared.addr.Addr.{Addr}
+use Rattle.nd_addr.specs.declared.mac.Mac.{Mac}
 use Rattle.nd_addr.specs.Kind.{multicast_prefix, unspecified_address}
 use Rattle.nd_addr.specs.Ip6.{PacketParts}
 use Rattle.nd_addr.specs.Frame.{addressed}
@@ -18,6 +19,7 @@ use Rattle.nd_forwarding.specs.Forward.{Fate, lost_no_route, lost_hop_limit, sen
 use Rattle.nd_forwarding.specs.Routes.{routes}
 use Rattle.nd_decode.specs.Message.{Parts}
 use Rattle.nd_decode.specs.declared.body.Body.{Body}
+use Rattle.nd_decode.specs.declared.neighbor_solicitation.NeighborSolicitation.{NeighborSolicitation}
 use Rattle.nd_decode.specs.declared.body.Body.TheVariants as bodies
 use Rattle.nd_decode.specs.declared.prefix_info.PrefixInfo.{PrefixInfo}
 use Rattle.nd_decode.specs.declared.router_advertisement.RouterAdvertisement.{RouterAdvertisement}
@@ -37,7 +39,7 @@ use Rattle.nd_slaac.specs.History.{Lifetimes, Story}
 use Rattle.nd_slaac.specs.PrefixOption.{is_taken, prefixes_in, named_by, lifetimes_of}
 use Rattle.nd_slaac.specs.State as states
 use Rattle.nd_chronicle.specs.Start.{Start, link_local_key}
-use Rattle.nd_chronicle.specs.Happening.{Chronicle, Happening, Address, Heard, Neighbour, Sent, Path, Refused, Configured, Ceased, RedirectMade, Way, Forgotten, Loss, Unreachable, Refusal, WrongRole, Disabled, Tentative, Full}
+use Rattle.nd_chronicle.specs.Happening.{Chronicle, Happening, Address, Heard, Unlisted, Neighbour, Sent, Path, Refused, Ignored, Limit, Configured, Ceased, RedirectMade, Way, Forgotten, Loss, Unreachable, Refusal, WrongRole, Disabled, Tentative, Full}
 use Rattle.nd_chronicle.specs.Histories.{neighbour_history, advertising_history, route_history}
 use Rattle.nd_chronicle.specs.InForce.{base_reachable_time, retrans_timer}
 use Rattle.nd_chronicle.specs.OwnAddress.{story_of, is_assigned, is_disabled, is_own, is_tentative, is_up, refusal_unless_up}
@@ -46,15 +48,18 @@ use Rattle.nd_chronicle.specs.Refused.{UnlessRefused, AtRouter}
 use Rattle.nd_chronicle.specs.Hearing.{Verdict, hears, goes_up, goes_on, drops, conflicts_with}
 use Rattle.nd_chronicle.specs.Advertising.{advertising_by, planning, telling_end, wants_answer, full_of_offers, full_of_routes}
 use Rattle.nd_chronicle.specs.Forwarding.{Redirects, SendsOn, FateAdds, redirect_to}
-use Rattle.nd_chronicle.specs.Message.{said, PlaceFor, RoomFor, failing_for, sending_if_known, telling_if_known, releasing, leaving}
-use Rattle.nd_chronicle.specs.RouterAdvertisement.{redrawing, with_delay, forming, naming, then_option, then_options, times_out, then_advertised}
+use Rattle.nd_chronicle.specs.Message.{said, makes_way, PlaceFor, RoomFor, failing_for, sending_if_known, telling_if_known, releasing, leaving}
+use Rattle.nd_chronicle.specs.RouterAdvertisement.{heard_from, redrawing, with_delay, forming, naming, then_option, then_options, times_out, then_advertised}
+use Rattle.nd_chronicle.specs.Full.{needs, Placed}
+use Rattle.nd_chronicle.specs.LinkLayerAddress.{first_slla}
+use Rattle.nd_chronicle.specs.Parts.{Taken, IsTakenInPart, ignoring}
 use Rattle.nd_chronicle.specs.NeighborSolicitation as asked
 use Rattle.nd_chronicle.specs.NeighborSolicitation.{then_tried}
 use Rattle.nd_chronicle.specs.NeighborAdvertisement.{conflicting, ends_in_list}
 use Rattle.nd_chronicle.specs.ByHand.{FormsByHand, no_room, setting}
 use Rattle.nd_chronicle.specs.Resolve.{PathAdds, ResolveAdds, Wants, WantsIfPlaced, then_wanted, wanting_of}
 use Rattle.nd_chronicle.specs.Event as events
-use Rattle.nd_chronicle.specs.Event.{Event, Clearable, packet_bytes, MessageAdds, VerdictAdds, PacketAdds, SendAdds, refusal_of_packet, ClearAdds, clearing, all_leaving, EventAdds}
+use Rattle.nd_chronicle.specs.Event.{Event, Clearable, packet_bytes, HeardAdds, InPart, MessageAdds, PartAdds, VerdictAdds, PacketAdds, SendAdds, refusal_of_packet, ClearAdds, clearing, all_leaving, EventAdds}
 use Rattle.nd_chronicle.specs.Due.{then_neighbour}
 
 -- it is no row of an own address, no message that was heard, no refusal and no settings of a router
@@ -266,15 +271,19 @@ module _ (start : Start) (at : ℕ) (Kept : Chronicle → Type 0) (plain : (what
       harmless : (body : Body) → message.body ≡ body → ((address : List ℕ) → conflicts_with address source body ≡ false) → (c : Chronicle) → Kept c → Kept ((at, Heard source destination message) ∷ c)
       harmless body is none c k = listens source destination message c (λ address tentative. subst (λ (b : Body). conflicts_with address source b ≡ false) (sym is) (none address)) k
 
-      advertised_keeps : (ra : RouterAdvertisement) → message.body ≡ bodies.Ra ra → (gone : Option ℕ) (before : List neighbours.Row) (c : Chronicle) → Kept c
-          → Kept (then_advertised start at source destination ra message gone before c)
-      advertised_keeps ra body gone before c k =
+      heard_from_keeps : (listed : Bool) (body : Body) → message.body ≡ body → ((address : List ℕ) → conflicts_with address source body ≡ false) → (c : Chronicle) → Kept c → Kept (heard_from start at source destination message listed c)
+      heard_from_keeps true body is none c k = harmless body is none c k
+      heard_from_keeps false body is none c k = plain (Unlisted (number_of source.0)) _ refl (harmless body is none c k)
+
+      advertised_keeps : (ra : RouterAdvertisement) → message.body ≡ bodies.Ra ra → (listed : Bool) (gone : Option ℕ) (before : List neighbours.Row) (c : Chronicle) → Kept c
+          → Kept (then_advertised start at source destination ra message listed gone before c)
+      advertised_keeps ra body listed gone before c k =
           options_keep (holds multicast_prefix destination.0) (prefixes_in message.options) _
           (leaving_keeps (times_out start at c source ra) (number_of source.0) _
           (releasing_keeps (said c source message) (neighbour_history c) _
           (failing_keeps gone before _
           (redrawing_keeps ra.reachable_time (redraws (base_reachable_time c) ra.reachable_time) _
-          (harmless (bodies.Ra ra) body (λ address. refl) c k)))))
+          (heard_from_keeps listed (bodies.Ra ra) body (λ address. refl) c k)))))
 
       -- an advertisement for a tentative address, or for another one
       conflicting_keeps : (body : Body) (target : Addr) → message.body ≡ body → ((address : List ℕ) → conflicts_with address source body ≡ bytes_eq target.0 address)
@@ -291,7 +300,7 @@ module _ (start : Start) (at : ℕ) (Kept : Chronicle → Type 0) (plain : (what
 
       pub message_keeps : (body : Body) → message.body ≡ body → (c d : Chronicle) → MessageAdds start at source destination message body c d → Kept c → Kept d
       message_keeps (bodies.Ns ns) is c d h k = solicited_keeps (bytes_eq source.0 unspecified_address) ns.target c d is refl h k
-      message_keeps (bodies.Ra ra) is c d h k = kept_to h.3 (advertised_keeps ra is h.0 (neighbour_history c) h.1 (room_keeps c (said c source message) h.0 h.1 h.2 k))
+      message_keeps (bodies.Ra ra) is c d h k = kept_to h.3 (advertised_keeps ra is true h.0 (neighbour_history c) h.1 (room_keeps c (said c source message) h.0 h.1 h.2 k))
       message_keeps (bodies.Na na) is c d h k =
           kept_to h.2 (leaving_keeps (ends_in_list at h.0 (said h.0 source message)) (number_of na.target.0) _
           (releasing_keeps (said h.0 source message) (neighbour_history h.0) _
@@ -304,6 +313,44 @@ module _ (start : Start) (at : ℕ) (Kept : Chronicle → Type 0) (plain : (what
       message_keeps (bodies.Redirect r) is c d h k =
           kept_to h.3 (releasing_keeps (said c source message) (neighbour_history h.1) _
           (failing_keeps h.0 (neighbour_history c) _ (harmless (bodies.Redirect r) is (λ address. refl) h.1 (room_keeps c (said c source message) h.0 h.1 h.2 k))))
+
+    -- what is taken of a message in part, and what is reported of the rest
+    module _ (source destination : Addr) (message : Parts) (taken : Taken) (c : Chronicle) where
+      answered_keeps : (mac : Option Mac) (packet : List ℕ) (c : Chronicle) → Kept c → Kept (asked.answered_at start at mac packet c)
+      answered_keeps None packet c k = k
+      answered_keeps (Some mac) packet c k = plain _ c refl k
+
+      -- there is place for an asker that has no address
+      named_by_place : (way unnamed : Bool) (key : ℕ) → Placed start c at way (if unnamed then None else Some (key, true)) false → unnamed ≡ false
+      named_by_place way true key placed = absurd (let no : ⊥ = cc in no)
+      named_by_place way false key placed = refl
+
+      part_answer_keeps : (ns : NeighborSolicitation) → message.body ≡ bodies.Ns ns → taken.message.body ≡ bodies.Ns ns → (place : Bool)
+          → Placed start c at (makes_way start (said c source message)) (needs c source message message.body) place → (d : Chronicle)
+          → MatchBool place (MessageAdds start at source destination taken.message (bodies.Ns ns) c d) (d ≡ asked.then_answered start at source destination ns.target message taken.message c) → Kept c → Kept d
+      part_answer_keeps ns body is true placed d h k = message_keeps source destination taken.message (bodies.Ns ns) is c d h k
+      part_answer_keeps ns body is false placed d h k =
+          let named : bytes_eq source.0 unspecified_address ≡ false =
+          named_by_place (makes_way start (said c source message)) (bytes_eq source.0 unspecified_address) (number_of source.0)
+          (subst (λ (b : Body). Placed start c at (makes_way start (said c source message)) (needs c source message b) false) body placed) in
+          kept_to h (answered_keeps (asked.answer_address (first_slla message.options)) _ _
+          (harmless source destination taken.message (bodies.Ns ns) is (λ address. both_false (bytes_eq ns.target.0 address) (bytes_eq source.0 unspecified_address) named) c k))
+
+      part_keeps : (body : Body) → message.body ≡ body → IsTakenInPart start c at source message body taken → (d : Chronicle) → PartAdds start at source destination message taken body c d → Kept c → Kept d
+      part_keeps (bodies.Ns ns) is t d h k = part_answer_keeps ns is (ap (λ (m : Parts). m.body) t.message_is ∙ is) taken.place t.placed d h k
+      part_keeps (bodies.Ra ra) is t d h k =
+          kept_to h.3 (advertised_keeps source destination taken.message ra (ap (λ (m : Parts). m.body) t.message_is ∙ is) taken.listed h.0 (neighbour_history c) h.1 (room_keeps c (said c source taken.message) h.0 h.1 h.2 k))
+      part_keeps (bodies.Na na) is t d h k = message_keeps source destination taken.message (bodies.Na na) (ap (λ (m : Parts). m.body) t.message_is ∙ is) c d h k
+      part_keeps bodies.Rs is t d h k = message_keeps source destination taken.message bodies.Rs (ap (λ (m : Parts). m.body) t.message_is ∙ is) c d h k
+      part_keeps (bodies.Redirect r) is t d h k = message_keeps source destination taken.message (bodies.Redirect r) (ap (λ (m : Parts). m.body) t.message_is ∙ is) c d h k
+
+    ignoring_keeps : (limits : List Limit) (c : Chronicle) → Kept c → Kept (ignoring at limits c)
+    ignoring_keeps [] c k = k
+    ignoring_keeps (limit ∷ limits) c k = ignoring_keeps limits _ (plain (Ignored limit) c refl k)
+
+    pub in_part_keeps : (source destination : Addr) (message : Parts) (c d : Chronicle) → InPart start at source destination message c d → Kept c → Kept d
+    in_part_keeps source destination message c d h k =
+        kept_to h.all (ignoring_keeps h.taken.ignored h.told (part_keeps source destination message h.taken c message.body refl h.is_taken h.told h.adds k))
 
     -- ---- any event: an end is where its rows are kept, or its refusal comes alone
 
@@ -341,13 +388,21 @@ module _ (start : Start) (at : ℕ) (Kept : Chronicle → Type 0) (plain : (what
       fate_keeps lost_hop_limit packet bytes d h k = end_at h (plain _ c refl k)
       fate_keeps (sent next) packet bytes d h k = sends_on_keeps (redirect_to start at packet c) packet bytes _ d h k
 
+      in_part_or_refused : (parts : Bool) (source destination : Addr) (message : Parts) (limit : Limit) (d : Chronicle)
+          → MatchBool parts (InPart start at source destination message c d) (d ≡ (at, Refused (Full limit)) ∷ c) → Kept c → End d
+      in_part_or_refused true source destination message limit d h k = ends d (in_part_keeps source destination message c d h k)
+      in_part_or_refused false source destination message limit d h k = refused_at (Full limit) h
+
+      heard_keeps : (source destination : Addr) (message : Parts) (full : Option Limit) (d : Chronicle) → HeardAdds start at full source destination message c d → Kept c → End d
+      heard_keeps source destination message None d h k = ends d (message_keeps source destination message message.body refl c d h k)
+      heard_keeps source destination message (Some limit) d h k = in_part_or_refused start.policies.parts source destination message limit d h k
+
       verdict_keeps : (frame : List ℕ) (v : Verdict) (d : Chronicle) → VerdictAdds start at frame v c d → Kept c → End d
       verdict_keeps frame (drops why) d h k = end_at h (plain _ c refl k)
       verdict_keeps frame (goes_up packet) d h k = end_at h (plain _ c refl k)
       verdict_keeps frame (goes_on packet) d h k = fate_keeps (fate (is_own c) (routes (route_history c)) packet.header) packet (packet_bytes frame) d h k
       verdict_keeps frame (hears source destination message) d h k =
-          refused_keeps (option_map Full h.0) (MessageAdds start at source destination message message.body c) d
-          (λ m. ends d (message_keeps source destination message message.body refl c d m k)) h.2
+          heard_keeps source destination message h.0 d h.2 k
 
       module _ (source destination : Addr) (next_header : ℕ) (payload : List ℕ) where
         direct_keeps : (t : Bool) (what : List ℕ) (key : ℕ) (packet : List ℕ) (d : Chronicle)

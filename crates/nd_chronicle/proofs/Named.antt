@@ -20,6 +20,8 @@ use Rattle.nd_decode.specs.Option.{Said, slla, tlla, prefix, redirected, mtu, rd
 use Rattle.nd_decode.specs.declared.prefix_info.PrefixInfo.{PrefixInfo}
 use Rattle.nd_message.specs.Fitting.{FitsOption, FitsPrefix}
 use Rattle.nd_message.proofs.Formed.{options_fit}
+use Rattle.nd_chronicle.specs.Start.{Limits}
+use Rattle.nd_chronicle.specs.Parts.{Filling, option_taken, filled, options_taken}
 use Rattle.nd_slaac.specs.PrefixOption.{is_taken, named_by, link_local_of, prefixes_in}
 
 joined : (front back tail here more whole : ℕ) → front ≡ here → back ≡ more + tail → whole ≡ here + more → front + back ≡ whole + tail
@@ -87,3 +89,19 @@ heard_fit frame message bytes s =
     let payload = bytes_between packet ipv6_header_length (ipv6_header_length + payload_length_of packet) (IsBytes-drop 14 frame bytes) in
     prefixes_fit message.options
     (options_fit message.options (behind_fields (payload_in frame)) (IsBytes-drop (least_length (slice_index (payload_in frame) 0)) (payload_in frame) payload) s.options).0
+
+-- prefixes with other flags
+abbrev Fit : List Said → Type 0
+Fit options = AllByRecursion FitsPrefix (prefixes_in options)
+
+pub part_fits : (limits : Limits) (mac : Mac) (now : ℕ) (f : Filling) (options : List Said) → Fit options → Fit (options_taken limits mac now f options)
+part_fits limits mac now f [] h = tt
+part_fits limits mac now f (slla m ∷ options) h = part_fits limits mac now (filled limits mac now (slla m) f) options h
+part_fits limits mac now f (tlla m ∷ options) h = part_fits limits mac now (filled limits mac now (tlla m) f) options h
+part_fits limits mac now f (prefix info ∷ options) h =
+    (record { prefix_is = h.0.prefix_is; valid = h.0.valid; preferred = h.0.preferred }, part_fits limits mac now (filled limits mac now (option_taken limits mac now f (prefix info)) f) options h.1)
+part_fits limits mac now f (redirected packet ∷ options) h = part_fits limits mac now (filled limits mac now (redirected packet) f) options h
+part_fits limits mac now f (mtu n ∷ options) h = part_fits limits mac now (filled limits mac now (mtu n) f) options h
+part_fits limits mac now f (rdnss lifetime told ∷ options) h = part_fits limits mac now (filled limits mac now (option_taken limits mac now f (rdnss lifetime told)) f) options h
+part_fits limits mac now f (dnssl lifetime told ∷ options) h = part_fits limits mac now (filled limits mac now (option_taken limits mac now f (dnssl lifetime told)) f) options h
+part_fits limits mac now f (other kind rest ∷ options) h = part_fits limits mac now (filled limits mac now (other kind rest) f) options h

@@ -22,7 +22,7 @@ use Rattle.nd_table.specs.History.{Past}
 use Rattle.nd_table.proofs.Pasts.{all_before}
 use Rattle.nd_slaac.specs.Due.{Ends, Solicits, Assigns}
 use Rattle.nd_slaac.specs.History.{Row, RowKind, story, Formed, SetByHand, Announced, Solicited, Conflict, Assigned, Ended}
-use Rattle.nd_slaac.specs.PrefixOption.{is_taken, named_by, link_local_of, prefixes_in}
+use Rattle.nd_slaac.specs.PrefixOption.{is_taken, named_by, link_local_of}
 use Rattle.nd_slaac.specs.ByHand.{AddressByHand, IsOwnAddress}
 use Rattle.nd_slaac.specs.State.{is_by_hand, is_known}
 use Rattle.nd_slaac.proofs.Steps.{other_story, same_story, ended_story}
@@ -33,7 +33,6 @@ use Rattle.nd_chronicle.specs.OwnAddress.{story_of}
 use Rattle.nd_chronicle.specs.RouterAdvertisement.{forming, naming, then_option, then_options}
 use Rattle.nd_chronicle.specs.Event.{ComeAsBytes, ComesAsBytes, Event, EventAdds}
 use Rattle.nd_chronicle.specs.History.{Walk, over, adds, passes, Runs, beginning}
-use Rattle.nd_chronicle.proofs.Named.{heard_fit}
 use Rattle.nd_chronicle.proofs.Pasts.{history_past}
 use Rattle.nd_chronicle.proofs.OwnRows.{Brings, Nothing, Conflicts, Announces, SetsKnown, FormsSet, EndsKnown, BringsDue, NoRow, ItsRow, delay_same, event_brings, comes_brings}
 
@@ -200,10 +199,9 @@ module _ (start : Start) (mac : AreBytes 6 start.mac.0) where
   usable_event bytes (SetsKnown key lifetimes not known is) u = subst AllUsable (sym is) (tt, u)
   usable_event bytes (EndsKnown key not known is) u = subst AllUsable (sym is) (tt, u)
   usable_event bytes (FormsSet own set not unknown up is) u =
-      subst (λ (x : Chronicle). AllUsable (address_history x)) (sym is) (tt, (given_usable own (bytes.own own set), u))
-  usable_event {now = now} bytes (Announces frame message to_all e received spelled up same is) u =
-      subst (λ (x : Chronicle). AllUsable (address_history x)) (sym is)
-      (usable_options now to_all (prefixes_in message.options) e (heard_fit frame message (bytes.frame frame received) spelled) (subst AllUsable (sym same) u))
+      subst AllUsable (sym is) (tt, (given_usable own (bytes.own own set), u))
+  usable_event {now = now} bytes (Announces frame infos to_all e received fit up same is) u =
+      subst AllUsable (sym is) (usable_options now to_all infos e (fit (bytes.frame frame received)) (subst AllUsable (sym same) u))
 
   usable_follows : (t : Bool) (c : Chronicle) (now last : ℕ) (event : Event) (d : Chronicle) → ComesAsBytes event → AllUsable (address_history c)
       → MatchBool t (d ≡ (now, TooLate last) ∷ c) ((e : Chronicle) × Walk start c (last_moment start.at c) now e × EventAdds start now event ((now, Passed) ∷ e) d)

@@ -1,6 +1,8 @@
 -- What happens to the own addresses: what comes, and what falls due, brings them few rows, and most of it none.
 use Rattle.std.proofs.Common.{◌≡◌, ℕ, Bool, true, false, cond, List, [], ◌∷◌, Option, Some, None, refl, sym, ◌∙◌, ap, subst}
-use Rattle.std.specs.Prelude.{MatchBool, MatchOption, bytes_eq, ◌||◌, ◌&&◌, ◌==◌, ◌≢◌, not}
+use Rattle.std.specs.Prelude.{MatchBool, MatchOption, map, bytes_eq, ◌||◌, ◌&&◌, ◌==◌, ◌≢◌, not}
+use Rattle.std.specs.List.{AllByRecursion}
+use Rattle.nd_addr.specs.Bytes.{IsBytes}
 use Rattle.std.proofs.lemmas.Bool.{eq-eqb, true≢false}
 use Rattle.std.specs.Option.{option_map, option_to_list}
 use Rattle.nd_addr.specs.declared.addr.Addr.{Addr}
@@ -21,6 +23,8 @@ use Rattle.nd_decode.specs.Message.{Parts, Spells}
 use Rattle.nd_decode.specs.Option.{Said}
 use Rattle.nd_decode.specs.declared.prefix_info.PrefixInfo.{PrefixInfo}
 use Rattle.nd_decode.specs.declared.body.Body.{Body}
+use Rattle.nd_decode.specs.declared.neighbor_solicitation.NeighborSolicitation.{NeighborSolicitation}
+use Rattle.nd_message.specs.Fitting.{FitsPrefix}
 use Rattle.nd_decode.specs.declared.body.Body.TheVariants as bodies
 use Rattle.nd_decode.specs.declared.router_advertisement.RouterAdvertisement.{RouterAdvertisement}
 use Rattle.nd_table.specs.declared.lasting.Lasting.{Lasting}
@@ -43,7 +47,7 @@ use Rattle.nd_slaac.specs.History.{Lifetimes}
 use Rattle.nd_slaac.specs.PrefixOption.{prefixes_in}
 use Rattle.nd_slaac.specs.State as states
 use Rattle.nd_chronicle.specs.Start.{Policies, Start, link_local, link_local_key}
-use Rattle.nd_chronicle.specs.Happening.{Chronicle, Address, Sent, Heard, Lost, Neighbour, Path, Ceased, RedirectMade, Way, Forgotten, Loss, Unreachable, Refusal, Disabled, Tentative, Full}
+use Rattle.nd_chronicle.specs.Happening.{Chronicle, Address, Sent, Heard, Ignored, Limit, Refused, Lost, Neighbour, Path, Ceased, RedirectMade, Way, Forgotten, Loss, Unreachable, Refusal, Disabled, Tentative, Full}
 use Rattle.nd_chronicle.specs.Histories.{address_history, neighbour_history, advertising_history, route_history}
 use Rattle.nd_chronicle.specs.InForce.{base_reachable_time}
 use Rattle.nd_chronicle.specs.OwnAddress.{story_of, is_assigned, is_disabled, is_own, is_tentative, is_up, refusal_unless_up}
@@ -52,17 +56,21 @@ use Rattle.nd_chronicle.specs.Refused.{UnlessRefused, AtRouter}
 use Rattle.nd_chronicle.specs.Advertising.{advertising_by, planning, telling_end, wants_answer, full_of_offers, full_of_routes}
 use Rattle.nd_chronicle.specs.Forwarding.{Redirects, SendsOn, FateAdds, redirect_to}
 use Rattle.nd_chronicle.specs.Reading.{IsRead, read_outcome}
-use Rattle.nd_chronicle.proofs.Reading.{prefixes_as_said}
+use Rattle.nd_chronicle.proofs.Named.{heard_fit, part_fits}
+use Rattle.nd_chronicle.proofs.Reading.{prefixes_as_placed, prefixes_as_said}
 use Rattle.nd_chronicle.specs.Hearing.{Verdict, hears, goes_up, goes_on, drops, IsForUs, Judges, IsTaken, takes_target, is_awake}
 use Rattle.nd_chronicle.specs.Message.{said, PlaceFor, RoomFor, failing_for, sending_if_known, telling_if_known, releasing, leaving}
-use Rattle.nd_chronicle.specs.RouterAdvertisement.{forming, redrawing, with_delay, then_options, times_out, then_advertised}
+use Rattle.nd_chronicle.specs.RouterAdvertisement.{forming, heard_from, redrawing, with_delay, then_options, times_out, then_advertised}
+use Rattle.nd_chronicle.specs.LinkLayerAddress.{first_slla}
+use Rattle.nd_chronicle.specs.Parts.{Taken, IsTakenInPart, as_placed, ignoring, options_taken}
+use Rattle.nd_slaac.specs.TableKept.{key_of}
 use Rattle.nd_chronicle.specs.NeighborSolicitation as asked
 use Rattle.nd_chronicle.specs.NeighborSolicitation.{then_tried}
 use Rattle.nd_chronicle.specs.NeighborAdvertisement.{conflicting, ends_in_list, then_neighbor_advertised}
 use Rattle.nd_chronicle.specs.ByHand.{FormsByHand, no_room, setting}
 use Rattle.nd_chronicle.specs.Resolve.{PathAdds, Wants, WantsIfPlaced, then_wanted, wanting_of}
 use Rattle.nd_chronicle.specs.Event as events
-use Rattle.nd_chronicle.specs.Event.{Event, Clearable, packet_bytes, MessageAdds, VerdictAdds, PacketAdds, refusal_of_packet, ClearAdds, clearing, all_leaving, EventAdds}
+use Rattle.nd_chronicle.specs.Event.{Event, Clearable, packet_bytes, HeardAdds, InPart, MessageAdds, PartAdds, VerdictAdds, PacketAdds, refusal_of_packet, ClearAdds, clearing, all_leaving, EventAdds}
 use Rattle.nd_chronicle.specs.Due.{What, RouterEnds, AddressFalls, NeighbourFalls, RoutersSolicited, RouterAdvertises, Redraws, Due, then_address, then_neighbour, comes}
 
 -- ---- what doesn't concern the own addresses
@@ -178,14 +186,14 @@ pub data Brings (start : Start) (now : ℕ) (event : Event) (c d : Chronicle) : 
   -- a conflict of one that is tentative
   Conflicts : (key : ℕ) → states.is_tentative (story_of c key) ≡ true → address_history d ≡ (now, key, addresses.Conflict) ∷ address_history c → Brings start now event c d
   -- what the prefix options of a Router Advertisement name, which is heard only where the link-local address is assigned
-  Announces : (frame : List ℕ) (message : Parts) (to_all : Bool) (e : Chronicle) → event ≡ events.Receives frame → Spells (payload_in frame) message → is_up start c ≡ true
-      → Same c e → d ≡ then_options start now to_all (prefixes_in message.options) e → Brings start now event c d
+  Announces : (frame : List ℕ) (infos : List PrefixInfo) (to_all : Bool) (e : Chronicle) → event ≡ events.Receives frame → (IsBytes frame → AllByRecursion FitsPrefix infos) → is_up start c ≡ true
+      → Same c e → Same (then_options start now to_all infos e) d → Brings start now event c d
   -- lifetimes of a known one other than the link-local one, set by hand
   SetsKnown : (key : ℕ) (lifetimes : Lifetimes) → key ≢ link_local_key start → states.is_known (story_of c key) ≡ true
       → address_history d ≡ (now, key, addresses.SetByHand lifetimes) ∷ address_history c → Brings start now event c d
   -- one that wasn't known, given by hand where the link-local address is assigned
   FormsSet : (own : AddressByHand) → event ≡ events.Sets own → number_of own.address.0 ≢ link_local_key start → states.is_known (story_of c (number_of own.address.0)) ≡ false → is_up start c ≡ true
-      → d ≡ setting start now (number_of own.address.0) own.lifetimes (forming start now false (number_of own.address.0) own.lifetimes c) → Brings start now event c d
+      → Same (setting start now (number_of own.address.0) own.lifetimes (forming start now false (number_of own.address.0) own.lifetimes c)) d → Brings start now event c d
   -- the end of a known one other than the link-local one
   EndsKnown : (key : ℕ) → key ≢ link_local_key start → states.is_known (story_of c key) ≡ true → address_history d ≡ (now, key, addresses.Ended) ∷ address_history c → Brings start now event c d
 
@@ -284,31 +292,90 @@ module _ (start : Start) (now : ℕ) (event : Event) (c : Chronicle) where
     up_by false true h = absurd (let no : ⊥ = cc in no)
     up_by false false h = absurd (let no : ⊥ = cc in no)
 
-    module _ (frame : List ℕ) (received : event ≡ events.Receives frame) (s : IsSpelled frame message.options) where
-      brings_names : (ra : RouterAdvertisement) (gone : Option ℕ) (placed d : Chronicle) → is_up start c ≡ true → RoomFor start c now (said c source message) gone placed
-          → d ≡ then_advertised start now source destination ra message gone (neighbour_history c) placed → Brings start now event c d
-      brings_names ra gone placed d up p h =
-          let row = (now, Heard source destination message) ∷ placed in
+    heard_same : (listed : Bool) (c : Chronicle) → Same c (heard_from start now source destination message listed c)
+    heard_same true c = refl
+    heard_same false c = refl
+
+    module _ (frame : List ℕ) (received : event ≡ events.Receives frame) (fit : IsBytes frame → AllByRecursion FitsPrefix (prefixes_in message.options)) where
+      brings_names : (ra : RouterAdvertisement) (listed : Bool) (gone : Option ℕ) (placed d : Chronicle) → is_up start c ≡ true → RoomFor start c now (said c source message) gone placed
+          → d ≡ then_advertised start now source destination ra message listed gone (neighbour_history c) placed → Brings start now event c d
+      brings_names ra listed gone placed d up p h =
+          let row = heard_from start now source destination message listed placed in
           let drawn = redrawing start now ra.reachable_time (redraws (base_reachable_time placed) ra.reachable_time) row in
           let third = failing_for now gone (neighbour_history c) drawn in
           let second = releasing now (said placed source message) (neighbour_history placed) third in
-          Announces frame s.spelling (holds multicast_prefix destination.0) (leaving now (times_out start now placed source ra) (number_of source.0) second) received s.spelled up
+          Announces frame (prefixes_in message.options) (holds multicast_prefix destination.0) (leaving now (times_out start now placed source ra) (number_of source.0) second) received fit up
           (leaving_same now (times_out start now placed source ra) (number_of source.0) second
           ∙ releasing_same now (said placed source message) (neighbour_history placed) third
           ∙ failing_same now gone (neighbour_history c) drawn
           ∙ redrawing_same now start ra.reachable_time (redraws (base_reachable_time placed) ra.reachable_time) row
+          ∙ heard_same listed placed
           ∙ room_same start c now (said c source message) gone placed p)
-          (subst (λ (infos : List PrefixInfo). d ≡ then_options start now (holds multicast_prefix destination.0) infos (leaving now (times_out start now placed source ra) (number_of source.0) second)) s.prefixes h)
+          (ap address_history h)
 
       brings_message : (body : Body) → takes_target c source body ≡ true → is_awake start c source body ≡ true → (d : Chronicle) → MessageAdds start now source destination message body c d → Brings start now event c d
       brings_message (bodies.Ns ns) takes awake d h =
           brings_solicited (bytes_eq source.0 unspecified_address) ns.target d (tentative_else (is_assigned c ns.target.0) (is_tentative c ns.target.0) (bytes_eq source.0 unspecified_address) takes) h
-      brings_message (bodies.Ra ra) takes awake d h = brings_names ra h.0 h.1 d (up_by (is_up start c) (is_tentative c (link_local start).0) awake) h.2 h.3
+      brings_message (bodies.Ra ra) takes awake d h = brings_names ra true h.0 h.1 d (up_by (is_up start c) (is_tentative c (link_local start).0) awake) h.2 h.3
       brings_message (bodies.Na na) takes awake d h = brings_advertised na.target h.0 d h.1 h.2
       brings_message bodies.Rs takes awake d h =
           Nothing (ap address_history h.3 ∙ planning_same now start (wants_answer start c) _ ∙ known_place h.0 h.1 h.2)
       brings_message (bodies.Redirect r) takes awake d h = Nothing (ap address_history h.3 ∙ known_place h.0 h.1 h.2)
 
+  -- ---- a message is taken in part
+
+  ignoring_same : (limits : List Limit) (c : Chronicle) → Same c (ignoring now limits c)
+  ignoring_same [] c = refl
+  ignoring_same (limit ∷ limits) c = ignoring_same limits ((now, Ignored limit) ∷ c)
+
+  -- what adds no row of an own address
+  brings_further : {d e : Chronicle} → Same d e → Brings start now event c d → Brings start now event c e
+  brings_further same (Nothing is) = Nothing (same ∙ is)
+  brings_further same (Conflicts key tentative is) = Conflicts key tentative (same ∙ is)
+  brings_further same (Announces frame infos to_all e received fit up from is) = Announces frame infos to_all e received fit up from (same ∙ is)
+  brings_further same (SetsKnown key lifetimes not known is) = SetsKnown key lifetimes not known (same ∙ is)
+  brings_further same (FormsSet own set not unknown up is) = FormsSet own set not unknown up (same ∙ is)
+  brings_further same (EndsKnown key not known is) = EndsKnown key not known (same ∙ is)
+
+  module _ (source destination : Addr) (message : Parts) (taken : Taken) where
+    answered_same : (mac : Option Mac) (packet : List ℕ) (c : Chronicle) → Same c (asked.answered_at start now mac packet c)
+    answered_same None packet c = refl
+    answered_same (Some mac) packet c = refl
+
+    module _ (frame : List ℕ) (received : event ≡ events.Receives frame) (fit : IsBytes frame → AllByRecursion FitsPrefix (prefixes_in taken.message.options)) where
+      brings_part_answer : (ns : NeighborSolicitation) → takes_target c source (bodies.Ns ns) ≡ true → is_awake start c source (bodies.Ns ns) ≡ true → (place : Bool) (d : Chronicle)
+          → MatchBool place (MessageAdds start now source destination taken.message (bodies.Ns ns) c d) (d ≡ asked.then_answered start now source destination ns.target message taken.message c) → Brings start now event c d
+      brings_part_answer ns takes awake true d h = brings_message source destination taken.message frame received fit (bodies.Ns ns) takes awake d h
+      brings_part_answer ns takes awake false d h = Nothing (ap address_history h ∙ answered_same (asked.answer_address (first_slla message.options)) _ ((now, Heard source destination taken.message) ∷ c))
+
+      brings_part : (body : Body) → takes_target c source body ≡ true → is_awake start c source body ≡ true → (d : Chronicle) → PartAdds start now source destination message taken body c d → Brings start now event c d
+      brings_part (bodies.Ns ns) takes awake d h = brings_part_answer ns takes awake taken.place d h
+      brings_part (bodies.Ra ra) takes awake d h =
+          brings_names source destination taken.message frame received fit ra taken.listed h.0 h.1 d (up_by source destination taken.message (is_up start c) (is_tentative c (link_local start).0) awake) h.2 h.3
+      brings_part (bodies.Na na) takes awake d h = brings_message source destination taken.message frame received fit (bodies.Na na) takes awake d h
+      brings_part bodies.Rs takes awake d h = brings_message source destination taken.message frame received fit bodies.Rs takes awake d h
+      brings_part (bodies.Redirect r) takes awake d h = brings_message source destination taken.message frame received fit (bodies.Redirect r) takes awake d h
+
+  -- what is taken has prefixes that fit
+  placed_fits : (source : Addr) (message : Parts) (taken : Taken) → taken.message ≡ record { body = message.body; options = as_placed taken.place message.options } → AllByRecursion FitsPrefix (prefixes_in message.options)
+      → AllByRecursion FitsPrefix (prefixes_in taken.message.options)
+  placed_fits source message taken is fit =
+      subst (λ (m : Parts). AllByRecursion FitsPrefix (prefixes_in m.options)) (sym is)
+      (subst (λ (infos : List PrefixInfo). AllByRecursion FitsPrefix infos) (sym (prefixes_as_placed taken.place message.options)) fit)
+
+  taken_fits : (source : Addr) (message : Parts) (taken : Taken) (body : Body) → IsTakenInPart start c now source message body taken → AllByRecursion FitsPrefix (prefixes_in message.options)
+      → AllByRecursion FitsPrefix (prefixes_in taken.message.options)
+  taken_fits source message taken (bodies.Ra ra) t fit =
+      let options = options_taken start.limits start.mac now (record { prefixes = t.prefixes; addresses = map key_of t.known; servers = t.servers; names = t.names }) message.options in
+      subst (λ (m : Parts). AllByRecursion FitsPrefix (prefixes_in m.options)) (sym t.message_is)
+      (subst (λ (infos : List PrefixInfo). AllByRecursion FitsPrefix infos) (sym (prefixes_as_placed taken.place options))
+      (part_fits start.limits start.mac now (record { prefixes = t.prefixes; addresses = map key_of t.known; servers = t.servers; names = t.names }) message.options fit))
+  taken_fits source message taken (bodies.Ns ns) t fit = placed_fits source message taken t.message_is fit
+  taken_fits source message taken (bodies.Na na) t fit = placed_fits source message taken t.message_is fit
+  taken_fits source message taken bodies.Rs t fit = placed_fits source message taken t.message_is fit
+  taken_fits source message taken (bodies.Redirect r) t fit = placed_fits source message taken t.message_is fit
+
+  module _ (source destination : Addr) (message : Parts) where
     -- what is heard is for this node, and the frame spells its prefixes
     heard : {outcome : Outcome} (frame : List ℕ) → Judges start c now frame outcome (hears source destination message) → IsRead start.policies start.mac frame start.role outcome
         → IsForUs start c source destination message × IsSpelled frame message.options
@@ -332,6 +399,18 @@ module _ (start : Start) (now : ℕ) (event : Event) (c : Chronicle) where
   brings_fate lost_hop_limit packet bytes d h = Nothing (ap address_history h)
   brings_fate (sent next) packet bytes d h = brings_sends_on (redirect_to start now packet c) packet bytes _ d h
 
+  module _ (source destination : Addr) (message : Parts) (frame : List ℕ) (received : event ≡ events.Receives frame) (fit : IsBytes frame → AllByRecursion FitsPrefix (prefixes_in message.options))
+      (takes : takes_target c source message.body ≡ true) (awake : is_awake start c source message.body ≡ true) where
+    brings_in_part : (parts : Bool) (limit : Limit) (d : Chronicle) → MatchBool parts (InPart start now source destination message c d) (d ≡ (now, Refused (Full limit)) ∷ c) → Brings start now event c d
+    brings_in_part true limit d h =
+        brings_further (ap address_history h.all ∙ ignoring_same h.taken.ignored h.told)
+        (brings_part source destination message h.taken frame received (λ bytes. taken_fits source message h.taken message.body h.is_taken (fit bytes)) message.body takes awake h.told h.adds)
+    brings_in_part false limit d h = Nothing (ap address_history h)
+
+    brings_heard : (full : Option Limit) (d : Chronicle) → HeardAdds start now full source destination message c d → Brings start now event c d
+    brings_heard None d h = brings_message source destination message frame received fit message.body takes awake d h
+    brings_heard (Some limit) d h = brings_in_part start.policies.parts limit d h
+
   brings_verdict : (frame : List ℕ) → event ≡ events.Receives frame → (outcome : Outcome) (v : Verdict) (d : Chronicle) → IsRead start.policies start.mac frame start.role outcome → Judges start c now frame outcome v
       → VerdictAdds start now frame v c d → Brings start now event c d
   brings_verdict frame received outcome (drops why) d says j h = Nothing (ap address_history h)
@@ -339,8 +418,9 @@ module _ (start : Start) (now : ℕ) (event : Event) (c : Chronicle) where
   brings_verdict frame received outcome (goes_on packet) d says j h = brings_fate (fate (is_own c) (routes (route_history c)) packet.header) packet (packet_bytes frame) d h
   brings_verdict frame received outcome (hears source destination message) d says j h =
       let u = heard source destination message frame j says in
-      brings_refused (option_map Full h.0) (MessageAdds start now source destination message message.body c) d
-      (brings_message source destination message frame received u.1 message.body u.0.target u.0.awake d) h.2
+      let fit : IsBytes frame → AllByRecursion FitsPrefix (prefixes_in message.options) = λ bytes.
+      subst (λ (infos : List PrefixInfo). AllByRecursion FitsPrefix infos) (sym u.1.prefixes) (heard_fit frame u.1.spelling bytes u.1.spelled) in
+      brings_heard source destination message frame received fit u.0.target u.0.awake h.0 d h.2
 
   -- ---- a packet is to be sent
 
@@ -393,7 +473,7 @@ module _ (start : Start) (now : ℕ) (event : Event) (c : Chronicle) where
   brings_set own is false true false true up_is own_is known_is d h =
       SetsKnown (number_of own.address.0) own.lifetimes (differs own_is) known_is (ap address_history h)
   brings_set own is false true false false up_is own_is known_is d h =
-      brings_refused (option_map Full (no_room h.0)) _ d (λ x. FormsSet own is (differs own_is) known_is up_is x) h.2
+      brings_refused (option_map Full (no_room h.0)) _ d (λ x. FormsSet own is (differs own_is) known_is up_is (ap address_history x)) h.2
 
   brings_withdrawn : (key : ℕ) (itself known : Bool) → (key == link_local_key start) ≡ itself → states.is_known (story_of c key) ≡ known → (d : Chronicle)
       → d ≡ cond (known && not itself) ((now, Address key addresses.Ended) ∷ c) c → Brings start now event c d

@@ -1,6 +1,6 @@
 -- What each table takes of a message in part is what has room there.
-use Rattle.std.proofs.Common.{◌≡◌, ℕ, Bool, true, false, ltb, List, [], ◌∷◌, ◌++◌, length, map, Option, refl, sym, ◌∙◌, ap, append_assoc, inl, inr, subst}
-use Rattle.std.specs.Prelude.{nat_le, ◌&&◌, not, if◌then◌else◌}
+use Rattle.std.proofs.Common.{◌≡◌, ℕ, Bool, true, false, ltb, List, [], ◌∷◌, ◌++◌, length, map, refl, sym, ◌∙◌, ap, inl, inr, subst}
+use Rattle.std.specs.Prelude.{nat_le, ◌&&◌, if◌then◌else◌}
 use Rattle.std.proofs.lemmas.Bool.{cases_Bool, cond-true, cond-false}
 use Rattle.std.proofs.Math.Bool.{and-true, and-false}
 use Rattle.nd_addr.specs.declared.addr.Addr.{Addr}
@@ -14,7 +14,6 @@ use Rattle.nd_table.specs.Listing.{announced, fits, with_room}
 use Rattle.nd_table.specs.ListingKept.{announced_all}
 use Rattle.nd_params.specs.RouterAdvertisement.{first_mtu}
 use Rattle.nd_routers.specs.OnLinkPrefixes as on_link
-use Rattle.nd_slaac.specs.PrefixOption as own
 use Rattle.nd_slaac.specs.PrefixOption.{is_taken, named_by, prefixes_in}
 use Rattle.nd_slaac.specs.Room.{fits_in, would_form}
 use Rattle.nd_slaac.specs.Room as addresses

@@ -10,7 +10,7 @@ use Rattle.nd_slaac.specs.Due as addresses_due
 use Rattle.nd_slaac.specs.Due.{Falls, Ends, Solicits, Assigns, IsDue, NoneOverdue, key_in, happens, due_row}
 use Rattle.nd_slaac.specs.History as addresses
 use Rattle.nd_slaac.specs.MayCome.{IsHistory, MayCome, Held}
-use Rattle.nd_slaac.specs.PrefixOption.{is_taken, prefixes_in, named_by, lifetimes_of}
+use Rattle.nd_slaac.specs.PrefixOption.{is_taken, named_by, lifetimes_of}
 use Rattle.nd_slaac.specs.State as states
 use Rattle.nd_slaac.proofs.Histories.{held}
 use Rattle.nd_slaac.proofs.Overdue.{still_none}
@@ -21,6 +21,7 @@ use Rattle.nd_chronicle.specs.Happening.{Chronicle, Address, Passed, TooLate, la
 use Rattle.nd_chronicle.specs.Histories.{address_history, parameter_history}
 use Rattle.nd_chronicle.specs.InForce.{retrans_timer}
 use Rattle.nd_chronicle.specs.OwnAddress.{story_of}
+use Rattle.nd_chronicle.specs.ByHand.{setting}
 use Rattle.nd_chronicle.specs.RouterAdvertisement.{delay_for, forming, naming, then_option, then_options}
 use Rattle.nd_chronicle.specs.Event.{Event, EventAdds}
 use Rattle.nd_chronicle.specs.Due.{Due}
@@ -115,11 +116,11 @@ module _ (start : Start) where
     fine_event event c d (FormsSet own set not unknown up is) f =
         let key = number_of own.address.0 in
         let formed = forming start now false key own.lifetimes c in
-        subst (λ (x : Chronicle). Fine start.transmits x now) (sym is)
+        fine_same start.transmits {c = setting start now key own.lifetimes formed} is
         (fine_row start.transmits key (addresses.SetByHand own.lifetimes) (ap states.is_known (same_story key now (addresses.Formed 0 (retrans_timer c) (Some own.lifetimes)) (address_history c) refl))
         (fine_forming false key own.lifetimes c unknown f))
-    fine_event event c d (Announces frame message to_all e received spelled up same is) f =
-        subst (λ (x : Chronicle). Fine start.transmits x now) (sym is) (fine_options to_all (prefixes_in message.options) e (fine_same start.transmits same f))
+    fine_event event c d (Announces frame infos to_all e received fit up same is) f =
+        fine_same start.transmits {c = then_options start now to_all infos e} is (fine_options to_all infos e (fine_same start.transmits same f))
 
   -- ---- the newest moment
 

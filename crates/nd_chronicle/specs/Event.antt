@@ -1,5 +1,5 @@
 -- What an event adds to a chronicle: a frame, a packet to be sent, a command. The milliseconds up to it have passed.
-use Rattle.std.specs.Prelude.{◌≡◌, ℕ, ◌+◌, nat_lt, if◌then◌else◌, MatchBool, List, [], ◌∷◌, length, take, Option, Some, None}
+use Rattle.std.specs.Prelude.{◌≡◌, ℕ, true, ◌+◌, nat_lt, if◌then◌else◌, MatchBool, List, [], ◌∷◌, length, take, Option, Some, None}
 use Rattle.std.specs.List.{All}
 use Rattle.nd_addr.specs.declared.addr.Addr.{Addr}
 use Rattle.nd_addr.specs.declared.mac.Mac.{Mac}
@@ -28,7 +28,7 @@ use Rattle.nd_routers.specs.History.{announcements}
 use Rattle.nd_routers.specs.Routers.{same}
 use Rattle.nd_forwarding.specs.declared.route.Route.{Route}
 use Rattle.nd_chronicle.specs.Start.{Start}
-use Rattle.nd_chronicle.specs.Happening.{Chronicle, Heard, Dropped, Up, Neighbour, LeftRouter, ClearedPrefixes, ClearedRedirects, ClearedDns, Configured, Offered, RoutePut, Sent, Lost, Shown, Limit, Refusal, Disabled, NotOurs, TooLong, NoRoute, Forgotten}
+use Rattle.nd_chronicle.specs.Happening.{Chronicle, Heard, Dropped, Up, Neighbour, LeftRouter, ClearedPrefixes, ClearedRedirects, ClearedDns, Configured, Offered, RoutePut, Sent, Lost, Shown, Limit, Refusal, Refused, Full, Disabled, NotOurs, TooLong, NoRoute, Forgotten}
 use Rattle.nd_chronicle.specs.Histories.{neighbour_history, router_history}
 use Rattle.nd_chronicle.specs.InForce.{hop_limit, link_mtu, reachable_time}
 use Rattle.nd_chronicle.specs.OwnAddress.{is_assigned, is_disabled}
@@ -39,9 +39,10 @@ use Rattle.nd_chronicle.specs.Hearing.{Verdict, hears, goes_up, goes_on, drops, 
 use Rattle.nd_chronicle.specs.Message.{said, PlaceFor, RoomFor, failing_for, releasing}
 use Rattle.nd_chronicle.specs.RouterAdvertisement.{then_advertised}
 use Rattle.nd_chronicle.specs.ByHand.{SetAdds, withdrawing}
-use Rattle.nd_chronicle.specs.NeighborSolicitation.{ThenSolicited}
+use Rattle.nd_chronicle.specs.NeighborSolicitation.{ThenSolicited, then_answered}
 use Rattle.nd_chronicle.specs.NeighborAdvertisement.{then_neighbor_advertised}
 use Rattle.nd_chronicle.specs.Full.{Fills}
+use Rattle.nd_chronicle.specs.Parts.{Taken, IsTakenInPart, ignoring}
 use Rattle.nd_chronicle.specs.Refused.{UnlessRefused, UnlessFull, AtRouter}
 use Rattle.nd_chronicle.specs.Advertising.{planning, wants_answer, ceasing, full_of_offers, full_of_routes}
 use Rattle.nd_chronicle.specs.Forwarding.{ForwardAdds}
@@ -103,7 +104,7 @@ module _ (start : Start) (now : ℕ) where
   MessageAdds source destination message (bodies.Ns ns) c d = ThenSolicited start now source destination ns.target message c d
   MessageAdds source destination message (bodies.Ra ra) c d =
       (gone : Option ℕ) × (placed : Chronicle) × RoomFor start c now (said c source message) gone placed
-      × (d ≡ then_advertised start now source destination ra message gone (neighbour_history c) placed)
+      × (d ≡ then_advertised start now source destination ra message true gone (neighbour_history c) placed)
   MessageAdds source destination message (bodies.Na na) c d =
       (placed : Chronicle) × PlaceFor start c now (said c source message) placed × (d ≡ then_neighbor_advertised now source destination na.target message placed)
   MessageAdds source destination message (bodies.Redirect r) c d =
@@ -115,12 +116,34 @@ module _ (start : Start) (now : ℕ) where
       × (d ≡ planning start now (wants_answer start c) (releasing now (said c source message) (neighbour_history placed)
       (failing_for now gone (neighbour_history c) ((now, Heard source destination message) ∷ placed))))
 
+  -- the same of what is taken of a message, where it isn't all of it: its router may not be listed, and an asker may get no entry
+  abbrev pub PartAdds : Addr → Addr → Parts → Taken → Body → Chronicle → Chronicle → Type 0
+  PartAdds source destination message taken (bodies.Ns ns) c d =
+      MatchBool taken.place (MessageAdds source destination taken.message (bodies.Ns ns) c d) (d ≡ then_answered start now source destination ns.target message taken.message c)
+  PartAdds source destination message taken (bodies.Ra ra) c d =
+      (gone : Option ℕ) × (placed : Chronicle) × RoomFor start c now (said c source taken.message) gone placed
+      × (d ≡ then_advertised start now source destination ra taken.message taken.listed gone (neighbour_history c) placed)
+  PartAdds source destination message taken body c d = MessageAdds source destination taken.message body c d
+
+  -- with the policy `parts`: what is taken adds what it adds, and then each limit is reported of which a part was passed over
+  pub record InPart (source destination : Addr) (message : Parts) (c d : Chronicle) : Type 0 where
+    pub taken : Taken
+    pub is_taken : IsTakenInPart start c now source message message.body taken
+    pub told : Chronicle
+    pub adds : PartAdds source destination message taken message.body c told
+    pub all : d ≡ ignoring now taken.ignored told
+
+  -- what a message adds where a table has no room for all of it, or where each has: it is taken in part, or refused
+  abbrev pub HeardAdds : Option Limit → Addr → Addr → Parts → Chronicle → Chronicle → Type 0
+  HeardAdds None source destination message c d = MessageAdds source destination message message.body c d
+  HeardAdds (Some limit) source destination message c d = MatchBool start.policies.parts (InPart source destination message c d) (d ≡ (now, Refused (Full limit)) ∷ c)
+
   abbrev pub VerdictAdds : List ℕ → Verdict → Chronicle → Chronicle → Type 0
   VerdictAdds frame (drops why) c d = d ≡ (now, Dropped why) ∷ c
   VerdictAdds frame (goes_up packet) c d = d ≡ (now, Up (packet_bytes frame)) ∷ c
   VerdictAdds frame (goes_on packet) c d = ForwardAdds start now packet (packet_bytes frame) c d
   VerdictAdds frame (hears source destination message) c d =
-      (full : Option Limit) × Fills start c now source message message.body full × UnlessFull now full (MessageAdds source destination message message.body c) c d
+      (full : Option Limit) × Fills start c now source message message.body full × HeardAdds full source destination message c d
 
   pub record FrameAdds (frame : List ℕ) (c d : Chronicle) : Type 0 where
     pub verdict : Verdict

@@ -1,6 +1,6 @@
 -- What is taken of a message with the policy `parts` where a table has no room for all of it: what has room, in order. What has none is passed over, as if the
 -- message didn't say it (RFC 8106, section 5.3.1: a host may ignore what is above its limit).
-use Rattle.std.specs.Prelude.{◌≡◌, ℕ, Bool, true, false, ◌&&◌, not, if◌then◌else◌, List, [], ◌∷◌, ◌++◌, filter, map}
+use Rattle.std.specs.Prelude.{◌≡◌, ◌≤◌, ℕ, ◌==◌, nat_lt, length, Bool, true, false, ◌&&◌, ◌||◌, not, is_some, if◌then◌else◌, List, [], ◌∷◌, ◌++◌, filter, map}
 use Rattle.nd_addr.specs.declared.addr.Addr.{Addr}
 use Rattle.nd_addr.specs.declared.mac.Mac.{Mac}
 use Rattle.nd_addr.specs.Number.{number_of}
@@ -13,7 +13,7 @@ use Rattle.nd_decode.specs.declared.body.Body.TheVariants as bodies
 use Rattle.nd_decode.specs.declared.prefix_info.PrefixInfo.{PrefixInfo}
 use Rattle.nd_decode.specs.declared.router_advertisement.RouterAdvertisement.{RouterAdvertisement}
 use Rattle.nd_table.specs.declared.lasting.Lasting.{Lasting}
-use Rattle.nd_table.specs.Listing.{Lists, fits, with_room}
+use Rattle.nd_table.specs.Listing.{Lists, announced, end_in, fits, open_at, with_room}
 use Rattle.nd_table.specs.ListingKept.{announced_all}
 use Rattle.nd_routers.specs.History.{announcements}
 use Rattle.nd_routers.specs.OnLinkPrefixes as on_link
@@ -70,6 +70,13 @@ module _ (limits : Limits) (mac : Mac) (now : ℕ) where
   abbrev pub options_taken : Filling → List Said → List Said
   options_taken f [] = []
   options_taken f (option ∷ options) = option_taken f option ∷ options_taken (filled (option_taken f option) f) options
+
+-- An announcement is passed over only where it would enter, and as many are listed as the limit: it has room if it takes its key away, or refreshes it.
+abbrev pub TakesByRoom : {K : Type 0} → (K → K → Bool) → Type 0
+TakesByRoom {K} same = (limit now : ℕ) (key : K) (lifetime : ℕ) (more : List (K × ℕ)) (entries : List (Lasting K)) → length entries ≤ limit
+    → with_room same limit now ((key, lifetime) ∷ more) entries
+    ≡ (if (lifetime == 0) || (is_some (end_in same key (open_at now entries)) || nat_lt (length (open_at now entries)) limit) then (key, lifetime) ∷ with_room same limit now more (announced same now key lifetime entries)
+    else with_room same limit now more entries)
 
 -- ---- the link-layer address of a neighbour for which there is no room
 
@@ -133,6 +140,6 @@ pub record TakenOfMessage (start : Start) (c : Chronicle) (now : ℕ) (source : 
   pub listed_is : taken.listed ≡ true
   pub ignored_is : taken.ignored ≡ passed_over taken.place Neighbours
 
-abbrev pub IsTaken : Start → Chronicle → ℕ → Addr → Parts → Body → Taken → Type 0
-IsTaken start c now source message (bodies.Ra ra) taken = TakenOfAdvertisement start c now source ra message taken
-IsTaken start c now source message _ taken = TakenOfMessage start c now source message taken
+abbrev pub IsTakenInPart : Start → Chronicle → ℕ → Addr → Parts → Body → Taken → Type 0
+IsTakenInPart start c now source message (bodies.Ra ra) taken = TakenOfAdvertisement start c now source ra message taken
+IsTakenInPart start c now source message _ taken = TakenOfMessage start c now source message taken

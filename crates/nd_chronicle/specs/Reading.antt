@@ -35,9 +35,13 @@ read_body policies body = body
 
 -- ---- the policy `self`
 
--- no other node has this link-layer address: a group's, with the lowest bit of its first byte set (RFC 7042, section 2.1), zeros, or the node's own
+-- a group's link-layer address has the lowest bit of its first byte set (RFC 7042, section 2.1)
+abbrev pub is_group : Mac → Bool
+is_group mac = is_set (slice_index mac.0 0) 1
+
+-- no other node has this link-layer address: a group's, zeros, or the node's own
 abbrev pub is_of_no_other : Mac → Mac → Bool
-is_of_no_other own mac = is_set (slice_index mac.0 0) 1 || bytes_eq mac.0 (replicate 6 0) || bytes_eq mac.0 own.0
+is_of_no_other own mac = is_group mac || bytes_eq mac.0 (replicate 6 0) || bytes_eq mac.0 own.0
 
 -- the node's own address, where options that give it are passed over: with the policy
 abbrev pub own_address : Policies → Mac → Option Mac

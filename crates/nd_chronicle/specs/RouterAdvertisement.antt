@@ -17,7 +17,7 @@ use Rattle.nd_slaac.specs.History.{Lifetimes}
 use Rattle.nd_slaac.specs.PrefixOption.{is_taken, named_by, lifetimes_of, prefixes_in}
 use Rattle.nd_slaac.specs.State.{is_by_hand, is_known}
 use Rattle.nd_chronicle.specs.Start.{Start}
-use Rattle.nd_chronicle.specs.Happening.{Chronicle, Drew, ForReachableTime, ForDelay, Address, Heard}
+use Rattle.nd_chronicle.specs.Happening.{Chronicle, Drew, ForReachableTime, ForDelay, Address, Heard, Unlisted}
 use Rattle.nd_chronicle.specs.Histories.{neighbour_history, router_history}
 use Rattle.nd_chronicle.specs.InForce.{base_reachable_time, retrans_timer}
 use Rattle.nd_chronicle.specs.Generator.{stream_left, reachable_drawn, delay_drawn}
@@ -64,12 +64,17 @@ module _ (start : Start) (at : ℕ) where
   abbrev pub times_out : Chronicle → Addr → RouterAdvertisement → Bool
   times_out c source ra = (ra.router_lifetime == 0) && stands same (number_of source.0) (announcements (router_history c)) at
 
+  -- it is heard, and a router for which there is no room in the list is not in it
+  abbrev pub heard_from : Addr → Addr → Parts → Bool → Chronicle → Chronicle
+  heard_from source destination message true c = (at, Heard source destination message) ∷ c
+  heard_from source destination message false c = (at, Unlisted (number_of source.0)) ∷ (at, Heard source destination message) ∷ c
+
   -- one that gave way to its sender fails, with what waited for it by this history
-  abbrev pub then_advertised : Addr → Addr → RouterAdvertisement → Parts → Option ℕ → List neighbours.Row → Chronicle → Chronicle
-  then_advertised source destination ra message gone before c =
+  abbrev pub then_advertised : Addr → Addr → RouterAdvertisement → Parts → Bool → Option ℕ → List neighbours.Row → Chronicle → Chronicle
+  then_advertised source destination ra message listed gone before c =
       then_options (holds multicast_prefix destination.0) (prefixes_in message.options)
       (leaving at (times_out c source ra) (number_of source.0)
       (releasing at (said c source message) (neighbour_history c)
       (failing_for at gone before
       (redrawing ra.reachable_time (redraws (base_reachable_time c) ra.reachable_time)
-      ((at, Heard source destination message) ∷ c)))))
+      (heard_from source destination message listed c)))))

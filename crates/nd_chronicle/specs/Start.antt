@@ -23,10 +23,12 @@ pub record Limits : Type 0 where
   pub routes : ℕ
   pub waiting : ℕ
 
--- what a node does on a link that isn't trusted, each where it is asked for: a neighbour that is only asked for goes before one that speaks is refused;
--- numbers of an advertisement that are outside their ranges say nothing; nothing is heard of what claims to come from the node itself (the policy `self`); a
--- router sends on only what came to its own link-layer address
+-- what a node does on a link that isn't trusted, each where it is asked for: a message is taken in part where a table has no room for all of it (RFC 8106,
+-- section 5.3.1); a neighbour that is only asked for goes before one that speaks is refused; numbers of an advertisement that are outside their ranges
+-- say nothing; nothing is heard of what claims to come from the node itself (the policy `self`); a router sends on only what came to its own link-layer
+-- address
 pub record Policies : Type 0 where
+  pub parts : Bool
   pub speakers : Bool
   pub timers : Bool
   pub own : Bool
@@ -34,7 +36,7 @@ pub record Policies : Type 0 where
 
 -- none is asked for
 abbrev pub no_policies : Policies
-no_policies = record { speakers = false; timers = false; own = false; unicast = false }
+no_policies = record { parts = false; speakers = false; timers = false; own = false; unicast = false }
 
 -- when it starts, in milliseconds, as a host or as a router, its link-layer address, how many solicitations it sends for each address (RFC
 -- 4862, section 5.1, DupAddrDetectTransmits), the words of its generator, its limits, and its policies

@@ -1,9 +1,21 @@
 //! Laws of the definitions, each the contract of a function that does nothing.
 
-ghost use Rattle.std.specs.Prelude.{◌≡◌, ◌≢◌, ◌<◌, ◌≤◌, ◌+◌, ◌++◌, ◌∷◌, ℕ, List, None, false, true};
+ghost use Rattle.std.specs.Prelude.{◌≡◌, ◌≢◌, ◌<◌, ◌≤◌, ◌+◌, ◌++◌, ◌∷◌, ℕ, Bool, List, None, false, true};
 ghost use Rattle.nd_addr.specs.Bytes.{AreBytes};
 ghost use Rattle.nd_addr.specs.Number.{addr_at, number_of};
 ghost use Rattle.nd_addr.specs.declared.addr.Addr.{Addr};
+ghost use Rattle.nd_addr.specs.declared.mac.Mac.{Mac};
+ghost use Rattle.nd_addr.specs.Same.{same_addr, same_prefix};
+ghost use Rattle.nd_decode.specs.Message.{Parts};
+ghost use Rattle.nd_decode.specs.Option.{Said};
+ghost use Rattle.nd_dns.specs.AnnouncedNames.{names_told, same_name};
+ghost use Rattle.nd_dns.specs.AnnouncedServers.{servers_told};
+ghost use Rattle.nd_routers.specs.OnLinkPrefixes as on_link;
+ghost use Rattle.nd_slaac.specs.PrefixOption.{prefixes_in};
+ghost use Rattle.nd_slaac.specs.Room as own;
+ghost use Rattle.nd_table.specs.Listing.{with_room};
+ghost use Rattle.nd_chronicle.specs.Parts.{Filling, TakesByRoom, options_taken};
+ghost use Rattle.nd_chronicle.specs.RouterAdvertisement.{then_options};
 ghost use Rattle.nd_decode.specs.declared.body.Body.TheVariants as bodies;
 ghost use Rattle.nd_table.specs.History.{Past};
 ghost use Rattle.nd_compose.specs.Frames.{unspecified, all_nodes, solicited_node};
@@ -11,13 +23,13 @@ ghost use Rattle.nd_compose.specs.Meaning.{IsUnicast, IsDetection, IsDefence};
 ghost use Rattle.nd_slaac.specs.History.{Assigned, Row, RowKind, Solicited};
 ghost use Rattle.nd_slaac.specs.MayCome.{Held};
 ghost use Rattle.nd_slaac.specs.State.{is_assigned, is_known};
-ghost use Rattle.nd_chronicle.specs.Start.{Start, link_local_key};
+ghost use Rattle.nd_chronicle.specs.Start.{Limits, Start, link_local_key};
 ghost use Rattle.nd_chronicle.specs.Happening.{Address, Chronicle, Happening, Heard, Passed, Refusal, Refused};
 ghost use Rattle.nd_chronicle.specs.Histories.{address_history};
 ghost use Rattle.nd_chronicle.specs.OwnAddress.{is_own, is_up, story_of};
 ghost use Rattle.nd_chronicle.specs.OwnAddress as own_addresses;
-ghost use Rattle.nd_chronicle.specs.Event.{ComeAsBytes, Event, EventAdds, FrameAdds};
-ghost use Rattle.nd_chronicle.specs.Hearing.{is_awake, is_foreign};
+ghost use Rattle.nd_chronicle.specs.Event.{ComeAsBytes, Event, EventAdds, FrameAdds, VerdictAdds};
+ghost use Rattle.nd_chronicle.specs.Hearing.{hears, is_awake, is_foreign};
 ghost use Rattle.nd_chronicle.specs.Reading.{read_message};
 ghost use Rattle.nd_chronicle.specs.NeighborAdvertisement.{then_neighbor_advertised};
 ghost use Rattle.nd_chronicle.specs.NeighborSolicitation.{then_tried};
@@ -72,6 +84,25 @@ pub fn refusals_change_nothing()
 /// A refused event adds its refusal alone, and any other adds no refusal: so a refusal is the last row that its event adds.
 pub fn refusals_come_alone()
     ensures { (start : Start) (now : ℕ) (event : Event) (c d : Chronicle) → EventAdds start now event c d → RefusedOrNot now c d }
+{}
+
+/// With the policy `parts` no message that is heard is refused (RFC 8106, section 5.3.1, lets a host ignore what is above its limit): what it adds is no refusal.
+pub fn no_message_is_refused()
+    ensures { (start : Start) (now : ℕ) (frame : List ℕ) (source destination : Addr) (message : Parts) (c d : Chronicle) → start.policies.parts ≡ true
+        → VerdictAdds start now frame (hears source destination message) c d → GrowsUnrefused c d }
+{}
+
+/// With the policy `parts` a Router Advertisement that doesn't fit is taken but for what has no room, in its order (RFC 8106, section 5.3.1): of the announcements
+/// of a table those that `with_room` leaves. A refresh or a removal always has room, and a new one while fewer are listed than the limit.
+pub fn what_has_room_is_taken()
+    ensures prefixes { (limits : Limits) (mac : Mac) (now : ℕ) (f : Filling) (options : List Said) → on_link.prefixes_in (options_taken limits mac now f options) ≡ with_room same_prefix limits.prefixes now (on_link.prefixes_in options) f.prefixes }
+    ensures addresses { (limits : Limits) (mac : Mac) (now : ℕ) (f : Filling) (options : List Said) (start : Start) (to_all : Bool) (c : Chronicle)
+        → then_options start now to_all (prefixes_in (options_taken limits mac now f options)) c ≡ then_options start now to_all (own.with_room limits.addresses mac f.addresses (prefixes_in options)) c }
+    ensures servers { (limits : Limits) (mac : Mac) (now : ℕ) (f : Filling) (options : List Said) → servers_told (options_taken limits mac now f options) ≡ with_room same_addr limits.servers now (servers_told options) f.servers }
+    ensures names { (limits : Limits) (mac : Mac) (now : ℕ) (f : Filling) (options : List Said) → names_told (options_taken limits mac now f options) ≡ with_room same_name limits.names now (names_told options) f.names }
+    ensures prefix { TakesByRoom same_prefix }
+    ensures server { TakesByRoom same_addr }
+    ensures name { TakesByRoom same_name }
 {}
 
 /// The answer to an event says what the event added: a refusal alone, or rows none of which is a refusal.

@@ -9,17 +9,20 @@ use Rattle.nd_addr.specs.declared.role.Role.{Role}
 use Rattle.nd_addr.specs.declared.role.Role.TheVariants.{Host, Router}
 use Rattle.nd_addr.specs.Ip6.{PacketParts}
 use Rattle.nd_addr.specs.Kind.{multicast_prefix, unspecified_address}
+use Rattle.nd_addr.specs.Prefix.{PrefixValue}
 use Rattle.nd_addr.specs.Number.{mac_at, number_of, holds}
 use Rattle.nd_addr.specs.Same.{same_addr, addrs_tell, same_prefix, prefixes_tell, bytes_tell}
 use Rattle.nd_decode.specs.Message.{Parts}
 use Rattle.nd_decode.specs.Option.{Said}
 use Rattle.nd_decode.specs.declared.body.Body.{Body}
 use Rattle.nd_decode.specs.declared.body.Body.TheVariants as bodies
+use Rattle.nd_decode.specs.declared.neighbor_solicitation.NeighborSolicitation.{NeighborSolicitation}
 use Rattle.nd_decode.specs.declared.router_advertisement.RouterAdvertisement.{RouterAdvertisement}
 use Rattle.nd_dns.specs.AnnouncedNames.{same_name, names_told}
 use Rattle.nd_dns.specs.AnnouncedServers.{servers_told}
 use Rattle.nd_compose.specs.Frames.{answer_frame, multicast_mac, open_mac}
-use Rattle.nd_table.specs.Listing.{fits}
+use Rattle.nd_table.specs.declared.lasting.Lasting.{Lasting}
+use Rattle.nd_table.specs.Listing.{Lists, fits}
 use Rattle.nd_table.specs.Shown as shown_lifetimes
 use Rattle.nd_addr.specs.Frame.{addressed}
 use Rattle.nd_neighbour.specs.GivingWay.{GivesWay}
@@ -37,30 +40,31 @@ use Rattle.nd_routers.specs.OnLinkPrefixes.{prefixes_in}
 use Rattle.nd_routers.specs.Routers.{same}
 use Rattle.nd_forwarding.specs.Forward.{Fate, lost_no_route, lost_hop_limit, sent, fate}
 use Rattle.nd_forwarding.specs.Routes.{routes}
+use Rattle.nd_slaac.specs.AddressKept.{Address}
 use Rattle.nd_slaac.specs.ByHand.{AddressByHand}
 use Rattle.nd_slaac.specs.History.{Lifetimes}
 use Rattle.nd_slaac.specs.PrefixOption as own_prefixes
 use Rattle.nd_slaac.specs.Room.{HasRoomBy, fits_in}
 use Rattle.nd_slaac.specs.ShownKept as shown_addresses
 use Rattle.nd_slaac.specs.State.{is_known}
-use Rattle.nd_slaac.specs.TableKept.{key_of}
+use Rattle.nd_slaac.specs.TableKept.{Stands, key_of}
 use Rattle.nd_slaac.proofs.Showing as showing
 use Rattle.nd_chronicle.specs.Start.{Start, link_local_key}
-use Rattle.nd_chronicle.specs.Happening.{Chronicle, Heard, Dropped, Up, Neighbour, Configured, Offered, RoutePut, ClearedPrefixes, ClearedRedirects, ClearedDns, Sent, Lost, Path, WayTo, NoRoute, HopLimit, RedirectMade, Shown, Refused, Refusal, WrongRole, Full, Limit, Neighbours}
-use Rattle.nd_chronicle.specs.Histories.{neighbour_history, router_history, prefix_history, address_history, server_history, name_history, route_history, given_or_marked, then_neighbour}
+use Rattle.nd_chronicle.specs.Happening.{Chronicle, Heard, Dropped, Up, Neighbour, Configured, Offered, RoutePut, ClearedPrefixes, ClearedRedirects, ClearedDns, Sent, Lost, Path, WayTo, NoRoute, HopLimit, RedirectMade, Shown, Refused, Refusal, WrongRole, Full, Limit, Neighbours, Routers, Prefixes, Addresses, Servers, Names}
+use Rattle.nd_chronicle.specs.Histories.{neighbour_history, router_history, prefix_history, address_history, server_history, name_history, route_history, given_or_marked, mark_of_target, said_of_source, then_neighbour}
 use Rattle.nd_chronicle.specs.LinkLayerAddress.{first_slla}
 use Rattle.nd_chronicle.specs.InForce.{reachable_time}
 use Rattle.nd_chronicle.specs.OwnAddress.{is_own, refusal_unless_up, story_of}
-use Rattle.nd_chronicle.specs.Packet.{sending, Goes, GoesIfPlaced, HavePlace}
+use Rattle.nd_chronicle.specs.Packet.{sending, Goes, GoesIfPlaced, HavePlace, no_place}
 use Rattle.nd_chronicle.specs.NextHop.{IsHopOf}
 use Rattle.nd_chronicle.specs.Message.{said, failing_for, lets_enter, makes_way, PlaceFor, RoomFor, WayFor, sending_if_known, telling_if_known, releasing}
 use Rattle.nd_chronicle.specs.RouterAdvertisement.{forming, then_advertised}
 use Rattle.nd_chronicle.specs.ByHand.{no_room, setting, FormsByHand, AddressAdds, SetAdds, withdrawing}
 use Rattle.nd_chronicle.specs.Resolve.{PathAdds, ResolveAdds, WantsIfPlaced}
 use Rattle.nd_chronicle.specs.NeighborSolicitation as asked
-use Rattle.nd_chronicle.specs.NeighborSolicitation.{is_router, then_tried}
+use Rattle.nd_chronicle.specs.NeighborSolicitation.{is_router, then_answered, then_tried}
 use Rattle.nd_chronicle.specs.NeighborAdvertisement.{then_neighbor_advertised}
-use Rattle.nd_chronicle.specs.Full.{entering, asking, Placed, first_full, AdvertisementFills, MessageFills, Fills}
+use Rattle.nd_chronicle.specs.Full.{entering, asking, needs, Placed, first_full, AdvertisementFills, MessageFills, Fills}
 use Rattle.nd_chronicle.specs.Refused.{UnlessRefused, UnlessFull, AtRouter}
 use Rattle.nd_chronicle.specs.Advertising.{planning, wants_answer, ceasing, full_of_offers, full_of_routes}
 use Rattle.nd_chronicle.specs.Forwarding.{key_of as hop_key, better_hop_frame, frame_as_it_came, frame_sent_on, SendsOn, redirect_to, FateAdds}
@@ -68,7 +72,10 @@ use Rattle.nd_chronicle.specs.Hearing.{Verdict, hears, goes_up, goes_on, drops}
 use Rattle.nd_chronicle.specs.Shown as tables
 use Rattle.nd_chronicle.specs.Shown.{Table, AreRows, neighbour_row, router_row, prefix_row, address_row, server_row, search_row, redirect_row, parameter_row, advertise_rows, route_rows}
 use Rattle.nd_chronicle.specs.Event as events
-use Rattle.nd_chronicle.specs.Event.{Event, Clearable, packet_bytes, MessageAdds, VerdictAdds, FrameAdds, packet_frame, PacketAdds, refusal_of_packet, SendAdds, forgetting, clearing, all_leaving, ClearAdds, EventAdds}
+use Rattle.nd_chronicle.specs.Event.{Event, Clearable, packet_bytes, HeardAdds, InPart, MessageAdds, PartAdds, VerdictAdds, FrameAdds, packet_frame, PacketAdds, refusal_of_packet, SendAdds, forgetting, clearing, all_leaving, ClearAdds, EventAdds}
+use Rattle.nd_chronicle.specs.Parts.{Filling, Taken, TakenOfAdvertisement, TakenOfMessage, IsTakenInPart, as_placed, ignoring, options_taken, passed_over}
+use Rattle.nd_chronicle.proofs.Parts.{slla_stays}
+use Rattle.nd_chronicle.proofs.Reading.{no_slla_placed, no_tlla_placed}
 use Rattle.nd_existence.proofs.Tables.{nodes_of, nodes_stand, addresses_of, addresses_stand}
 use Rattle.nd_existence.proofs.Listings.{listed}
 use Rattle.nd_existence.proofs.Placing.{unless_full, place_told, second_told, place_made, packet_goes, goes_if_placed, wanted_if_placed, second_placed}
@@ -123,6 +130,23 @@ module _ (start : Start) (plain : start.policies.speakers ≡ false) (c : Chroni
       subst (λ (o : Option ℕ). MatchOption o (Goes start e now key packet d) (λ mac. d ≡ (now, Sent (addressed (mac_at mac) packet)) ∷ e))
       (sym (cond-false start.policies.speakers (mac_of (story key (neighbour_history e))) None plain)) goes
 
+  -- ---- what there is in each table
+
+  routers_now : (es : List (Lasting ℕ)) × Lists same (announcements (router_history c)) now es
+  routers_now = listed same eqb_tells (announcements (router_history c)) now
+
+  prefixes_now : (es : List (Lasting PrefixValue)) × Lists same_prefix (prefix_history c) now es
+  prefixes_now = listed same_prefix prefixes_tell (prefix_history c) now
+
+  addresses_now : (known : List Address) × Stands known (address_history c)
+  addresses_now = (addresses_of (address_history c), addresses_stand (address_history c))
+
+  servers_now : (es : List (Lasting Addr)) × Lists same_addr (server_history c) now es
+  servers_now = listed same_addr addrs_tell (server_history c) now
+
+  names_now : (es : List (Lasting (List ℕ))) × Lists same_name (name_history c) now es
+  names_now = listed same_name bytes_tell (name_history c) now
+
   -- ---- a message is heard
 
   placed : (need : Option (ℕ × Bool)) → (place : Bool) × Placed start c now false need place
@@ -136,25 +160,25 @@ module _ (start : Start) (plain : start.policies.speakers ≡ false) (c : Chroni
   room_for : (news : Option (ℕ × RowKind)) → Placed start c now false (entering news) true → (d : Chronicle) × RoomFor start c now news None d
   room_for news p = let f = place_for news p in (f.0, record { way = none_gives_way news; place = f.1 })
 
-  module _ (source destination : Addr) (options : List Said) where
-    abbrev message : Body → Parts
-    message body = record { body = body; options = options }
+  abbrev message : List Said → Body → Parts
+  message options body = record { body = body; options = options }
 
+  module _ (source destination : Addr) (options : List Said) where
     -- behind the place for a neighbour
-    behind : (body : Body) (then' : Chronicle → Chronicle) → Placed start c now false (entering (said c source (message body))) true
-        → (d : Chronicle) × ((made : Chronicle) × PlaceFor start c now (said c source (message body)) made × (d ≡ then' made))
-    behind body then' p = let f = place_for (said c source (message body)) p in (then' f.0, (f.0, f.1, refl))
+    behind : (body : Body) (then' : Chronicle → Chronicle) → Placed start c now false (entering (said c source (message options body))) true
+        → (d : Chronicle) × ((made : Chronicle) × PlaceFor start c now (said c source (message options body)) made × (d ≡ then' made))
+    behind body then' p = let f = place_for (said c source (message options body)) p in (then' f.0, (f.0, f.1, refl))
 
     -- and behind the failure of one that would give way to it
-    behind_room : (body : Body) (then' : Option ℕ → Chronicle → Chronicle) → Placed start c now false (entering (said c source (message body))) true
-        → (d : Chronicle) × ((gone : Option ℕ) × (made : Chronicle) × RoomFor start c now (said c source (message body)) gone made × (d ≡ then' gone made))
-    behind_room body then' p = let f = room_for (said c source (message body)) p in (then' None f.0, (None, f.0, f.1, refl))
+    behind_room : (body : Body) (then' : Option ℕ → Chronicle → Chronicle) → Placed start c now false (entering (said c source (message options body))) true
+        → (d : Chronicle) × ((gone : Option ℕ) × (made : Chronicle) × RoomFor start c now (said c source (message options body)) gone made × (d ≡ then' gone made))
+    behind_room body then' p = let f = room_for (said c source (message options body)) p in (then' None f.0, (None, f.0, f.1, refl))
 
     -- ---- a Neighbor Solicitation
 
     module _ (target : Addr) where
       abbrev solicitation : Parts
-      solicitation = message (bodies.Ns (record { target = target }))
+      solicitation = message options (bodies.Ns (record { target = target }))
 
       abbrev heard_over : Chronicle → Chronicle
       heard_over made = (now, Heard source destination solicitation) ∷ made
@@ -205,83 +229,207 @@ module _ (start : Start) (plain : start.policies.speakers ≡ false) (c : Chroni
             },
           )
 
+    -- ---- any message for whose neighbour there is room
+
+    abbrev Adds : Body → Chronicle → Type 0
+    Adds body d = MessageAdds start now source destination (message options body) body c d
+
+    whole : (body : Body) → Placed start c now false (needs c source (message options body) body) true → (d : Chronicle) × Adds body d
+    whole (bodies.Ra ra) p = behind_room (bodies.Ra ra) (λ gone made. then_advertised start now source destination ra (message options (bodies.Ra ra)) true gone (neighbour_history c) made) p
+    whole (bodies.Ns ns) p = solicited ns.target (bytes_eq source.0 unspecified_address) refl p
+    whole (bodies.Na na) p = behind (bodies.Na na) (λ made. then_neighbor_advertised now source destination na.target (message options (bodies.Na na)) made) p
+    whole (bodies.Redirect r) p =
+        behind_room (bodies.Redirect r) (λ gone made. releasing now (said c source (message options (bodies.Redirect r))) (neighbour_history made)
+        (failing_for now gone (neighbour_history c) ((now, Heard source destination (message options (bodies.Redirect r))) ∷ made))) p
+    whole bodies.Rs p =
+        behind_room bodies.Rs (λ gone made. planning start now (wants_answer start c) (releasing now (said c source (message options bodies.Rs)) (neighbour_history made)
+        (failing_for now gone (neighbour_history c) ((now, Heard source destination (message options bodies.Rs)) ∷ made)))) p
+
+  -- ---- what is taken of a message in part, by the policy `parts`
+
+  -- a message that gives no link-layer address lets no neighbour enter
+  marks : (key : ℕ) (mark : Option Bool) → Placed start c now false (entering (given_or_marked key None mark)) true
+  marks key None = refl
+  marks key (Some router) = λ e. absurd (true≢false (sym e))
+
+  marks_source : (source : Addr) (mark : Option Bool) (t : Bool) → Placed start c now false (entering (cond t None (given_or_marked (number_of source.0) None mark))) true
+  marks_source source mark true = refl
+  marks_source source mark false = marks (number_of source.0) mark
+
+  module _ (source : Addr) (options : List Said) where
+    enters_nobody : (body : Body) → Placed start c now false (entering (said c source (message (as_placed false options) body))) true
+    enters_nobody (bodies.Ra ra) =
+        subst (λ (o : Option Mac). Placed start c now false (entering (given_or_marked (number_of source.0) o (Some true))) true) (sym (no_slla_placed options)) (marks (number_of source.0) (Some true))
+    enters_nobody (bodies.Ns ns) =
+        subst (λ (o : Option Mac). Placed start c now false (entering (said_of_source source o None)) true) (sym (no_slla_placed options))
+        (marks_source source None (bytes_eq source.0 unspecified_address))
+    enters_nobody bodies.Rs =
+        subst (λ (o : Option Mac). Placed start c now false (entering (said_of_source source o (Some false))) true) (sym (no_slla_placed options))
+        (marks_source source (Some false) (bytes_eq source.0 unspecified_address))
+    enters_nobody (bodies.Na na) = λ e. absurd (true≢false (sym e))
+    enters_nobody (bodies.Redirect r) =
+        subst (λ (o : Option Mac). Placed start c now false (entering (given_or_marked (number_of r.target.0) o (mark_of_target r))) true) (sym (no_tlla_placed options))
+        (marks (number_of r.target.0) (mark_of_target r))
+
+    -- so there is room for the neighbour of what is taken
+    room_in_part : (body : Body) (place : Bool) → Placed start c now false (entering (said c source (message options body))) place
+        → Placed start c now false (entering (said c source (message (as_placed place options) body))) true
+    room_in_part body true p = p
+    room_in_part body false p = enters_nobody body
+
+  module _ (source destination : Addr) (options : List Said) where
+    abbrev TakenInPart : Body → Chronicle → Type 0
+    TakenInPart body d = InPart start now source destination (message options body) c d
+
+    in_part_by : (body : Body) (taken : Taken) → IsTakenInPart start c now source (message options body) body taken
+        → (told : Chronicle) × PartAdds start now source destination (message options body) taken body c told → (d : Chronicle) × TakenInPart body d
+    in_part_by body taken is told = (ignoring now taken.ignored told.0, record { taken = taken; is_taken = is; told = told.0; adds = told.1; all = refl })
+
+    -- of a message that only names a neighbour
+    abbrev named : Body → Bool → Taken
+    named body place = record { place = place; message = message (as_placed place options) body; listed = true; ignored = passed_over place Neighbours }
+
+    is_named : (body : Body) (place : Bool) → Placed start c now false (needs c source (message options body) body) place → TakenOfMessage start c now source (message options body) (named body place)
+    is_named body place p = record {
+      placed = plainly (said c source (message options body)) (needs c source (message options body) body) place p;
+      message_is = refl;
+      listed_is = refl;
+      ignored_is = refl;
+    }
+
+    -- an asker that gets no entry
+    answers : (ns : NeighborSolicitation) (place : Bool) → Placed start c now false (asking source) place
+        → (d : Chronicle) × PartAdds start now source destination (message options (bodies.Ns ns)) (named (bodies.Ns ns) place) (bodies.Ns ns) c d
+    answers ns true p = whole source destination options (bodies.Ns ns) p
+    answers ns false p = (then_answered start now source destination ns.target (message options (bodies.Ns ns)) (message (as_placed false options) (bodies.Ns ns)) c, refl)
+
+    -- of a Router Advertisement
+    module _ (ra : RouterAdvertisement) where
+      abbrev whole_one : Parts
+      whole_one = message options (bodies.Ra ra)
+
+      advertised_in_part : (d : Chronicle) × TakenInPart (bodies.Ra ra) d
+      advertised_in_part =
+          let p = placed (entering (said c source whole_one)) in
+          let filling : Filling = record { prefixes = prefixes_now.0; addresses = map key_of addresses_now.0; servers = servers_now.0; names = names_now.0 } in
+          let read = options_taken start.limits start.mac now filling options in
+          let is_listed = fits same start.limits.routers now ((number_of source.0, ra.router_lifetime) ∷ []) routers_now.0 in
+          let taken : Taken = record {
+            place = p.0;
+            message = message (as_placed p.0 read) (bodies.Ra ra);
+            listed = is_listed;
+            ignored = passed_over p.0 Neighbours ++ passed_over is_listed Routers
+                ++ passed_over (fits same_prefix start.limits.prefixes now (prefixes_in options) prefixes_now.0) Prefixes
+                ++ passed_over (fits_in start.limits.addresses start.mac (map key_of addresses_now.0) (own_prefixes.prefixes_in options)) Addresses
+                ++ passed_over (fits same_addr start.limits.servers now (servers_told options) servers_now.0) Servers
+                ++ passed_over (fits same_name start.limits.names now (names_told options) names_now.0) Names;
+          } in
+          let is : TakenOfAdvertisement start c now source ra whole_one taken = record {
+            placed = plainly (said c source whole_one) (entering (said c source whole_one)) p.0 p.1;
+            routers = routers_now.0;
+            those_routers = routers_now.1;
+            listed_is = refl;
+            prefixes = prefixes_now.0;
+            those_prefixes = prefixes_now.1;
+            known = addresses_now.0;
+            those_addresses = addresses_now.1;
+            servers = servers_now.0;
+            those_servers = servers_now.1;
+            names = names_now.0;
+            those_names = names_now.1;
+            message_is = refl;
+            ignored_is = refl;
+          } in
+          -- the options that are taken give the same link-layer address
+          let same_place : Placed start c now false (entering (said c source (message read (bodies.Ra ra)))) p.0 =
+          subst (λ (o : Option Mac). Placed start c now false (entering (given_or_marked (number_of source.0) o (Some true))) p.0)
+          (sym (slla_stays start.limits start.mac now filling options)) p.1 in
+          in_part_by (bodies.Ra ra) taken is
+          (behind_room source destination (as_placed p.0 read) (bodies.Ra ra)
+          (λ gone made. then_advertised start now source destination ra (message (as_placed p.0 read) (bodies.Ra ra)) is_listed gone (neighbour_history c) made)
+          (room_in_part source read (bodies.Ra ra) p.0 same_place))
+
+    in_part : (body : Body) → (d : Chronicle) × TakenInPart body d
+    in_part (bodies.Ra ra) = advertised_in_part ra
+    in_part (bodies.Ns ns) =
+        let p = placed (asking source) in in_part_by (bodies.Ns ns) (named (bodies.Ns ns) p.0) (is_named (bodies.Ns ns) p.0 p.1) (answers ns p.0 p.1)
+    in_part (bodies.Na na) =
+        let p = placed (entering (said c source (message options (bodies.Na na)))) in
+        in_part_by (bodies.Na na) (named (bodies.Na na) p.0) (is_named (bodies.Na na) p.0 p.1) (whole source destination (as_placed p.0 options) (bodies.Na na) (room_in_part source options (bodies.Na na) p.0 p.1))
+    in_part bodies.Rs =
+        let p = placed (entering (said c source (message options bodies.Rs))) in
+        in_part_by bodies.Rs (named bodies.Rs p.0) (is_named bodies.Rs p.0 p.1) (whole source destination (as_placed p.0 options) bodies.Rs (room_in_part source options bodies.Rs p.0 p.1))
+    in_part (bodies.Redirect r) =
+        let p = placed (entering (said c source (message options (bodies.Redirect r)))) in
+        in_part_by (bodies.Redirect r) (named (bodies.Redirect r) p.0) (is_named (bodies.Redirect r) p.0 p.1) (whole source destination (as_placed p.0 options) (bodies.Redirect r) (room_in_part source options (bodies.Redirect r) p.0 p.1))
+
     -- ---- any message, which may have no room
 
     abbrev Filled : Body → Chronicle → Type 0
-    Filled body d = (full : Option Limit) × Fills start c now source (message body) body full × UnlessFull now full (MessageAdds start now source destination (message body) body c) c d
+    Filled body d = (full : Option Limit) × Fills start c now source (message options body) body full × HeardAdds start now full source destination (message options body) c d
 
-    filled : (need : Option (ℕ × Bool)) (A : Chronicle → Type 0) (MayFill : Option Limit → Type 0) → ((place : Bool) → Placed start c now false need place → MayFill (cond place None (Some Neighbours)))
-        → (Placed start c now false need true → (d : Chronicle) × A d) → (place : Bool) → Placed start c now false need place → (d : Chronicle) × ((full : Option Limit) × MayFill full × UnlessFull now full A c d)
-    filled need A MayFill fills f true p = let d = f p in (d.0, (None, fills true p, d.1))
-    filled need A MayFill fills f false p = ((now, Refused (Full Neighbours)) ∷ c, (Some Neighbours, fills false p, refl))
+    -- it is taken in part, or refused
+    unless_whole : (body : Body) (limit : Limit) (parts : Bool) → (d : Chronicle) × MatchBool parts (TakenInPart body d) (d ≡ (now, Refused (Full limit)) ∷ c)
+    unless_whole body limit true = in_part body
+    unless_whole body limit false = ((now, Refused (Full limit)) ∷ c, refl)
+
+    heard_adds : (body : Body) (full : Option Limit) → (full ≡ None → (d : Chronicle) × Adds source destination options body d)
+        → (d : Chronicle) × HeardAdds start now full source destination (message options body) c d
+    heard_adds body None f = f refl
+    heard_adds body (Some limit) f = unless_whole body limit start.policies.parts
+
+    -- where there is place for its neighbour
+    placed_if_none : (place : Bool) (rest : Option Limit) (need : Option (ℕ × Bool)) → Placed start c now false need place → cond place rest (Some Neighbours) ≡ None → Placed start c now false need true
+    placed_if_none true rest need p none = p
+    placed_if_none false rest need p none = absurd (let never : ⊥ = cc in never)
+
+    filled : (body : Body) (full : Option Limit) (place : Bool) (rest : Option Limit) → full ≡ cond place rest (Some Neighbours)
+        → Placed start c now false (needs c source (message options body) body) place → Fills start c now source (message options body) body full → (d : Chronicle) × Filled body d
+    filled body full place rest is p fills =
+        let d = heard_adds body full (λ none. whole source destination options body (placed_if_none place rest (needs c source (message options body) body) p (sym is ∙ none))) in
+        (d.0, (full, fills, d.1))
 
     -- a Router Advertisement
-    module _ (ra : RouterAdvertisement) where
-      abbrev advertisement : Parts
-      advertisement = message (bodies.Ra ra)
+    advertised : (ra : RouterAdvertisement) → (d : Chronicle) × Filled (bodies.Ra ra) d
+    advertised ra =
+        let p = placed (entering (said c source (message options (bodies.Ra ra)))) in
+        let forms = fits_in start.limits.addresses start.mac (map key_of addresses_now.0) (own_prefixes.prefixes_in options) in
+        let full = first_full p.0
+        (fits same start.limits.routers now ((number_of source.0, ra.router_lifetime) ∷ []) routers_now.0)
+        (fits same_prefix start.limits.prefixes now (prefixes_in options) prefixes_now.0)
+        forms
+        (fits same_addr start.limits.servers now (servers_told options) servers_now.0)
+        (fits same_name start.limits.names now (names_told options) names_now.0) in
+        let all : AdvertisementFills start c now source ra (message options (bodies.Ra ra)) full = record {
+          neighbours = p.0;
+          placed = plainly (said c source (message options (bodies.Ra ra))) (entering (said c source (message options (bodies.Ra ra)))) p.0 p.1;
+          routers = routers_now.0;
+          those_routers = routers_now.1;
+          prefixes = prefixes_now.0;
+          those_prefixes = prefixes_now.1;
+          forms = forms;
+          those_addresses = record { known = addresses_now.0; those = addresses_now.1; fit_is = refl };
+          servers = servers_now.0;
+          those_servers = servers_now.1;
+          names = names_now.0;
+          those_names = names_now.1;
+          first = refl;
+        } in
+        filled (bodies.Ra ra) full p.0 _ refl p.1 all
 
-      advertised : (place : Bool) → Placed start c now false (entering (said c source advertisement)) place → (d : Chronicle) × Filled (bodies.Ra ra) d
-      advertised place p =
-          let routers = listed same eqb_tells (announcements (router_history c)) now in
-          let prefixes = listed same_prefix prefixes_tell (prefix_history c) now in
-          let servers = listed same_addr addrs_tell (server_history c) now in
-          let names = listed same_name bytes_tell (name_history c) now in
-          let known = addresses_of (address_history c) in
-          let forms = fits_in start.limits.addresses start.mac (map key_of known) (own_prefixes.prefixes_in options) in
-          let full = first_full place
-          (fits same start.limits.routers now ((number_of source.0, ra.router_lifetime) ∷ []) routers.0)
-          (fits same_prefix start.limits.prefixes now (prefixes_in options) prefixes.0)
-          forms
-          (fits same_addr start.limits.servers now (servers_told options) servers.0)
-          (fits same_name start.limits.names now (names_told options) names.0) in
-          let all : AdvertisementFills start c now source ra advertisement full = record {
-            neighbours = place;
-            placed = plainly (said c source advertisement) (entering (said c source advertisement)) place p;
-            routers = routers.0;
-            those_routers = routers.1;
-            prefixes = prefixes.0;
-            those_prefixes = prefixes.1;
-            forms = forms;
-            those_addresses = record { known = known; those = addresses_stand (address_history c); fit_is = refl };
-            servers = servers.0;
-            those_servers = servers.1;
-            names = names.0;
-            those_names = names.1;
-            first = refl;
-          } in
-          let d = unless_full now full (MessageAdds start now source destination advertisement (bodies.Ra ra) c) c
-          (λ none. behind_room (bodies.Ra ra) (λ gone made. then_advertised start now source destination ra advertisement gone (neighbour_history c) made) (has_place place _ p none)) in
-          (d.0, (full, all, d.1))
-        where
-          has_place : (q : Bool) (rest : Option Limit) → Placed start c now false (entering (said c source advertisement)) q → cond q rest (Some Neighbours) ≡ None
-              → Placed start c now false (entering (said c source advertisement)) true
-          has_place true rest h none = h
-          has_place false rest h none = absurd (let never : ⊥ = cc in never)
+    -- any other message
+    naming : (body : Body) (place : Bool) → Placed start c now false (needs c source (message options body) body) place → MessageFills start c now source (message options body) (no_place place)
+    naming body place p = record { neighbours = place; placed = plainly (said c source (message options body)) (needs c source (message options body) body) place p; first = refl }
 
     message_adds : (body : Body) → (d : Chronicle) × Filled body d
-    message_adds (bodies.Ra ra) = let p = placed (entering (said c source (message (bodies.Ra ra)))) in advertised ra p.0 p.1
-    message_adds (bodies.Ns ns) =
-        let p = placed (asking source) in
-        filled (asking source) (MessageAdds start now source destination (message (bodies.Ns ns)) (bodies.Ns ns) c) (MessageFills start c now source (message (bodies.Ns ns)))
-        (λ place q. record { neighbours = place; placed = plainly (said c source (message (bodies.Ns ns))) (asking source) place q; first = refl })
-        (λ q. solicited ns.target (bytes_eq source.0 unspecified_address) refl q) p.0 p.1
+    message_adds (bodies.Ra ra) = advertised ra
+    message_adds (bodies.Ns ns) = let p = placed (asking source) in filled (bodies.Ns ns) (no_place p.0) p.0 None refl p.1 (naming (bodies.Ns ns) p.0 p.1)
     message_adds (bodies.Na na) =
-        let p = placed (entering (said c source (message (bodies.Na na)))) in
-        filled (entering (said c source (message (bodies.Na na)))) (MessageAdds start now source destination (message (bodies.Na na)) (bodies.Na na) c) (MessageFills start c now source (message (bodies.Na na)))
-        (λ place q. record { neighbours = place; placed = plainly (said c source (message (bodies.Na na))) (entering (said c source (message (bodies.Na na)))) place q; first = refl })
-        (λ q. behind (bodies.Na na) (λ made. then_neighbor_advertised now source destination na.target (message (bodies.Na na)) made) q) p.0 p.1
+        let p = placed (entering (said c source (message options (bodies.Na na)))) in filled (bodies.Na na) (no_place p.0) p.0 None refl p.1 (naming (bodies.Na na) p.0 p.1)
     message_adds (bodies.Redirect r) =
-        let p = placed (entering (said c source (message (bodies.Redirect r)))) in
-        filled (entering (said c source (message (bodies.Redirect r)))) (MessageAdds start now source destination (message (bodies.Redirect r)) (bodies.Redirect r) c) (MessageFills start c now source (message (bodies.Redirect r)))
-        (λ place q. record { neighbours = place; placed = plainly (said c source (message (bodies.Redirect r))) (entering (said c source (message (bodies.Redirect r)))) place q; first = refl })
-        (λ q. behind_room (bodies.Redirect r) (λ gone made. releasing now (said c source (message (bodies.Redirect r))) (neighbour_history made)
-        (failing_for now gone (neighbour_history c) ((now, Heard source destination (message (bodies.Redirect r))) ∷ made))) q) p.0 p.1
+        let p = placed (entering (said c source (message options (bodies.Redirect r)))) in filled (bodies.Redirect r) (no_place p.0) p.0 None refl p.1 (naming (bodies.Redirect r) p.0 p.1)
     message_adds bodies.Rs =
-        let p = placed (entering (said c source (message bodies.Rs))) in
-        filled (entering (said c source (message bodies.Rs))) (MessageAdds start now source destination (message bodies.Rs) bodies.Rs c) (MessageFills start c now source (message bodies.Rs))
-        (λ place q. record { neighbours = place; placed = plainly (said c source (message bodies.Rs)) (entering (said c source (message bodies.Rs))) place q; first = refl })
-        (λ q. behind_room bodies.Rs (λ gone made. planning start now (wants_answer start c) (releasing now (said c source (message bodies.Rs)) (neighbour_history made)
-        (failing_for now gone (neighbour_history c) ((now, Heard source destination (message bodies.Rs)) ∷ made)))) q) p.0 p.1
+        let p = placed (entering (said c source (message options bodies.Rs))) in filled bodies.Rs (no_place p.0) p.0 None refl p.1 (naming bodies.Rs p.0 p.1)
 
   -- ---- a packet in transit
 
@@ -371,9 +519,7 @@ module _ (start : Start) (plain : start.policies.speakers ≡ false) (c : Chroni
 
   -- there is room for one more, or there isn't
   room_told : (room : Bool) × HasRoomBy start.limits.addresses (address_history c) room
-  room_told =
-      let known = addresses_of (address_history c) in
-      (nat_lt (length known) start.limits.addresses, record { known = known; those = addresses_stand (address_history c); room_is = refl })
+  room_told = (nat_lt (length addresses_now.0) start.limits.addresses, record { known = addresses_now.0; those = addresses_now.1; room_is = refl })
 
   forms_by_hand : (key : ℕ) (lifetimes : Lifetimes) → (d : Chronicle) × FormsByHand start now key lifetimes c d
   forms_by_hand key lifetimes =
@@ -398,9 +544,7 @@ module _ (start : Start) (plain : start.policies.speakers ≡ false) (c : Chroni
 
   clear_adds : (table : Clearable) → (d : Chronicle) × ClearAdds start now table c d
   clear_adds events.ClearNeighbours = (clearing start now (nodes_of (neighbour_history c)) c, (nodes_of (neighbour_history c), nodes_stand (neighbour_history c), refl))
-  clear_adds events.ClearRouters =
-      let es = listed same eqb_tells (announcements (router_history c)) now in
-      ((now, ClearedRedirects) ∷ all_leaving start now es.0 c, (es.0, es.1, refl))
+  clear_adds events.ClearRouters = ((now, ClearedRedirects) ∷ all_leaving start now routers_now.0 c, (routers_now.0, routers_now.1, refl))
   clear_adds events.ClearPrefixes = ((now, ClearedPrefixes) ∷ c, refl)
   clear_adds events.ClearRedirects = ((now, ClearedRedirects) ∷ c, refl)
   clear_adds events.ClearDns = ((now, ClearedDns) ∷ c, refl)
@@ -412,23 +556,18 @@ module _ (start : Start) (plain : start.policies.speakers ≡ false) (c : Chroni
       let seen = map (shown_neighbours.seen now) nodes in
       (map neighbour_row seen, (seen, forgetting_proofs.lists_all now nodes (neighbour_history c) seen refl (nodes_stand (neighbour_history c)), refl))
   rows_of tables.RouterTable =
-      let es = listed same eqb_tells (announcements (router_history c)) now in
-      let seen = map (shown_routers.seen now (λ key. preference_of key (router_history c))) es.0 in
-      (map router_row seen, (seen, (es.0, es.1, refl), refl))
+      let seen = map (shown_routers.seen now (λ key. preference_of key (router_history c))) routers_now.0 in
+      (map router_row seen, (seen, (routers_now.0, routers_now.1, refl), refl))
   rows_of tables.PrefixTable =
-      let es = listed same_prefix prefixes_tell (prefix_history c) now in
-      let seen = map (shown_lifetimes.seen now) es.0 in
-      (map prefix_row seen, (seen, (es.0, es.1, refl), refl))
+      let seen = map (shown_lifetimes.seen now) prefixes_now.0 in
+      (map prefix_row seen, (seen, (prefixes_now.0, prefixes_now.1, refl), refl))
   rows_of tables.AddressTable =
-      let known = addresses_of (address_history c) in
-      let seen = map (shown_addresses.seen now) known in
-      (map address_row seen, (seen, showing.lists_all now known (address_history c) seen refl (addresses_stand (address_history c)), refl))
+      let seen = map (shown_addresses.seen now) addresses_now.0 in
+      (map address_row seen, (seen, showing.lists_all now addresses_now.0 (address_history c) seen refl addresses_now.1, refl))
   rows_of tables.DnsTable =
-      let servers = listed same_addr addrs_tell (server_history c) now in
-      let names = listed same_name bytes_tell (name_history c) now in
-      let seen = map (shown_lifetimes.seen now) servers.0 in
-      let named = map (shown_lifetimes.seen now) names.0 in
-      (map server_row seen ++ map search_row named, (seen, (servers.0, servers.1, refl), named, (names.0, names.1, refl), refl))
+      let seen = map (shown_lifetimes.seen now) servers_now.0 in
+      let shown_names = map (shown_lifetimes.seen now) names_now.0 in
+      (map server_row seen ++ map search_row shown_names, (seen, (servers_now.0, servers_now.1, refl), shown_names, (names_now.0, names_now.1, refl), refl))
   rows_of tables.RedirectTable = (_, refl)
   rows_of tables.ParameterTable = (_, refl)
   rows_of tables.AdvertiseTable = (_, refl)

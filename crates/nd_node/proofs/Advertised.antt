@@ -57,15 +57,15 @@ use Rattle.nd_chronicle.specs.Due.{solicited_routers, assigned_at, max_rtr_solic
 use Rattle.nd_chronicle.specs.Due as chronicle_due
 use Rattle.nd_chronicle.specs.Message.{failing_for, releasing, leaving}
 use Rattle.nd_chronicle.specs.Packet.{with_pushed}
-use Rattle.nd_chronicle.specs.RouterAdvertisement.{redrawing, with_delay, forming, naming, then_option, then_options, times_out}
+use Rattle.nd_chronicle.specs.RouterAdvertisement.{heard_from, redrawing, with_delay, forming, naming, then_option, then_options, times_out}
 use Rattle.nd_chronicle.specs.Told.{Told, items_at, items}
 use Rattle.nd_out.specs.declared.out.Out.{Out}
-use Rattle.nd_steps.specs.DefaultRouterList.{with_left, with_gone, left_told}
+use Rattle.nd_steps.specs.DefaultRouterList.{with_heard, with_left, with_gone, left_told}
 use Rattle.nd_steps.specs.GivingWay.{HearsGiver, WayBy, told_of_way, with_router_gone, with_target_gone}
 use Rattle.nd_steps.specs.NeighbourCache.{PreparesFor, released_rows}
 use Rattle.nd_steps.proofs.Failing.{Fails, fails, with_failed}
 use Rattle.nd_steps.proofs.GivingWay.{EndsOnce, none_before_giver, stands_failed}
-use Rattle.nd_steps.specs.Parameters.{then_parameters, HearsParameters}
+use Rattle.nd_steps.specs.Parameters.{HearsParameters}
 use Rattle.nd_steps.specs.OwnAddresses.{Forms}
 use Rattle.nd_nexthop.specs.Memo.{is_asked}
 use Rattle.nd_slaac.specs.Calls.{keys_in}
@@ -221,9 +221,13 @@ module _ (transmits now : ℕ) (still : AddressesStill) where
 
 -- ---- the message itself, and the redraw above it
 
-module _ (start : Start) (now : ℕ) (source destination : Addr) (ra : RouterAdvertisement) (options : List Said) where
+module _ (start : Start) (now : ℕ) (source destination : Addr) (ra : RouterAdvertisement) (options : List Said) (listed : Bool) where
   abbrev key : ℕ
   key = number_of source.0
+
+  -- the message, of a router that is listed or isn't
+  abbrev heard : Chronicle → Chronicle
+  heard c = heard_from start now source destination (advertised ra options) listed c
 
   -- what it says of its sender
   abbrev news : Option (ℕ × neighbour_rows.RowKind)
@@ -231,7 +235,7 @@ module _ (start : Start) (now : ℕ) (source destination : Addr) (ra : RouterAdv
 
   record Begun (c d : Chronicle) : Type 0 where
     neighbours : neighbour_history d ≡ then_neighbour now news (neighbour_history c)
-    routers : router_history d ≡ router_rows.Heard now key ra.router_lifetime ra.preference ∷ router_history c
+    routers : router_history d ≡ with_heard now listed key ra.router_lifetime ra.preference (router_history c)
     prefixes : prefix_history d ≡ then_announced now (on_link.prefixes_in options) (prefix_history c)
     addresses : address_history d ≡ address_history c
     servers : server_history d ≡ then_announced now (servers_told options) (server_history c)
@@ -242,33 +246,76 @@ module _ (start : Start) (now : ℕ) (source destination : Addr) (ra : RouterAdv
     last : (at : ℕ) → last_moment at d ≡ now
     told : items d ≡ items c ++ items_at (now, Heard source destination (advertised ra options))
 
-  begun_by : (draws : Bool) (c : Chronicle) → Begun c (redrawing start now ra.reachable_time draws ((now, Heard source destination (advertised ra options)) ∷ c))
-  begun_by true c = record {
-    neighbours = refl;
-    routers = refl;
-    prefixes = refl;
-    addresses = refl;
-    servers = refl;
-    names = refl;
-    redirects = refl;
-    solicited = refl;
-    router = λ start. refl;
-    last = λ at. refl;
-    told = append-nil _;
-  }
-  begun_by false c = record {
-    neighbours = refl;
-    routers = refl;
-    prefixes = refl;
-    addresses = refl;
-    servers = refl;
-    names = refl;
-    redirects = refl;
-    solicited = refl;
-    router = λ start. refl;
-    last = λ at. refl;
-    told = refl;
-  }
+begun_by : (start : Start) (now : ℕ) (source destination : Addr) (ra : RouterAdvertisement) (options : List Said) (listed draws : Bool) (c : Chronicle)
+    → Begun start now source destination ra options listed c (redrawing start now ra.reachable_time draws (heard start now source destination ra options listed c))
+begun_by start now source destination ra options true true c = record {
+  neighbours = refl;
+  routers = refl;
+  prefixes = refl;
+  addresses = refl;
+  servers = refl;
+  names = refl;
+  redirects = refl;
+  solicited = refl;
+  router = λ start. refl;
+  last = λ at. refl;
+  told = append-nil _;
+}
+begun_by start now source destination ra options true false c = record {
+  neighbours = refl;
+  routers = refl;
+  prefixes = refl;
+  addresses = refl;
+  servers = refl;
+  names = refl;
+  redirects = refl;
+  solicited = refl;
+  router = λ start. refl;
+  last = λ at. refl;
+  told = refl;
+}
+begun_by start now source destination ra options false true c = record {
+  neighbours = refl;
+  routers = refl;
+  prefixes = refl;
+  addresses = refl;
+  servers = refl;
+  names = refl;
+  redirects = refl;
+  solicited = refl;
+  router = λ start. refl;
+  last = λ at. refl;
+  told = append-nil _ ∙ append-nil _;
+}
+begun_by start now source destination ra options false false c = record {
+  neighbours = refl;
+  routers = refl;
+  prefixes = refl;
+  addresses = refl;
+  servers = refl;
+  names = refl;
+  redirects = refl;
+  solicited = refl;
+  router = λ start. refl;
+  last = λ at. refl;
+  told = append-nil _;
+}
+
+-- the parameters and the generator are the same whether it is listed or not
+module _ (start : Start) (now : ℕ) (base : ℕ) (source destination : Addr) (ra : RouterAdvertisement) (options : List Said) (c : Chronicle) where
+  same_parameters : (draws listed : Bool) → parameter_history (redrawing start now base draws ((now, Heard source destination (advertised ra options)) ∷ c))
+      ≡ parameter_history (redrawing start now base draws (heard_from start now source destination (advertised ra options) listed c))
+  same_parameters true true = refl
+  same_parameters true false = refl
+  same_parameters false true = refl
+  same_parameters false false = refl
+
+  same_stream : (draws listed : Bool) → stream_left start (redrawing start now base draws ((now, Heard source destination (advertised ra options)) ∷ c))
+      ≡ stream_left start (redrawing start now base draws (heard_from start now source destination (advertised ra options) listed c))
+  same_stream true true = refl
+  same_stream true false = refl
+  same_stream false true = refl
+  same_stream false false = refl
 
 -- ---- a router that is timed out
 
@@ -328,15 +375,18 @@ settled_before now None h = tt
 settled_before now (Some end) h = grind (arith, h)
 
 -- a redraw comes as late as before, or later
-draw_later : (start : Start) (now : ℕ) (base : ℕ) (draws : Bool) (source destination : Addr) (ra : RouterAdvertisement) (options : List Said) (c : Chronicle) → now ≤ last_draw (parameter_history c) + redraw_after
-    → now ≤ last_draw (parameter_history (redrawing start now base draws ((now, Heard source destination (advertised ra options)) ∷ c))) + redraw_after
-draw_later start now base true source destination ra options c h = omega arith
-draw_later start now base false source destination ra options c h = h
+draw_later : (start : Start) (now : ℕ) (base : ℕ) (draws listed : Bool) (source destination : Addr) (ra : RouterAdvertisement) (options : List Said) (c : Chronicle) → now ≤ last_draw (parameter_history c) + redraw_after
+    → now ≤ last_draw (parameter_history (redrawing start now base draws (heard_from start now source destination (advertised ra options) listed c))) + redraw_after
+draw_later start now base true listed source destination ra options c h = omega arith
+draw_later start now base false true source destination ra options c h = h
+draw_later start now base false false source destination ra options c h = h
 
-heard_router_by : (start : Start) (now : ℕ) (base : ℕ) (draws : Bool) (source destination : Addr) (ra : RouterAdvertisement) (options : List Said) (c : Chronicle)
-    → chronicle_due.heard_router (parameter_history (redrawing start now base draws ((now, Heard source destination (advertised ra options)) ∷ c))) ≡ (not (ra.router_lifetime == 0) || chronicle_due.heard_router (parameter_history c))
-heard_router_by start now base true source destination ra options c = refl
-heard_router_by start now base false source destination ra options c = refl
+heard_router_by : (start : Start) (now : ℕ) (base : ℕ) (draws listed : Bool) (source destination : Addr) (ra : RouterAdvertisement) (options : List Said) (c : Chronicle)
+    → chronicle_due.heard_router (parameter_history (redrawing start now base draws (heard_from start now source destination (advertised ra options) listed c))) ≡ (not (ra.router_lifetime == 0) || chronicle_due.heard_router (parameter_history c))
+heard_router_by start now base true true source destination ra options c = refl
+heard_router_by start now base true false source destination ra options c = refl
+heard_router_by start now base false true source destination ra options c = refl
+heard_router_by start now base false false source destination ra options c = refl
 
 -- a router that is heard makes no Router Solicitation due
 heard_later : (role : Role) (now : ℕ) (heard : Bool) (s : Solicitations) → NotBefore now (next_solicitation role s) → NotBefore now (next_solicitation role (record s { heard = heard || s.heard }))
@@ -356,7 +406,7 @@ last_announced now ((key, lifetime) ∷ announced) history le = last_announced n
 -- ---- all tables together
 
 -- what the calls do to the tables of a node
-pub record Takes {R A : Type 0} (stream : R → Stream) (old new : Node R A) (before after : List (ℕ × Out A)) (now : ℕ) (source destination : Addr) (ra : RouterAdvertisement) (options : List Said) : Type 0 where
+pub record Takes {R A : Type 0} (stream : R → Stream) (old new : Node R A) (before after : List (ℕ × Out A)) (now : ℕ) (source destination : Addr) (ra : RouterAdvertisement) (options : List Said) (listed : Bool) : Type 0 where
   pub role : new.role ≡ old.role
   pub mac : new.mac ≡ old.mac
   pub chosen : new.limits ≡ old.limits
@@ -379,14 +429,14 @@ pub record Takes {R A : Type 0} (stream : R → Stream) (old new : Node R A) (be
   pub room : KeepsRoom old.choice new.choice
   pub left_list : Bool
   pub times_out : (history : List router_rows.RouterRow) → router_list.Stands old.routers history → left_list ≡ ((ra.router_lifetime == 0) && lifetimes.stands same (number_of source.0) (announcements history) now)
-  pub routers : (history : List router_rows.RouterRow) → router_list.Stands old.routers history → router_list.Stands new.routers (with_left now left_list (number_of source.0) (with_router_gone now gone (router_rows.Heard now (number_of source.0) ra.router_lifetime ra.preference ∷ history)))
+  pub routers : (history : List router_rows.RouterRow) → router_list.Stands old.routers history → router_list.Stands new.routers (with_left now left_list (number_of source.0) (with_router_gone now gone (with_heard now listed (number_of source.0) ra.router_lifetime ra.preference history)))
   pub redirects : (history : List redirect_rows.RedirectRow) → choice.Stands old.choice history → choice.Stands new.choice (with_gone now left_list (number_of source.0) (with_target_gone now gone history))
   -- the choice behind the news of the sender, behind the routers, and behind the prefixes
   pub first : choice.Table
   pub second : choice.Table
   pub third : choice.Table
   pub may : MayRemember old.choice first old.neighbours.entries new.neighbours.entries
-  pub listed : Recollects first second (AsListed first second old.routers new.routers)
+  pub among : Recollects first second (AsListed first second old.routers new.routers)
   pub linked : Recollects second third (AsStanding now old.prefixes.entries new.prefixes.entries)
   pub redirects_third : third.redirects ≡ second.redirects
   pub redirects_then : new.choice.redirects ≡ third.redirects
@@ -414,8 +464,8 @@ pub record Laws : Type 0 where
   pub addresses_overdue : AddressesOverdue
   pub addresses_still : AddressesStill
 
-module _ {R A : Type 0} (stream : R → Stream) (old new : Node R A) (before after : List (ℕ × Out A)) (now : ℕ) (source destination : Addr) (ra : RouterAdvertisement) (options : List Said)
-    (laws : Laws) (settled : now < next_of old) (t : Takes stream old new before after now source destination ra options)
+module _ {R A : Type 0} (stream : R → Stream) (old new : Node R A) (before after : List (ℕ × Out A)) (now : ℕ) (source destination : Addr) (ra : RouterAdvertisement) (options : List Said) (listed : Bool)
+    (laws : Laws) (settled : now < next_of old) (t : Takes stream old new before after now source destination ra options listed)
     (start : Start) (below : Chronicle) (s : Stands stream start old below) (le : last_moment start.at below ≤ now) where
   abbrev source_key : ℕ
   source_key = number_of source.0
@@ -460,7 +510,7 @@ module _ {R A : Type 0} (stream : R → Stream) (old new : Node R A) (before aft
 
   -- the stages of what is added
   abbrev begun : Chronicle
-  begun = then_parameters start now source destination ra options placed
+  begun = redrawing start now ra.reachable_time (redraws (base_reachable_time placed) ra.reachable_time) (heard_from start now source destination (advertised ra options) listed placed)
 
   abbrev failed : Chronicle
   failed = failing_for now t.gone history begun
@@ -477,8 +527,8 @@ module _ {R A : Type 0} (stream : R → Stream) (old new : Node R A) (before aft
   abbrev all : Chronicle
   all = then_options start now (holds multicast_prefix destination.0) (prefixes_in options) left
 
-  message_adds : Begun start now source destination ra options placed begun
-  message_adds = begun_by start now source destination ra options (redraws (base_reachable_time placed) ra.reachable_time) placed
+  message_adds : Begun start now source destination ra options listed placed begun
+  message_adds = begun_by start now source destination ra options listed (redraws (base_reachable_time placed) ra.reachable_time) placed
 
   fails_add : Fails now t.gone history begun failed
   fails_add = fails now t.gone history begun message_adds.last
@@ -510,7 +560,13 @@ module _ {R A : Type 0} (stream : R → Stream) (old new : Node R A) (before aft
   generator_placed = s.generator ∙ sym (others.stream start)
 
   params_begun : parameters.Stands new.params (parameter_history begun)
-  params_begun = t.params.params start placed source destination params_placed generator_placed
+  params_begun = subst (λ (h : List parameter_rows.Row). parameters.Stands new.params h)
+      (same_parameters start now ra.reachable_time source destination ra options placed (redraws (base_reachable_time placed) ra.reachable_time) listed)
+      (t.params.params start placed source destination params_placed generator_placed)
+
+  generator_begun : t.left ≡ stream_left start begun
+  generator_begun = t.params.generator start placed source destination params_placed generator_placed
+      ∙ same_stream start now ra.reachable_time source destination ra options placed (redraws (base_reachable_time placed) ra.reachable_time) listed
 
   parameters_are : parameter_history all ≡ parameter_history begun
   parameters_are = options_add.parameters ∙ (leaving_adds.parameters ∙ (frames_add.parameters ∙ fails_add.parameters))
@@ -526,7 +582,7 @@ module _ {R A : Type 0} (stream : R → Stream) (old new : Node R A) (before aft
     mac = s.address_mac;
     limit = s.limits.addresses;
     transmits = s.address_transmits;
-    generator = t.params.generator start placed source destination params_placed generator_placed ∙ sym (leaving_adds.stream start ∙ (frames_add.stream start ∙ fails_add.stream start));
+    generator = generator_begun ∙ sym (leaving_adds.stream start ∙ (frames_add.stream start ∙ fails_add.stream start));
     in_force = t.in_force ∙ (params_begun.retrans_timer ∙ ap (λ (h : List parameter_rows.Row). parameter_rows.retrans_of h) (sym (leaving_adds.parameters ∙ (frames_add.parameters ∙ fails_add.parameters))));
   }
 
@@ -535,10 +591,10 @@ module _ {R A : Type 0} (stream : R → Stream) (old new : Node R A) (before aft
 
   -- ---- the other tables
 
-  routers_are : router_history all ≡ with_left now t.left_list source_key (with_router_gone now t.gone (router_rows.Heard now source_key ra.router_lifetime ra.preference ∷ router_history c))
+  routers_are : router_history all ≡ with_left now t.left_list source_key (with_router_gone now t.gone (with_heard now listed source_key ra.router_lifetime ra.preference (router_history c)))
   routers_are = options_add.routers ∙ (leaving_adds.routers ∙ (ap (λ (x : Bool). with_left now x source_key (router_history released)) (sym leaves_is)
       ∙ ap (λ (h : List router_rows.RouterRow). with_left now t.left_list source_key h) (frames_add.routers ∙ (fails_add.routers
-      ∙ ap (λ (h : List router_rows.RouterRow). with_router_gone now t.gone h) (message_adds.routers ∙ ap (λ (h : List router_rows.RouterRow). router_rows.Heard now source_key ra.router_lifetime ra.preference ∷ h) others.routers)))))
+      ∙ ap (λ (h : List router_rows.RouterRow). with_router_gone now t.gone h) (message_adds.routers ∙ ap (λ (h : List router_rows.RouterRow). with_heard now listed source_key ra.router_lifetime ra.preference h) others.routers)))))
 
   redirects_are : redirect_history all ≡ with_gone now t.left_list source_key (with_target_gone now t.gone (redirect_history c))
   redirects_are = options_add.redirects ∙ (leaving_adds.redirects ∙ (ap (λ (x : Bool). with_gone now x source_key (redirect_history released)) (sym leaves_is)
@@ -571,7 +627,7 @@ module _ {R A : Type 0} (stream : R → Stream) (old new : Node R A) (before aft
 
   heard_is : chronicle_due.heard_router (parameter_history all) ≡ (not (ra.router_lifetime == 0) || chronicle_due.heard_router (parameter_history c))
   heard_is = ap (λ (h : List parameter_rows.Row). chronicle_due.heard_router h) parameters_are
-      ∙ (heard_router_by start now ra.reachable_time (redraws (base_reachable_time placed) ra.reachable_time) source destination ra options placed
+      ∙ (heard_router_by start now ra.reachable_time (redraws (base_reachable_time placed) ra.reachable_time) listed source destination ra options placed
       ∙ ap (λ (h : List parameter_rows.Row). not (ra.router_lifetime == 0) || chronicle_due.heard_router h) others.parameters)
 
   solicitations_stand : soliciting.Stands start new.solicitations all
@@ -605,7 +661,7 @@ module _ {R A : Type 0} (stream : R → Stream) (old new : Node R A) (before aft
 
   draws_in_time : now ≤ new.params.drawn_at + redraw_after
   draws_in_time =
-      let later = draw_later start now ra.reachable_time (redraws (base_reachable_time placed) ra.reachable_time) source destination ra options placed
+      let later = draw_later start now ra.reachable_time (redraws (base_reachable_time placed) ra.reachable_time) listed source destination ra options placed
       (omega (arith, redraw_before old now not_past, params_placed.drawn_at)) in
       omega (arith, later, params_begun.drawn_at)
 
@@ -651,7 +707,7 @@ module _ {R A : Type 0} (stream : R → Stream) (old new : Node R A) (before aft
 
   recalls : Recalls now new
   recalls =
-      recalls_refreshed old new old.last now (omega (arith, s.last, le)) s.memo t.first t.second t.third t.own t.may t.listed t.linked t.redirects_third t.redirects_then t.hops t.until history s.neighbours
+      recalls_refreshed old new old.last now (omega (arith, s.last, le)) s.memo t.first t.second t.third t.own t.may t.among t.linked t.redirects_third t.redirects_then t.hops t.until history s.neighbours
       (λ mine. own_by old.addresses.addresses new.addresses.addresses (address_history c) (address_history all) s.addresses forms_all.addresses
       (own_refreshed start now (holds multicast_prefix destination.0) c left old.addresses.mac old.addresses.addresses (prefixes_in options) s.address_mac
       (λ key. is_known_by key old.addresses.addresses (address_history c) s.addresses) addresses_are (sym t.own_is ∙ mine)))
@@ -697,16 +753,17 @@ module _ {R A : Type 0} (stream : R → Stream) (old new : Node R A) (before aft
     in_time = rw (all_last start.at) in_time;
   }
 
-  advertises : Advertises stream new before after now source destination ra options start c
+  advertises : Advertises stream new before after now source destination ra options listed start c
   advertises = record {
     gone = t.gone;
     placed = placed;
     room = record { way = way_for start c now speakers of_sender t.gone (ap (λ (p : Policies). p.speakers) s.policies) meets.0; place = place.place };
     stands = stands_all;
+    moment = all_last start.at;
     tells = Tells-then ((now, Heard source destination (advertised ra options)) ∷ c) released all before t.between after tells_released tells_left;
   }
 
-pub takes_advertisement : {R A : Type 0} (stream : R → Stream) (old new : Node R A) (before after : List (ℕ × Out A)) (now : ℕ) (source destination : Addr) (ra : RouterAdvertisement) (options : List Said)
-    → Laws → now < next_of old → Takes stream old new before after now source destination ra options → TakesAdvertisement stream old new before after now source destination ra options
-takes_advertisement stream old new before after now source destination ra options laws settled t =
-    record { each = λ start below s le. advertises stream old new before after now source destination ra options laws settled t start below s le }
+pub takes_advertisement : {R A : Type 0} (stream : R → Stream) (old new : Node R A) (before after : List (ℕ × Out A)) (now : ℕ) (source destination : Addr) (ra : RouterAdvertisement) (options : List Said) (listed : Bool)
+    → Laws → now < next_of old → Takes stream old new before after now source destination ra options listed → TakesAdvertisement stream old new before after now source destination ra options listed
+takes_advertisement stream old new before after now source destination ra options listed laws settled t =
+    record { each = λ start below s le. advertises stream old new before after now source destination ra options listed laws settled t start below s le }

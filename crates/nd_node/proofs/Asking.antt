@@ -24,7 +24,7 @@ use Rattle.nd_neighbour.specs.RoomKept.{has_room}
 use Rattle.nd_neighbour.specs.TableKept as neighbours
 use Rattle.nd_neighbour.specs.TableKept.{entry_in}
 use Rattle.nd_compose.specs.Frames.{answer_frame}
-use Rattle.nd_chronicle.specs.Start.{Start}
+use Rattle.nd_chronicle.specs.Start.{Policies, Start}
 use Rattle.nd_chronicle.specs.Happening.{Chronicle, Passed, Heard, Refused, Sent, Full, Neighbours, last_moment}
 use Rattle.nd_chronicle.specs.Histories.{neighbour_history, given_or_marked, said_of_neighbour}
 use Rattle.nd_chronicle.specs.LinkLayerAddress.{first_slla}
@@ -52,7 +52,7 @@ use Rattle.nd_node.specs.Hearing.{AddsMessage}
 use Rattle.nd_node.specs.Frame.{AddsAlone}
 use Rattle.nd_steps.specs.DestinationCache.{Keeps}
 use Rattle.nd_node.proofs.Beside.{Same, beside_sent, stands_neighbours}
-use Rattle.nd_node.proofs.Detections.{solicitation}
+use Rattle.nd_node.specs.Asker.{solicitation}
 use Rattle.nd_node.proofs.Givers.{TakesGiver, said_is}
 use Rattle.nd_node.proofs.PlainMessages.{passed_placed}
 use Rattle.nd_node.proofs.Standing.{Apart}
@@ -188,7 +188,7 @@ module _ (start : Start) (now : ℕ) (source destination : Addr) (ns : NeighborS
   abbrev way : Bool
   way = makes_way start (said c source (solicitation ns options))
 
-  asked : (place : Bool) → full.Placed start c now way (Some (number_of source.0, true)) place → full.Placed start c now way (full.asking source) place
+  pub asked : (place : Bool) → full.Placed start c now way (Some (number_of source.0, true)) place → full.Placed start c now way (full.asking source) place
   asked place h = subst (λ (b : Bool). full.Placed start c now way (if b then None else Some (number_of source.0, true)) place) (sym from) h
 
   adds_answer : full.Placed start c now way (Some (number_of source.0, true)) true → Answers start now source destination ns.target (solicitation ns options) c d
@@ -199,9 +199,9 @@ module _ (start : Start) (now : ℕ) (source destination : Addr) (ns : NeighborS
     subst (λ (b : Bool). MatchBool b (d ≡ then_tried start now ns.target ((now, Heard source destination (solicitation ns options)) ∷ c)) (Answers start now source destination ns.target (solicitation ns options) c d)) (sym from) answers,
   )
 
-  adds_refusal : full.Placed start c now way (Some (number_of source.0, true)) false → d ≡ (now, Refused (Full Neighbours)) ∷ c
+  adds_refusal : start.policies.parts ≡ false → full.Placed start c now way (Some (number_of source.0, true)) false → d ≡ (now, Refused (Full Neighbours)) ∷ c
       → VerdictAdds start now [] (hears source destination (solicitation ns options)) c d
-  adds_refusal place is = (Some Neighbours, record { neighbours = false; placed = asked false place; first = refl }, is)
+  adds_refusal whole place is = (Some Neighbours, record { neighbours = false; placed = asked false place; first = refl }, rw whole is)
 
 module _ {R A : Type 0} (stream : R → Stream) (old : Node R A) (now : ℕ) (source destination : Addr) (ns : NeighborSolicitation) (options : List Said)
     (from : bytes_eq source.0 unspecified_address ≡ false) (settled : now < next_of old) (times : Times) (news : Option News)
@@ -217,16 +217,16 @@ module _ {R A : Type 0} (stream : R → Stream) (old : Node R A) (now : ℕ) (so
 
   -- ---- there is no place
 
-  pub refused : (new : Node R A) (x y : List (ℕ × Out A))
+  pub refused : old.policies.parts ≡ false → (new : Node R A) (x y : List (ℕ × Out A))
       → ((start : Start) (c : Chronicle) → Stands stream start old c → full.Placed start c now (makes_way start (option_map (said_by times) news)) (Some (number_of source.0, true)) false)
       → AddsAlone stream old new x y now (Refused (Full Neighbours)) → AddsMessage stream old new x y now source destination (solicitation ns options) (answers.Refused (Full Neighbours))
-  refused new x y placed adds = record {
+  refused whole new x y placed adds = record {
     each = λ start c s le takes.
         let a = adds.each start c s le in
         let later : Chronicle = (now, Passed) ∷ c in
         let d : Chronicle = (now, Refused (Full Neighbours)) ∷ later in (
           d,
-          adds_refusal start now source destination ns options later d from (place_later start c false s (placed start c s)) refl,
+          adds_refusal start now source destination ns options later d from (ap (λ (p : Policies). p.parts) (sym s.policies) ∙ whole) (place_later start c false s (placed start c s)) refl,
           a.0,
           a.1,
           refl,

@@ -5,7 +5,6 @@ use Rattle.rand_core.specs.Stream.{Stream}
 use Rattle.nd_addr.specs.declared.addr.Addr.{Addr}
 use Rattle.nd_addr.specs.Kind.{unspecified_address}
 use Rattle.nd_addr.specs.Number.{number_of}
-use Rattle.nd_decode.specs.Message.{Parts}
 use Rattle.nd_decode.specs.Option.{Said}
 use Rattle.nd_decode.specs.declared.body.Body.TheVariants as bodies
 use Rattle.nd_decode.specs.declared.neighbor_solicitation.NeighborSolicitation.{NeighborSolicitation}
@@ -35,6 +34,7 @@ use Rattle.nd_steps.proofs.Quiet.{Quiet, sent_is_quiet}
 use Rattle.nd_steps.proofs.Telling.{handed_out}
 use Rattle.nd_chronicle.specs.Answer.{Done}
 use Rattle.nd_node.specs.declared.node.Node.{Node}
+use Rattle.nd_node.specs.Asker.{solicitation}
 use Rattle.nd_node.specs.NodeKept.{Stands, next_of}
 use Rattle.nd_node.specs.Hearing.{AddsMessage}
 use Rattle.nd_nexthop.specs.Memo.{forgotten}
@@ -52,10 +52,6 @@ abbrev pub ByTable : Type 0
 ByTable = (transmits : ℕ) (those : List own.Address) (history : List rows.Row) (now : ℕ) → addresses.Stands those history → NoneBefore those now ↔ NoneOverdue transmits history now
 
 -- ---- the rows
-
--- a solicitation
-abbrev pub solicitation : NeighborSolicitation → List Said → Parts
-solicitation ns options = record { body = bodies.Ns ns; options = options }
 
 -- one from :: says nothing of a neighbour
 heard_is_quiet : (at : ℕ) (source destination : Addr) (ns : NeighborSolicitation) (options : List Said) (c : Chronicle)

@@ -20,6 +20,8 @@ pub mod PlainMessages
 pub mod Judging
 pub mod Running
 pub mod AsRead
+pub mod Ignoring
+pub mod InPart
 pub mod Filling
 pub mod Advertised
 pub mod TakenOrRefused
@@ -39,3 +41,4 @@ pub mod InTransit
 pub mod Refusals
 pub mod Growing
 pub mod ByHand
+pub mod WithoutEntry

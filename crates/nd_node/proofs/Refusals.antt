@@ -25,10 +25,10 @@ use Rattle.nd_slaac.specs.State.{is_by_hand, is_known}
 use Rattle.nd_nexthop.specs.NextHop.{NextHop, direct}
 use Rattle.nd_chronicle.specs.Start.{Policies, Start}
 use Rattle.nd_chronicle.specs.Reading.{read_outcome}
-use Rattle.nd_chronicle.specs.Happening.{Chronicle, Heard, Limit, Loss, Lost, Passed, Refusal, Refused, Forgotten, Neighbour, Sent, Unreachable}
+use Rattle.nd_chronicle.specs.Happening.{Chronicle, Full, Heard, Limit, Loss, Lost, Passed, Refusal, Refused, Forgotten, Neighbour, Sent, Unreachable}
 use Rattle.nd_chronicle.specs.Advertising.{planning, wants_answer}
 use Rattle.nd_chronicle.specs.Event as events
-use Rattle.nd_chronicle.specs.Event.{EventAdds, MessageAdds, PacketAdds, packet_frame, refusal_of_packet, VerdictAdds, FrameAdds, packet_bytes, Clearable, clearing}
+use Rattle.nd_chronicle.specs.Event.{EventAdds, HeardAdds, InPart, MessageAdds, PacketAdds, packet_frame, refusal_of_packet, VerdictAdds, FrameAdds, packet_bytes, Clearable, clearing}
 use Rattle.nd_chronicle.specs.Histories.{neighbour_history, route_history}
 use Rattle.nd_chronicle.specs.InForce.{base_reachable_time, retrans_timer}
 use Rattle.nd_chronicle.specs.Message.{failing_for, leaving, makes_way, releasing, said, sending_if_known, telling_if_known}
@@ -40,6 +40,8 @@ use Rattle.nd_chronicle.specs.Packet.{Goes, GoesIfPlaced, HasPlace, losing, no_p
 use Rattle.nd_chronicle.specs.NextHop.{IsHopOf}
 use Rattle.nd_chronicle.specs.Refused.{UnlessFull, UnlessRefused}
 use Rattle.nd_chronicle.specs.RouterAdvertisement.{forming, naming, redrawing, then_option, then_options, times_out}
+use Rattle.nd_chronicle.specs.Answer as answers
+use Rattle.nd_chronicle.proofs.Answering.{in_part_done}
 use Rattle.nd_chronicle.proofs.Hops.{one_hop}
 use Rattle.nd_chronicle.proofs.Places.{one_has_place}
 use Rattle.nd_compose.specs.Frames.{answer_frame, open_mac}
@@ -319,12 +321,25 @@ module _ (start : Start) (now : ℕ) (source destination : Addr) (message : Part
   abbrev later : Chronicle
   later = (now, Passed) ∷ c
 
+  -- it is refused where a table is full, and not taken in part
+  refused_whole : (parts : Bool) (why : Refusal) (limit : Limit) → MatchBool parts (InPart start now source destination message later ((now, Refused why) ∷ later)) ((now, Refused why) ∷ later ≡ (now, Refused (Full limit)) ∷ later)
+      → parts ≡ false
+  refused_whole true why limit adds =
+      let done : answers.Refused why ≡ answers.Done = in_part_done start now source destination message later ((now, Refused why) ∷ later) refl adds in
+      let never : ⊥ = cc in
+      absurd never
+  refused_whole false why limit adds = refl
+
+  heard_full : (why : Refusal) (full : Option Limit) → HeardAdds start now full source destination message later ((now, Refused why) ∷ later) → (limit : Limit) × (full ≡ Some limit) × (start.policies.parts ≡ false)
+  heard_full why None adds = absurd (not_refused now why later _ (message_adds now start source destination message message.body later _ adds) refl)
+  heard_full why (Some limit) adds = (limit, refl, refused_whole start.policies.parts why limit adds)
+
   -- a message is refused where a table is full
   pub message_full : (frame : List ℕ) (verdict : Verdict) → Judges start later now frame (valid source destination message) verdict → AddsRefusal now c (VerdictAdds start now frame verdict)
-      → (limit : Limit) × Fills start later now source message message.body (Some limit)
+      → (limit : Limit) × Fills start later now source message message.body (Some limit) × (start.policies.parts ≡ false)
   message_full frame _ (IsTaken us first) adds =
-      let f = full_of now adds.0 later adds.1.0 (MessageAdds start now source destination message message.body later) (message_adds now start source destination message message.body later) adds.1.2 in
-      (f.0, subst (λ (o : Option Limit). Fills start later now source message message.body o) f.1 adds.1.1)
+      let f = heard_full adds.0 adds.1.0 adds.1.2 in
+      (f.0, subst (λ (o : Option Limit). Fills start later now source message message.body o) f.1 adds.1.1, f.2)
   message_full frame _ (IsStrange never) adds = absurd (not_refused now adds.0 later _ refl adds.1)
   message_full frame _ (IsMisdirected us other') adds = absurd (not_refused now adds.0 later _ refl adds.1)
 

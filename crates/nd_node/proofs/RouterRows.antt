@@ -12,7 +12,7 @@ use Rattle.nd_forwarding.specs.declared.route.Route.{Route}
 use Rattle.nd_forwarding.specs.History as route_rows
 use Rattle.nd_forwarding.specs.Table as routes
 use Rattle.nd_chronicle.specs.Start.{Start}
-use Rattle.nd_chronicle.specs.Happening.{Chronicle, Happening, Ceased, Configured, Drew, ForAnswer, Offered, Planned, RedirectMade, RoutePut, last_moment}
+use Rattle.nd_chronicle.specs.Happening.{Ignored, Limit, Chronicle, Happening, Ceased, Configured, Drew, ForAnswer, Offered, Planned, RedirectMade, RoutePut, last_moment}
 use Rattle.nd_chronicle.specs.Histories.{parameter_history, neighbour_history, router_history, prefix_history, address_history, server_history, name_history, redirect_history, advertising_history, route_history}
 use Rattle.nd_chronicle.specs.Generator.{stream_left}
 use Rattle.nd_chronicle.specs.Due.{solicited_routers}
@@ -46,6 +46,7 @@ pub data Kind : Type 0 where
   DrawsDelay : (delay : ℕ) → Kind
   PutsRoute : (prefix : PrefixValue) (route : Route) → Kind
   Redirects : Kind
+  IgnoresPart : (limit : Limit) → Kind
 
 abbrev pub what_of : Kind → Happening
 what_of (Configures settings) = Configured settings
@@ -55,6 +56,7 @@ what_of (PlansAnswer delay) = Planned delay
 what_of (DrawsDelay delay) = Drew ForAnswer delay
 what_of (PutsRoute prefix route) = RoutePut prefix route
 what_of Redirects = RedirectMade
+what_of (IgnoresPart limit) = Ignored limit
 
 pub aside : (kind : Kind) (at start : ℕ) (c : Chronicle) → last_moment start c ≡ at → Aside start c ((at, what_of kind) ∷ c)
 aside (Configures settings) at start c now = record { parameters = refl; neighbours = refl; routers = refl; prefixes = refl; addresses = refl; servers = refl; names = refl; redirects = refl; solicited = refl; last = sym now }
@@ -64,6 +66,7 @@ aside (PlansAnswer delay) at start c now = record { parameters = refl; neighbour
 aside (DrawsDelay delay) at start c now = record { parameters = refl; neighbours = refl; routers = refl; prefixes = refl; addresses = refl; servers = refl; names = refl; redirects = refl; solicited = refl; last = sym now }
 aside (PutsRoute prefix route) at start c now = record { parameters = refl; neighbours = refl; routers = refl; prefixes = refl; addresses = refl; servers = refl; names = refl; redirects = refl; solicited = refl; last = sym now }
 aside Redirects at start c now = record { parameters = refl; neighbours = refl; routers = refl; prefixes = refl; addresses = refl; servers = refl; names = refl; redirects = refl; solicited = refl; last = sym now }
+aside (IgnoresPart limit) at start c now = record { parameters = refl; neighbours = refl; routers = refl; prefixes = refl; addresses = refl; servers = refl; names = refl; redirects = refl; solicited = refl; last = sym now }
 
 pub aside_same : (start : ℕ) (c : Chronicle) → Aside start c c
 aside_same start c = record { parameters = refl; neighbours = refl; routers = refl; prefixes = refl; addresses = refl; servers = refl; names = refl; redirects = refl; solicited = refl; last = refl }

@@ -1,5 +1,5 @@
 -- A Router Advertisement is heard at a node: it is taken, or refused.
-use Rattle.std.proofs.Common.{◌≡◌, ℕ, ◌≤◌, Bool, List, [], ◌∷◌, ◌++◌, append-nil, Option, Some, None, refl, sym, ◌∙◌, ap, subst}
+use Rattle.std.proofs.Common.{◌≡◌, ℕ, ◌≤◌, Bool, true, false, List, [], ◌∷◌, ◌++◌, append-nil, Option, Some, None, refl, sym, ◌∙◌, ap, subst}
 use Rattle.std.specs.Option.{option_map}
 use Rattle.rand_core.specs.Stream.{Stream}
 use Rattle.nd_addr.specs.declared.addr.Addr.{Addr}
@@ -34,7 +34,7 @@ use Rattle.nd_node.specs.RouterAdvertisement.{advertised, TakesAdvertisement}
 use Rattle.nd_node.specs.Frame.{AddsAlone}
 
 -- one is handed out, which is told as this
-tells_one : {A : Type 0} (c : Chronicle) (now : ℕ) (told_is what : Happening) (x y : List (ℕ × Out A)) (out : Out A) → happening out ≡ told_is → items_at (now, what) ≡ items_at (now, told_is) → y ≡ x ++ (now, out) ∷ []
+pub tells_one : {A : Type 0} (c : Chronicle) (now : ℕ) (told_is what : Happening) (x y : List (ℕ × Out A)) (out : Out A) → happening out ≡ told_is → items_at (now, what) ≡ items_at (now, told_is) → y ≡ x ++ (now, out) ∷ []
     → Tells c ((now, what) ∷ (now, Passed) ∷ c) x y
 tells_one c now told_is what x y out out_is same is = record {
   newer = (now, told_is) ∷ [];
@@ -74,14 +74,14 @@ module _ {R A : Type 0} (stream : R → Stream) (now : ℕ) (source destination 
       (placed start c times s.limits.neighbours (ap (λ (p : Policies). p.speakers) s.policies) s.neighbours)
 
   -- it is refused, since a table has no room
-  pub refuses : (old new : Node R A) (x y : List (ℕ × Out A)) (limit : happenings.Limit)
+  pub refuses : (old new : Node R A) (x y : List (ℕ × Out A)) (limit : happenings.Limit) → old.policies.parts ≡ false
       → ((start : Start) (c : Chronicle) → Stands stream start old c → last_moment start.at c ≤ now → AdvertisementFills start c now source ra (advertised ra options) (Some limit))
       → AddsAlone stream old new x y now (Refused (Full limit)) → AddsMessage stream old new x y now source destination (advertised ra options) (answers.Refused (Full limit))
-  refuses old new x y limit fills adds = record {
+  refuses old new x y limit whole fills adds = record {
     each = λ start c s le target.
         let a = adds.each start c s le in (
           (now, Refused (Full limit)) ∷ (now, Passed) ∷ c,
-          (Some limit, fills_later now source ra options start c (Some limit) (fills start c s le), refl),
+          (Some limit, fills_later now source ra options start c (Some limit) (fills start c s le), rw (ap (λ (p : Policies). p.parts) (sym s.policies) ∙ whole) refl),
           a.0,
           a.1,
           refl,
@@ -92,11 +92,11 @@ module _ {R A : Type 0} (stream : R → Stream) (now : ℕ) (source destination 
   pub takes : (old new : Node R A) (x same y z : List (ℕ × Out A)) (out : Out A) → out ≡ outs.Heard source destination (bodies.Ra ra)
       → ((start : Start) (c : Chronicle) → Stands stream start old c → last_moment start.at c ≤ now → AdvertisementFills start c now source ra (advertised ra options) None)
       → same ≡ x → y ≡ same ++ (now, out) ∷ []
-      → TakesAdvertisement stream old new y z now source destination ra options → AddsMessage stream old new x z now source destination (advertised ra options) answers.Done
+      → TakesAdvertisement stream old new y z now source destination ra options true → AddsMessage stream old new x z now source destination (advertised ra options) answers.Done
   takes old new x same y z out out_is fills same_is told_is taken = record {
     each = λ start c s le target.
         let a = taken.each start c s le in (
-          then_advertised start now source destination ra (advertised ra options) a.gone (neighbour_history c) a.placed,
+          then_advertised start now source destination ra (advertised ra options) true a.gone (neighbour_history c) a.placed,
           (None, fills_later now source ra options start c None (fills start c s le), (a.gone, a.placed, a.room, refl)),
           a.stands,
           Tells-then c ((now, Heard source destination (advertised ra options)) ∷ (now, Passed) ∷ c) _ x y z

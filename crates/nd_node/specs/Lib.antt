@@ -9,6 +9,7 @@ pub mod Asker
 pub mod Hearing
 pub mod Fullness
 pub mod RouterAdvertisement
+pub mod Parts
 pub mod Memory
 pub mod Answer
 pub mod Event

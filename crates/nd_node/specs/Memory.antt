@@ -29,10 +29,11 @@ pub record IsDropped (start : Start) (c : Chronicle) (now : ℕ) (frame : List �
   pub told : 1 ≤ places
 
 -- an advertisement that adds no search name: there are places for itself, a router that leaves, the packets that wait for its sender, and its address,
--- if a caller waits for that, and with the policy `speakers` for a neighbour that gives way, and what waits for that one
+-- if a caller waits for that, and with the policy `speakers` for a neighbour that gives way, and what waits for that one, and with `parts` for each limit of
+-- which a part is passed over
 pub record AddsNoName {R A : Type 0} (node : Node R A) (now : ℕ) (source : Addr) (options : List Said) (places : ℕ) : Type 0 where
   pub names : new_names now options node.dns ≡ []
-  pub told : told_at (entry_in (number_of source.0) node.neighbours.entries) + 2 + (if node.policies.speakers then max_waiting + 1 else 0) ≤ places
+  pub told : told_at (entry_in (number_of source.0) node.neighbours.entries) + 2 + (if node.policies.speakers then max_waiting + 1 else 0) + (if node.policies.parts then 6 else 0) ≤ places
 
 -- the frame is such an advertisement
 pub record IsNameless {R A : Type 0} (node : Node R A) (now : ℕ) (frame : List ℕ) (places : ℕ) : Type 0 where

@@ -42,14 +42,15 @@ pub record IsTaken {R A : Type 0} (node : Node R A) (now : ℕ) (said taken : Li
   pub names : names_told taken ≡ names_taken now said node.dns
 
 -- What an advertisement leads to: there is room for its sender, and the tables are those of the chronicle with all that it adds.
-pub record Advertises {R A : Type 0} (stream : R → Stream) (new : Node R A) (before after : List (ℕ × Out A)) (now : ℕ) (source destination : Addr) (ra : RouterAdvertisement) (options : List Said) (start : Start) (c : Chronicle) : Type 0 where
+pub record Advertises {R A : Type 0} (stream : R → Stream) (new : Node R A) (before after : List (ℕ × Out A)) (now : ℕ) (source destination : Addr) (ra : RouterAdvertisement) (options : List Said) (listed : Bool) (start : Start) (c : Chronicle) : Type 0 where
   pub gone : Option ℕ
   pub placed : Chronicle
   pub room : RoomFor start c now (said c source (advertised ra options)) gone placed
-  pub stands : Stands stream start new (then_advertised start now source destination ra (advertised ra options) gone (neighbour_history c) placed)
-  pub tells : Tells ((now, Heard source destination (advertised ra options)) ∷ c) (then_advertised start now source destination ra (advertised ra options) gone (neighbour_history c) placed) before after
+  pub stands : Stands stream start new (then_advertised start now source destination ra (advertised ra options) listed gone (neighbour_history c) placed)
+  pub moment : last_moment start.at (then_advertised start now source destination ra (advertised ra options) listed gone (neighbour_history c) placed) ≡ now
+  pub tells : Tells ((now, Heard source destination (advertised ra options)) ∷ c) (then_advertised start now source destination ra (advertised ra options) listed gone (neighbour_history c) placed) before after
 
 -- from each chronicle of earlier moments that the node stood for
-pub record TakesAdvertisement {R A : Type 0} (stream : R → Stream) (old new : Node R A) (before after : List (ℕ × Out A)) (now : ℕ) (source destination : Addr) (ra : RouterAdvertisement) (options : List Said) : Type 0 where
+pub record TakesAdvertisement {R A : Type 0} (stream : R → Stream) (old new : Node R A) (before after : List (ℕ × Out A)) (now : ℕ) (source destination : Addr) (ra : RouterAdvertisement) (options : List Said) (listed : Bool) : Type 0 where
   pub each : (start : Start) (c : Chronicle) → Stands stream start old c → last_moment start.at c ≤ now
-      → Advertises stream new before after now source destination ra options start ((now, Passed) ∷ c)
+      → Advertises stream new before after now source destination ra options listed start ((now, Passed) ∷ c)

@@ -32,9 +32,10 @@
 //!
 //! # What may fail
 //! Only memory. `Node::new` returns the generator then, with no word drawn. After an error of `event` a part of what is due may have been done and
-//! reported, and the event has changed nothing: the same call continues from there. No message is applied in part. Each table has
+//! reported, and the event has changed nothing: the same call continues from there. No message is applied in part when memory runs out. Each table has
 //! its room from the start, but for the redirects that are kept and the next hops that are remembered, which take a block for each entry. A full
-//! table refuses (`Out::Refused`) or evicts an entry as RFC 4861, section 5.3, suggests.
+//! table refuses (`Out::Refused`), passes a part of a message over with the policy `parts` (`Out::Ignored`), or evicts an entry as RFC 4861, section 5.3,
+//! suggests.
 //!
 //! Memory is taken for frames that are sent, packets that wait for a neighbour's link-layer address, new search names, a redirect or a next hop
 //! that is new, the list of outputs and text. If the list has room, none is taken for a frame that is dropped, a Router Advertisement that adds no
@@ -69,6 +70,7 @@ mod neighbor_solicitation;
 mod node;
 mod outgoing_packet;
 mod packet;
+mod parts;
 mod path;
 mod policies;
 mod reachability_confirmation;

@@ -26,7 +26,7 @@ use rand_core::Rng;
 use std::alloc::{AllocError, Allocator};
 
 /// The most rows that a message adds, besides those of the packets that it releases: itself, a duplicate address or an answer, the address for which a
-/// caller waited, and a router that leaves the list.
+/// caller waited, and a router that leaves the list or a limit of which a part was passed over.
 pub(crate) const MOST_ROWS: usize = 4;
 
 /// Reports a valid message for this node, at `now` in milliseconds, into room that was made before.

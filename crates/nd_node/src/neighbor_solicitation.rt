@@ -1,25 +1,28 @@
 //! Handles a Neighbor Solicitation (RFC 4861, sections 7.2.3 and 7.2.4; RFC 4862, section 5.4.3).
 
-ghost use Rattle.std.specs.Prelude.{◌≡◌, ◌∷◌, ◌+◌, ◌<◌, ◌≤◌, List, None, Some, IfOk, IsOk, OnOk, OnErr, bytes_eq, false, if◌then◌else◌, true, is_some, vec_len, vec_capacity};
+ghost use Rattle.std.specs.Prelude.{◌≡◌, ◌∷◌, ◌++◌, ◌+◌, ◌<◌, ◌≤◌, List, map, None, Some, IfOk, IsOk, OnOk, OnErr, bytes_eq, false, if◌then◌else◌, true, is_some, vec_len, vec_capacity};
+ghost use Rattle.nd_addr.specs.Frame.{addressed};
 ghost use Rattle.nd_addr.specs.Kind.{unspecified_address};
 ghost use Rattle.nd_addr.specs.Number.{number_of};
 ghost use Rattle.nd_decode.specs.Option.{Said};
 ghost use Rattle.nd_decode.specs.declared.body.Body.TheVariants as bodies;
+ghost use Rattle.nd_compose.specs.Frames.{answer_frame};
+ghost use Rattle.nd_steps.specs.Outputs.{at_moment, happenings};
 ghost use Rattle.nd_table.specs.Moment.{IsMoment};
 ghost use Rattle.nd_packet.specs.Waiting.{max_waiting};
-ghost use Rattle.std.specs.Option.{option_map};
+ghost use Rattle.std.specs.Option.{option_map, option_to_list};
 ghost use Rattle.nd_neighbour.specs.declared.news.Times.{Times};
 ghost use Rattle.nd_neighbour.specs.RoomKept.{has_room};
 ghost use Rattle.nd_neighbour.specs.TableKept.{Stands as stands_for, entry_in};
 ghost use Rattle.nd_chronicle.specs.Full.{Placed};
 ghost use Rattle.nd_chronicle.specs.Histories.{neighbour_history};
-ghost use Rattle.nd_chronicle.specs.Message.{makes_way};
+ghost use Rattle.nd_chronicle.specs.Message.{makes_way, said};
 ghost use Rattle.nd_steps.specs.GivingWay.{HasPlaceOrWay};
 ghost use Rattle.nd_steps.specs.NeighbourCache.{said_by};
-ghost use Rattle.nd_node.specs.Asker.{IsOfAsker};
+ghost use Rattle.nd_node.specs.Asker.{IsOfAsker, solicitation};
 ghost use Rattle.nd_chronicle.specs.NeighborSolicitation as solicited;
 ghost use Rattle.nd_chronicle.specs.Full.{Fills};
-ghost use Rattle.nd_chronicle.specs.Happening.{Chronicle, Limit as Table, Passed, last_moment};
+ghost use Rattle.nd_chronicle.specs.Happening.{Chronicle, Limit as Table, Passed, Sent, last_moment};
 ghost use Rattle.nd_chronicle.specs.Start.{Start};
 ghost use Rattle.nd_node.specs.Hearing.{AddsMessage, Keeps, options_read};
 ghost use Rattle.nd_node.specs.Answer.{answer_of};
@@ -27,15 +30,15 @@ ghost use Rattle.nd_node.specs.Answer.{answer_of};
 use crate::answer::Answer;
 use crate::message::MOST_ROWS;
 use crate::node::Node;
-use nd_addr::{Addr, Role};
+use nd_addr::{Addr, Mac, Role};
 use nd_compose::FrameRoom;
 use nd_decode::NeighborSolicitation;
 use nd_neighbour::{Cache, News};
 use nd_out::{Limit, Out, Refusal};
-use nd_packet::MAX_WAITING;
+use nd_packet::{MAX_WAITING, Packet};
 use nd_steps::{
-    has_place, hear_conflict, hear_giver, most_told_of_way, news_of, note_way, ready_for,
-    times_in_force,
+    answer_address, has_place, hear_conflict, hear_giver, most_told_of_way, news_of, note_way,
+    ready_for, tell_ignored, times_in_force,
 };
 use nd_validity::Heard;
 use rand_core::Rng;
@@ -69,7 +72,7 @@ impl<R: Rng + Drop, A: Allocator + Clone> Node<R, A> {
         ensures adds { IfOk result (λ answer. AddsMessage R.stream self.old self.new outs.old.items outs.new.items now heard.now.source heard.now.destination (record { body = bodies.Ns ns.now; options = options_read self.old heard.now.message.options }) (answer_of answer)) }
         ensures keeps { OnErr result (Keeps self.old self.new) }
         ensures told { OnErr result (outs.new.items ≡ outs.old.items) }
-        ensures full { (limit : Table) (start : Start) (c : Chronicle) → Stands R.stream start self.old c → last_moment start.at c ≤ now → Fills start ((now, Passed) ∷ c) now heard.now.source (record { body = bodies.Ns ns.now; options = options_read self.old heard.now.message.options }) (bodies.Ns ns.now) (Some limit) → vec_len outs.old < vec_capacity outs.old → IsOk result }
+        ensures full { (limit : Table) (start : Start) (c : Chronicle) → Stands R.stream start self.old c → last_moment start.at c ≤ now → Fills start ((now, Passed) ∷ c) now heard.now.source (record { body = bodies.Ns ns.now; options = options_read self.old heard.now.message.options }) (bodies.Ns ns.now) (Some limit) → self.old.policies.parts ≡ false → vec_len outs.old < vec_capacity outs.old → IsOk result }
     {
         if heard.source.is_unspecified() {
             return self.hear_detection(now, heard, ns, outs);
@@ -94,7 +97,7 @@ impl<R: Rng + Drop, A: Allocator + Clone> Node<R, A> {
         ensures adds { IfOk result (λ answer. (options : List Said) → AddsMessage R.stream self.old self.new outs.old.items outs.new.items now heard.now.source heard.now.destination (record { body = bodies.Ns ns.now; options = options }) (answer_of answer)) }
         ensures keeps { OnErr result (Keeps self.old self.new) }
         ensures told { OnErr result (outs.new.items ≡ outs.old.items) }
-        ensures full { (options : List Said) (limit : Table) (start : Start) (c : Chronicle) → Stands R.stream start self.old c → last_moment start.at c ≤ now → Fills start ((now, Passed) ∷ c) now heard.now.source (record { body = bodies.Ns ns.now; options = options }) (bodies.Ns ns.now) (Some limit) → vec_len outs.old < vec_capacity outs.old → IsOk result }
+        ensures full { (options : List Said) (limit : Table) (start : Start) (c : Chronicle) → Stands R.stream start self.old c → last_moment start.at c ≤ now → Fills start ((now, Passed) ∷ c) now heard.now.source (record { body = bodies.Ns ns.now; options = options }) (bodies.Ns ns.now) (Some limit) → self.old.policies.parts ≡ false → vec_len outs.old < vec_capacity outs.old → IsOk result }
     {
         nd_slaac::laws::none_overdue();
         let room = FrameRoom::new(outs.allocator().clone()?)?;
@@ -113,8 +116,8 @@ impl<R: Rng + Drop, A: Allocator + Clone> Node<R, A> {
     }
 
     /// Handles a solicitation from an address for one of the node's own: the asker's entry takes what the solicitation says, and the answer goes to
-    /// the asker (RFC 4861, sections 7.2.3 and 7.2.4). It is refused if there is no room for the asker. Returns an
-    /// error if out of memory; nothing has changed then.
+    /// the asker (RFC 4861, sections 7.2.3 and 7.2.4). If there is no room for the asker it is refused, or answered without an entry with the policy `parts`.
+    /// Returns an error if out of memory; nothing has changed then.
     fn hear_asker(
         &mut self,
         now: u64,
@@ -129,7 +132,7 @@ impl<R: Rng + Drop, A: Allocator + Clone> Node<R, A> {
         ensures adds { IfOk result (λ answer. AddsMessage R.stream self.old self.new outs.old.items outs.new.items now heard.now.source heard.now.destination (record { body = bodies.Ns ns.now; options = options_read self.old heard.now.message.options }) (answer_of answer)) }
         ensures keeps { OnErr result (Keeps self.old self.new) }
         ensures told { OnErr result (outs.new.items ≡ outs.old.items) }
-        ensures full { (limit : Table) (start : Start) (c : Chronicle) → Stands R.stream start self.old c → last_moment start.at c ≤ now → Fills start ((now, Passed) ∷ c) now heard.now.source (record { body = bodies.Ns ns.now; options = options_read self.old heard.now.message.options }) (bodies.Ns ns.now) (Some limit) → vec_len outs.old < vec_capacity outs.old → IsOk result }
+        ensures full { (limit : Table) (start : Start) (c : Chronicle) → Stands R.stream start self.old c → last_moment start.at c ≤ now → Fills start ((now, Passed) ∷ c) now heard.now.source (record { body = bodies.Ns ns.now; options = options_read self.old heard.now.message.options }) (bodies.Ns ns.now) (Some limit) → self.old.policies.parts ≡ false → vec_len outs.old < vec_capacity outs.old → IsOk result }
     {
         nd_neighbour::laws::none_overdue();
         nd_neighbour::laws::one_is_pushed_out();
@@ -143,6 +146,9 @@ impl<R: Rng + Drop, A: Allocator + Clone> Node<R, A> {
             self.own_mac(),
         );
         if !has_place_for(&self.neighbours, now, asker, news, speakers) {
+            if self.policies.parts() {
+                return self.answer_without_entry(now, heard, ns, outs);
+            }
             return self.refuse(now, Refusal::Full(Limit::Neighbours), outs);
         }
         let room = make_room(&mut self.neighbours, asker, news, speakers, outs)?;
@@ -164,6 +170,70 @@ impl<R: Rng + Drop, A: Allocator + Clone> Node<R, A> {
         let answer = room.answer.answer(router, self.mac, ns.target, asker);
         self.reply(now, asker, answer, room.solicitation, outs);
         Ok(Answer::Done)
+    }
+
+    /// Answers a solicitation from an address for which there is no room, at the link-layer address that the solicitation gives, unless that is a group's, and
+    /// else not at all: with the policy `parts`. No entry is made, and none is used. Returns an error if out of memory; nothing has changed then.
+    fn answer_without_entry(
+        &mut self,
+        now: u64,
+        heard: &Heard<'_>,
+        ns: &NeighborSolicitation,
+        outs: &mut Vec<(u64, Out<A>), A>,
+    ) -> Result<Answer, AllocError>
+        requires moment { IsMoment now }
+        requires settled { now < next_of self.old }
+        requires body { heard.now.message.body ≡ bodies.Ns ns.now }
+        requires specified { bytes_eq heard.now.source.0 unspecified_address ≡ false }
+        requires parts { self.old.policies.parts ≡ true }
+        requires placed { let message = solicitation ns.now (options_read self.old heard.now.message.options) in (start : Start) (c : Chronicle) → Stands R.stream start self.old c
+            → Placed start ((now, Passed) ∷ c) now (makes_way start (said ((now, Passed) ∷ c) heard.now.source message)) (Some (number_of heard.now.source.0, true)) false }
+        ensures adds { IfOk result (λ answer. AddsMessage R.stream self.old self.new outs.old.items outs.new.items now heard.now.source heard.now.destination (solicitation ns.now (options_read self.old heard.now.message.options)) (answer_of answer)) }
+        ensures keeps { OnErr result (Keeps self.old self.new) }
+        ensures told { OnErr result (outs.new.items ≡ outs.old.items) }
+    {
+        let mac = answer_address(heard.message.options, self.own_mac());
+        let router = is_router(self.role);
+        let alloc = outs.allocator().clone()?;
+        let answer = answer_to(router, self.mac, ns.target, heard.source, mac, alloc)?;
+        outs.reserve(MOST_ROWS)?;
+        self.report_heard(now, heard, outs);
+        tell_answer(outs, now, answer);
+        tell_ignored(outs, now, false, Limit::Neighbours);
+        Ok(Answer::Done)
+    }
+}
+
+/// Returns the answer to a solicitation of an asker that has this link-layer address, and none without one (RFC 4861, section 7.2.4). Returns an error if out of
+/// memory.
+fn answer_to<A: Allocator>(
+    router: bool,
+    own: Mac,
+    target: Addr,
+    asker: Addr,
+    mac: Option<Mac>,
+    alloc: A,
+) -> Result<Option<Packet<A>>, AllocError>
+    ensures { IfOk result (λ answer. answer ≡ option_map (λ to. addressed to (answer_frame router own target asker)) mac) }
+{
+    match mac {
+        Some(mac) => {
+            let answer = FrameRoom::new(alloc)?.answer(router, own, target, asker);
+            Ok(Some(answer.addressed(mac)))
+        }
+        None => Ok(None),
+    }
+}
+
+/// Reports at `now`, in milliseconds, the frame of an answer, if there is one. It takes no memory: the caller has made room.
+fn tell_answer<A: Allocator>(outs: &mut Vec<(u64, Out<A>), A>, now: u64, answer: Option<Packet<A>>)
+    requires { vec_len outs.old < vec_capacity outs.old }
+    ensures told { happenings outs.new.items ≡ happenings outs.old.items ++ at_moment now (map (λ frame. Sent frame) (option_to_list answer)) }
+    ensures len { vec_len outs.new ≤ vec_len outs.old + 1 }
+    ensures capacity { vec_capacity outs.new ≡ vec_capacity outs.old }
+{
+    if let Some(frame) = answer {
+        outs.push_reserved((now, Out::Frame(frame)));
     }
 }
 

@@ -24,6 +24,7 @@ const MAX_RETRANS_TIMER: u32 = 30_000;
 /// What a node does on a link that isn't trusted, each where it is asked for.
 #[derive(Clone, Copy, Debug, PartialEq, Eq)]
 pub struct Policies {
+    parts: bool,
     speakers: bool,
     timers: bool,
     own: bool,
@@ -35,9 +36,9 @@ impl Model for Policies {
 
     ghost Value = { Policies };
 
-    ghost view = { λ p. record { speakers = p.speakers; timers = p.timers; own = p.own; unicast = p.unicast } };
+    ghost view = { λ p. record { parts = p.parts; speakers = p.speakers; timers = p.timers; own = p.own; unicast = p.unicast } };
 
-    ghost inverse = { λ v. record { speakers = v.speakers; timers = v.timers; own = v.own; unicast = v.unicast } };
+    ghost inverse = { λ v. record { parts = v.parts; speakers = v.speakers; timers = v.timers; own = v.own; unicast = v.unicast } };
 }
 
 impl Policies {
@@ -46,10 +47,25 @@ impl Policies {
         ensures { result ≡ no_policies }
     {
         Policies {
+            parts: false,
             speakers: false,
             timers: false,
             own: false,
             unicast: false,
+        }
+    }
+
+    /// Returns these policies with `parts`, that a message is taken in part where a table has no room for all of it (RFC 8106, section 5.3.1): none is refused
+    /// for a limit. Of a Router Advertisement what has room is taken, in order, and what has none is passed over: the router, a prefix on the link, an address
+    /// that would form, a server, a search name. A refresh or a removal never is. A link-layer address that would need a new neighbour where the cache is full
+    /// makes no entry. A solicitation whose asker gets no entry is answered to the link-layer address that it gives, unless that is a group's, and isn't
+    /// answered otherwise. `Out::Ignored` reports each limit of which a part was passed over.
+    pub fn with_parts(self) -> Policies
+        ensures { result ≡ record self { parts = true } }
+    {
+        Policies {
+            parts: true,
+            ..self
         }
     }
 
@@ -94,6 +110,13 @@ impl Policies {
             unicast: true,
             ..self
         }
+    }
+
+    /// Returns true if a message is taken in part where a table has no room for all of it, by the policy `parts`.
+    pub fn parts(self) -> bool
+        ensures { result ≡ self.parts }
+    {
+        self.parts
     }
 
     /// Returns true if a neighbour that is only asked for gives way to one that speaks, by the policy `speakers`.

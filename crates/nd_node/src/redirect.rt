@@ -1,6 +1,6 @@
 //! A Redirect is received (RFC 4861, sections 8.1 and 8.3).
 
-ghost use Rattle.std.specs.Prelude.{◌≡◌, ◌∷◌, ◌<◌, ◌≤◌, Some, IsOk, OnErr, vec_capacity, vec_len, IfOk};
+ghost use Rattle.std.specs.Prelude.{◌≡◌, ◌∷◌, ◌<◌, ◌≤◌, false, Some, IsOk, OnErr, vec_capacity, vec_len, IfOk};
 ghost use Rattle.nd_decode.specs.declared.body.Body.TheVariants as bodies;
 ghost use Rattle.nd_table.specs.Moment.{IsMoment};
 ghost use Rattle.nd_chronicle.specs.Full.{Fills};
@@ -19,7 +19,8 @@ use nd_decode::Redirect;
 use nd_out::{Limit, Out, Refusal};
 use nd_packet::MAX_WAITING;
 use nd_steps::{
-    has_place, hear_giver, is_via, most_told_of_way, news_of, note_way, times_in_force,
+    has_place, hear_giver, is_via, most_told_of_way, news_in_place, news_of, note_way,
+    tell_ignored, times_in_force,
 };
 use nd_validity::Heard;
 use rand_core::Rng;
@@ -43,7 +44,7 @@ impl<R: Rng + Drop, A: Allocator + Clone> Node<R, A> {
         ensures adds { IfOk result (λ answer. AddsJudged R.stream self.old self.new outs.old.items outs.new.items now heard.now.source heard.now.destination (record { body = bodies.Redirect redirect.now; options = options_read self.old heard.now.message.options }) (answer_of answer)) }
         ensures stays { OnErr result (Stays R.stream self.old self.new) }
         ensures told { OnErr result (outs.new.items ≡ outs.old.items) }
-        ensures full { (limit : Table) (start : Start) (c : Chronicle) → Stands R.stream start self.old c → last_moment start.at c ≤ now → Fills start ((now, Passed) ∷ c) now heard.now.source (record { body = bodies.Redirect redirect.now; options = options_read self.old heard.now.message.options }) (bodies.Redirect redirect.now) (Some limit) → vec_len outs.old < vec_capacity outs.old → IsOk result }
+        ensures full { (limit : Table) (start : Start) (c : Chronicle) → Stands R.stream start self.old c → last_moment start.at c ≤ now → Fills start ((now, Passed) ∷ c) now heard.now.source (record { body = bodies.Redirect redirect.now; options = options_read self.old heard.now.message.options }) (bodies.Redirect redirect.now) (Some limit) → self.old.policies.parts ≡ false → vec_len outs.old < vec_capacity outs.old → IsOk result }
         ensures misdirected { (start : Start) (c : Chronicle) → Stands R.stream start self.old c → last_moment start.at c ≤ now → NotFromFirstHop start ((now, Passed) ∷ c) now heard.now.source (bodies.Redirect redirect.now) → vec_len outs.old < vec_capacity outs.old → IsOk result }
     {
         // A Redirect that is taken forgets what is remembered.
@@ -55,8 +56,8 @@ impl<R: Rng + Drop, A: Allocator + Clone> Node<R, A> {
     }
 
     /// Handles a Redirect from the first hop of its destination at `now`, in milliseconds: its target is the destination's next hop from now on,
-    /// and the target's entry takes what the Redirect says (RFC 4861, section 8.3). It is refused if there is no room for the target among the
-    /// neighbours. Returns an error if out of memory; nothing has changed then.
+    /// and the target's entry takes what the Redirect says (RFC 4861, section 8.3). If there is no room for the target among the neighbours it is refused, or
+    /// taken without the target's link-layer address with the policy `parts`. Returns an error if out of memory; nothing has changed then.
     fn hear_redirect(
         &mut self,
         now: u64,
@@ -70,7 +71,7 @@ impl<R: Rng + Drop, A: Allocator + Clone> Node<R, A> {
         ensures adds { IfOk result (λ answer. AddsMessage R.stream self.old self.new outs.old.items outs.new.items now heard.now.source heard.now.destination (record { body = bodies.Redirect redirect.now; options = options_read self.old heard.now.message.options }) (answer_of answer)) }
         ensures keeps { OnErr result (self.new ≡ self.old) }
         ensures told { OnErr result (outs.new.items ≡ outs.old.items) }
-        ensures full { (limit : Table) (start : Start) (c : Chronicle) → Stands R.stream start self.old c → last_moment start.at c ≤ now → Fills start ((now, Passed) ∷ c) now heard.now.source (record { body = bodies.Redirect redirect.now; options = options_read self.old heard.now.message.options }) (bodies.Redirect redirect.now) (Some limit) → vec_len outs.old < vec_capacity outs.old → IsOk result }
+        ensures full { (limit : Table) (start : Start) (c : Chronicle) → Stands R.stream start self.old c → last_moment start.at c ≤ now → Fills start ((now, Passed) ∷ c) now heard.now.source (record { body = bodies.Redirect redirect.now; options = options_read self.old heard.now.message.options }) (bodies.Redirect redirect.now) (Some limit) → self.old.policies.parts ≡ false → vec_len outs.old < vec_capacity outs.old → IsOk result }
     {
         nd_neighbour::laws::none_overdue();
         nd_neighbour::laws::one_is_pushed_out();
@@ -82,9 +83,11 @@ impl<R: Rng + Drop, A: Allocator + Clone> Node<R, A> {
             self.own_mac(),
         );
         let speakers = self.policies.speakers();
-        if !has_place(&self.neighbours, now, news, speakers) {
+        let place = has_place(&self.neighbours, now, news, speakers);
+        if !place && !self.policies.parts() {
             return self.refuse(now, Refusal::Full(Limit::Neighbours), outs);
         }
+        let taken = news_in_place(news, place);
         outs.reserve(MAX_WAITING + MOST_ROWS + most_told_of_way(speakers))?;
         // Section 8.3: the Destination Cache: "so that subsequent traffic will go to the specified target".
         self.choice
@@ -96,12 +99,13 @@ impl<R: Rng + Drop, A: Allocator + Clone> Node<R, A> {
             &mut self.neighbours,
             &mut self.choice,
             now,
-            news,
+            taken,
             times,
             speakers,
             outs,
         );
         note_way(&mut self.routers, &mut self.choice, gone);
+        tell_ignored(outs, now, place, Limit::Neighbours);
         Ok(Answer::Done)
     }
 }

@@ -16,3 +16,4 @@ pub mod Advertisements
 pub mod RouterSide
 pub mod InTransit
 pub mod OfType
+pub mod InPlace

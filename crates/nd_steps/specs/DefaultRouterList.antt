@@ -1,6 +1,7 @@
 -- What happens to the Default Router List, and to the redirects to a router that leaves it (RFC 4861, sections 6.3.4, 6.3.6, 7.2.5 and 7.3.3).
 use Rattle.std.specs.Prelude.{ℕ, Bool, true, false, List, ◌∷◌, [], ◌≡◌, ◌&&◌, MatchBool, ◌++◌}
-use Rattle.nd_routers.specs.History.{RouterRow, LeftList, Failed, announcements}
+use Rattle.nd_addr.specs.declared.preference.Preference.{Preference}
+use Rattle.nd_routers.specs.History.{RouterRow, Heard, LeftList, Failed, announcements}
 use Rattle.nd_nexthop.specs.History.{RedirectRow, TargetGone}
 use Rattle.nd_neighbour.specs.Due.{Falls, Fails}
 use Rattle.nd_chronicle.specs.Happening.{Happening, LeftRouter}
@@ -13,6 +14,11 @@ use Rattle.nd_routers.specs.RoutersKept as routers
 use Rattle.nd_nexthop.specs.Choice as choice
 
 -- ---- a Router Advertisement (section 6.3.4)
+
+-- a router announces itself, and is listed, or left out for want of room
+abbrev pub with_heard : ℕ → Bool → ℕ → ℕ → Preference → List RouterRow → List RouterRow
+with_heard at true key lifetime preference history = Heard at key lifetime preference ∷ history
+with_heard at false key lifetime preference history = LeftList at key ∷ Heard at key lifetime preference ∷ history
 
 -- a router leaves the list, or doesn't
 abbrev pub with_left : ℕ → Bool → ℕ → List RouterRow → List RouterRow

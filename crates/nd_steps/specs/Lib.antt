@@ -3,6 +3,7 @@ pub mod Turned
 pub mod DueRows
 pub mod NeighbourCache
 pub mod GivingWay
+pub mod Parts
 pub mod DefaultRouterList
 pub mod OwnAddresses
 pub mod Parameters

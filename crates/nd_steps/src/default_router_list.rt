@@ -4,14 +4,14 @@ ghost use Rattle.std.specs.Prelude.{◌≡◌, ◌<◌, ◌↔◌, ◌&&◌, ◌
 ghost use Rattle.nd_addr.specs.Number.{number_of};
 ghost use Rattle.nd_table.specs.Announcements.{stands};
 ghost use Rattle.nd_table.specs.Listing.{fits};
-ghost use Rattle.nd_routers.specs.History.{RouterRow, Heard, announcements};
+ghost use Rattle.nd_routers.specs.History.{RouterRow, announcements};
 ghost use Rattle.nd_routers.specs.Routers.{same};
 ghost use Rattle.nd_routers.specs.RoutersKept.{IsSettled};
 ghost use Rattle.nd_nexthop.specs.History.{RedirectRow};
 ghost use Rattle.nd_steps.specs.DestinationCache.{AsListed, KeepsRoom, Recollects, Refreshes, Remembering};
 ghost use Rattle.std.specs.Option.{option_map};
 ghost use Rattle.nd_steps.specs.GivingWay.{with_router_gone, with_target_gone};
-ghost use Rattle.nd_steps.specs.DefaultRouterList.{with_left, with_gone, left_told, Leaves, Notes};
+ghost use Rattle.nd_steps.specs.DefaultRouterList.{with_heard, with_left, with_gone, left_told, Leaves, Notes};
 ghost use Rattle.nd_addr.specs.declared.addr.Addr.{Addr};
 ghost use Rattle.nd_table.specs.Moment.{IsMoment};
 ghost use Rattle.nd_steps.specs.Outputs.{at_moment, happenings};
@@ -53,9 +53,10 @@ fn only_refreshes<A: Allocator>(
     lifetime != 0 && routers.holds(now, source) && routers.preference(source) == preference
 }
 
-/// Takes a Router Advertisement's sender as a default router at `now`, in milliseconds, with its lifetime, in seconds, and its preference. There is
-/// room for it (RFC 4861, section 6.3.4; RFC 4191, section 2.2). The neighbour fails that gave way to the sender, if one did. Returns true if it timed out a
-/// router of the list; the redirects to that router end (section 6.3.5). Remembered next hops are forgotten, except if the router is only refreshed with the same preference.
+/// Takes a Router Advertisement's sender as a default router at `now`, in milliseconds, with its lifetime, in seconds, and its preference (RFC 4861, section
+/// 6.3.4; RFC 4191, section 2.2), or leaves it out: `listed` says whether there is room for it. The neighbour fails that gave way to the sender, if one did.
+/// Returns true if it timed out a router of the list; the redirects to that router end (section 6.3.5). Remembered next hops are forgotten, except if the router
+/// is only refreshed with the same preference, or left out.
 pub fn hear_router<A: Allocator + Clone>(
     routers: &mut Routers<A>,
     choice: &mut Choice<A>,
@@ -63,19 +64,25 @@ pub fn hear_router<A: Allocator + Clone>(
     source: Addr,
     lifetime: u16,
     preference: Preference,
+    listed: bool,
     gone: Option<Addr>,
 ) -> bool
     requires moment { IsMoment now }
     requires settled { IsSettled routers.old.entries now }
-    requires fits { fits same routers.old.limit now ((number_of source.0, lifetime) ∷ []) routers.old.entries ≡ true }
+    requires listed { listed ≡ fits same routers.old.limit now ((number_of source.0, lifetime) ∷ []) routers.old.entries }
     ensures times_out { (history : List RouterRow) → list.Stands routers.old history → result ≡ ((lifetime == 0) && stands same (number_of source.0) (announcements history) now) }
-    ensures routers { (history : List RouterRow) → list.Stands routers.old history → list.Stands routers.new (with_left now result (number_of source.0) (with_router_gone now (option_map (λ addr. number_of addr.0) gone) (Heard now (number_of source.0) lifetime preference ∷ history))) }
+    ensures routers { (history : List RouterRow) → list.Stands routers.old history → list.Stands routers.new (with_left now result (number_of source.0) (with_router_gone now (option_map (λ addr. number_of addr.0) gone) (with_heard now listed (number_of source.0) lifetime preference history))) }
     ensures redirects { (history : List RedirectRow) → redirects.Stands choice.old history → redirects.Stands choice.new (with_gone now result (number_of source.0) (with_target_gone now (option_map (λ addr. number_of addr.0) gone) history)) }
     ensures recollects { Recollects choice.old choice.new (AsListed choice.old choice.new routers.old routers.new) }
     ensures settled { IsSettled routers.new.entries now }
     ensures limit { routers.new.limit ≡ routers.old.limit }
     ensures limits { KeepsRoom choice.old choice.new }
 {
+    if !listed {
+        routers.leave_out(now, source, lifetime, preference);
+        note_way(routers, choice, gone);
+        return false;
+    }
     let times_out = times_out(routers, now, source, lifetime);
     let refreshes = only_refreshes(routers, now, source, lifetime, preference);
     let _ = routers.take_ra(now, source, lifetime, preference);
@@ -98,7 +105,9 @@ pub fn tell_left<A: Allocator>(
     times_out: bool,
 )
     requires { vec_len outs.old < vec_capacity outs.old }
-    ensures { happenings outs.new.items ≡ happenings outs.old.items ++ at_moment now (left_told times_out (number_of source.0)) }
+    ensures told { happenings outs.new.items ≡ happenings outs.old.items ++ at_moment now (left_told times_out (number_of source.0)) }
+    ensures len { vec_len outs.new ≤ vec_len outs.old + 1 }
+    ensures capacity { vec_capacity outs.new ≡ vec_capacity outs.old }
 {
     if times_out {
         outs.push_reserved((now, Out::EndedRouter(source)));

@@ -24,6 +24,7 @@ mod next_hop;
 mod own_addresses;
 mod packets;
 mod parameters;
+mod parts;
 mod prefix_list;
 mod router_tables;
 mod solicit_routers;
@@ -42,7 +43,7 @@ pub use neighbour_cache::{
     has_place, hear_of_neighbour, note_use, note_wish, ready_for, ready_for_two, ready_for_wish,
     tell_packets, tell_use, tell_wish, told_for,
 };
-pub use news::news_of;
+pub use news::{answer_address, news_of};
 pub use next_hop::{Tables, is_via};
 pub use own_addresses::{
     hear_conflict, hear_holder, hear_prefix_options, is_awake, is_to_nodes, is_to_routers,
@@ -50,6 +51,7 @@ pub use own_addresses::{
 };
 pub use packets::{OutgoingPacket, is_too_long, packet_in};
 pub use parameters::{hear_parameters, redraw_reachable_time, times_in_force};
+pub use parts::{news_in_place, tell_ignored};
 pub use prefix_list::hear_prefixes;
 pub use router_tables::RouterTables;
 pub use solicit_routers::RouterSolicitations;

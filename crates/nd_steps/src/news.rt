@@ -6,7 +6,8 @@ ghost use Rattle.nd_addr.specs.Number.{number_of};
 ghost use Rattle.nd_decode.specs.Pieces.{options_left};
 ghost use Rattle.nd_chronicle.specs.Histories.{given_or_marked, mark_of_target, said_of_neighbour, said_of_source};
 ghost use Rattle.nd_chronicle.specs.LinkLayerAddress.{first_slla, first_tlla};
-ghost use Rattle.nd_chronicle.specs.Reading.{is_passed_over, without};
+ghost use Rattle.nd_chronicle.specs.NeighborSolicitation.{answer_address};
+ghost use Rattle.nd_chronicle.specs.Reading.{is_group, is_passed_over, without};
 ghost use Rattle.nd_steps.specs.NeighbourCache.{said_by};
 
 use nd_addr::{Addr, Mac};
@@ -19,13 +20,20 @@ use nd_neighbour::{Flags, News, Times};
 /// The bit of the first byte of a link-layer address that says that it is a group's (RFC 7042, section 2.1).
 const GROUP: u8 = 1;
 
+/// Returns true if this is a group's link-layer address.
+fn is_group(mac: Mac) -> bool
+    ensures { result ≡ is_group mac }
+{
+    mac.0[0] & GROUP != 0
+}
+
 /// Returns true if an option that gives `mac` is passed over: `own` is the node's own link-layer address, and no other node has `mac`, since it is a
 /// group's, with the lowest bit of its first byte set (RFC 7042, section 2.1), zeros, or `own`. Without `own` none is passed over.
 fn is_passed_over(mac: Mac, own: Option<Mac>) -> bool
     ensures { result ≡ is_passed_over own mac }
 {
     match own {
-        Some(own) => mac.0[0] & GROUP != 0 || mac.0 == [0; 6] || mac.0 == own.0,
+        Some(own) => is_group(mac) || mac.0 == [0; 6] || mac.0 == own.0,
         None => false,
     }
 }
@@ -116,4 +124,16 @@ pub fn news_of(source: Addr, body: &Body, options: Options<'_>, own: Option<Mac>
         }),
         Body::Redirect(redirect) => given_by_redirect(redirect, first_tlla(options, own)),
     }
+}
+
+/// Returns the link-layer address at which an asker is answered that gets no entry: the one that its solicitation gives, unless that is a group's (RFC
+/// 4861, section 7.2.4). With `own`, options are passed over as in `news_of`.
+pub fn answer_address(options: Options<'_>, own: Option<Mac>) -> Option<Mac>
+    ensures { result ≡ answer_address (first_slla (without own (options_left options.entry))) }
+{
+    let mac = first_slla(options, own)?;
+    if is_group(mac) {
+        return None;
+    }
+    Some(mac)
 }

@@ -7,6 +7,7 @@ use Rattle.nd_chronicle.specs.Start.{Policies, no_policies}
 abbrev pub with_named : List ℕ → Option Policies → Option Policies
 with_named word None = None
 with_named word (Some policies) =
+    if bytes_eq word (codes "parts") && not policies.parts then Some (record policies { parts = true }) else
     if bytes_eq word (codes "speakers") && not policies.speakers then Some (record policies { speakers = true }) else
     if bytes_eq word (codes "timers") && not policies.timers then Some (record policies { timers = true }) else
     if bytes_eq word (codes "self") && not policies.own then Some (record policies { own = true }) else

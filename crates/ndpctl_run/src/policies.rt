@@ -10,6 +10,7 @@ fn with_named(word: &str, policies: Policies) -> Option<Policies>
     ensures { result ≡ with_named word.now (Some policies) }
 {
     match word {
+        "parts" if !policies.parts() => Some(policies.with_parts()),
         "speakers" if !policies.speakers() => Some(policies.with_speakers()),
         "timers" if !policies.timers() => Some(policies.with_timers()),
         "self" if !policies.own() => Some(policies.with_own()),

@@ -1,4 +1,4 @@
-use Rattle.std.proofs.Common.{◌∷◌, Some, true, false, refl, subst, ap, ◌∙◌}
+use Rattle.std.proofs.Common.{◌∷◌, Some, true, false, refl, sym, subst, ap, ◌∙◌}
 use Rattle.std.specs.Prelude.{Bool}
 use Rattle.std.specs.Option.{option_map}
 use Rattle.nd_addr.specs.Number.{number_of}
@@ -8,7 +8,7 @@ use Rattle.nd_neighbour.specs.declared.news.Times.{Times}
 use Rattle.nd_chronicle.specs.Full.{Placed}
 use Rattle.nd_chronicle.specs.Happening.{Passed}
 use Rattle.nd_chronicle.specs.Message.{makes_way, said}
-use Rattle.nd_node.proofs.Detections.{solicitation}
+use Rattle.nd_node.specs.Asker.{solicitation}
 use Rattle.nd_chronicle.specs.Start.{Policies}
 use Rattle.nd_steps.specs.NeighbourCache.{said_by}
 use Rattle.nd_node.specs.Hearing.{options_read}
@@ -35,9 +35,19 @@ returns-then-not-has_place_for-clause-adds g c =
     let key = number_of c.args.heard.now.source.0 in
     let news = c.news_of-news.result in
     answered_so c.refuse.result (Refused (Full Neighbours)) _ (refused g.R.Rng.stream c.args.self.now c.args.now c.args.heard.now.source c.args.heard.now.destination c.args.ns.now (options_read c.args.self.now c.args.heard.now.message.options) c.requires.specified c.requires.settled times news
-    (rw (c.own_mac.ensures, c.requires.body) at (c.news_of-news.ensures times)) refl c.refuse.new.self c.args.outs.now.items c.refuse.new.outs.items
+    (rw (c.own_mac.ensures, c.requires.body) at (c.news_of-news.ensures times)) refl (sym c.parts.ensures ∙ c.if-parts.false) c.refuse.new.self c.args.outs.now.items c.refuse.new.outs.items
     (λ start c' s. subst (λ (b : Bool). Placed start c' c.args.now (makes_way start (option_map (said_by times) news)) (Some (key, true)) b) c.if-not-has_place_for.true
     (c.has_place_for.ensures.placed start c' times s.limits.neighbours (c.speakers-speakers.ensures ∙ ap (λ (p : Policies). p.speakers) s.policies) s.neighbours))) c.refuse.ensures.adds c.refuse.ensures.answer
+
+pub answer_without_entry-requires-clause-placed : goal.answer_without_entry-requires-clause-placed
+answer_without_entry-requires-clause-placed g c = λ start c' s.
+    let times : Times = record { retrans = 0; reachable = c.args.self.now.params.reachable_time } in
+    let source = c.args.heard.now.source in
+    let options = options_read c.args.self.now c.args.heard.now.message.options in
+    let news = c.news_of-news.result in
+    place_later g.R.Rng.stream c.args.self.now c.args.now source c.args.heard.now.destination c.args.ns.now options c.requires.specified c.requires.settled times news (rw (c.own_mac.ensures, c.requires.body) at (c.news_of-news.ensures times)) refl start c' false s
+    (subst (λ (b : Bool). Placed start c' c.args.now (makes_way start (option_map (said_by times) news)) (Some (number_of source.0, true)) b) c.if-not-has_place_for.true
+    (c.has_place_for.ensures.placed start c' times s.limits.neighbours (c.speakers-speakers.ensures ∙ ap (λ (p : Policies). p.speakers) s.policies) s.neighbours))
 
 pub returns-clause-adds : goal.returns-clause-adds
 returns-clause-adds g c =
@@ -73,7 +83,7 @@ returns-clause-adds g c =
     takes c.is_router-router.result (rw e at c.is_router-router.ensures) _ (rw e at c.answer-answer.ensures) (rw e at c.reply.ensures.leads)
 
 pub returns-in_err-room-clause-full : goal.returns-in_err-room-clause-full
-returns-in_err-room-clause-full g c = λ limit start c' s le fills place.
+returns-in_err-room-clause-full g c = λ limit start c' s le fills whole place.
     let times : Times = record { retrans = 0; reachable = c.args.self.now.params.reachable_time } in
     let source = c.args.heard.now.source in
     let options = options_read c.args.self.now c.args.heard.now.message.options in

@@ -1,6 +1,7 @@
-use Rattle.std.proofs.Common.{◌∷◌, refl, subst}
+use Rattle.std.proofs.Common.{◌∷◌, ◌∙◌, refl, ap, subst}
 use Rattle.std.proofs.lemmas.Result.{IfOk-weaker}
 use Rattle.nd_decode.specs.declared.body.Body.{Body}
+use Rattle.nd_chronicle.specs.Start.{Policies}
 use Rattle.nd_chronicle.specs.Happening.{Passed}
 use Rattle.nd_chronicle.specs.Hearing.{NotFromFirstHop}
 use Rattle.nd_node.specs.Hearing.{options_read}
@@ -48,17 +49,17 @@ returns-in-Redirect-clause-misdirected g c = λ start c' s le misdirected place.
 pub returns-in-Rs-clause-refused : goal.returns-in-Rs-clause-refused
 returns-in-Rs-clause-refused g c = rw c.in-Rs.is (λ frame verdict start c' s le judged adds place.
     let f = message_full start c.args.now c.args.heard.now.source c.args.heard.now.destination (record { body = bodies.Rs; options = options_read c.args.self.now c.args.heard.now.message.options }) c' frame verdict judged adds in
-    c.hear_router_solicitation.ensures.full f.0 start c' s le f.1 place)
+    c.hear_router_solicitation.ensures.full f.0 start c' s le f.1 (ap (λ (p : Policies). p.parts) s.policies ∙ f.2) place)
 
 pub returns-in-Ra-clause-refused : goal.returns-in-Ra-clause-refused
 returns-in-Ra-clause-refused g c = rw c.in-Ra.is (λ frame verdict start c' s le judged adds place.
     let f = message_full start c.args.now c.args.heard.now.source c.args.heard.now.destination (record { body = bodies.Ra c.in-Ra.ra; options = options_read c.args.self.now c.args.heard.now.message.options }) c' frame verdict judged adds in
-    c.hear_router_advertisement.ensures.full f.0 start c' s le f.1 place)
+    c.hear_router_advertisement.ensures.full f.0 start c' s le f.1 (ap (λ (p : Policies). p.parts) s.policies ∙ f.2) place)
 
 pub returns-in-Ns-clause-refused : goal.returns-in-Ns-clause-refused
 returns-in-Ns-clause-refused g c = rw c.in-Ns.is (λ frame verdict start c' s le judged adds place.
     let f = message_full start c.args.now c.args.heard.now.source c.args.heard.now.destination (record { body = bodies.Ns c.in-Ns.ns; options = options_read c.args.self.now c.args.heard.now.message.options }) c' frame verdict judged adds in
-    c.hear_neighbor_solicitation.ensures.full f.0 start c' s le f.1 place)
+    c.hear_neighbor_solicitation.ensures.full f.0 start c' s le f.1 (ap (λ (p : Policies). p.parts) s.policies ∙ f.2) place)
 
 pub returns-in-Na-clause-refused : goal.returns-in-Na-clause-refused
 returns-in-Na-clause-refused g c = rw c.in-Na.is (λ frame verdict start c' s le judged adds place.
@@ -68,4 +69,4 @@ returns-in-Na-clause-refused g c = rw c.in-Na.is (λ frame verdict start c' s le
 pub returns-in-Redirect-clause-refused : goal.returns-in-Redirect-clause-refused
 returns-in-Redirect-clause-refused g c = rw c.in-Redirect.is (λ frame verdict start c' s le judged adds place.
     let f = message_full start c.args.now c.args.heard.now.source c.args.heard.now.destination (record { body = bodies.Redirect c.in-Redirect.redirect; options = options_read c.args.self.now c.args.heard.now.message.options }) c' frame verdict judged adds in
-    c.judge_redirect.ensures.full f.0 start c' s le f.1 place)
+    c.judge_redirect.ensures.full f.0 start c' s le f.1 (ap (λ (p : Policies). p.parts) s.policies ∙ f.2) place)

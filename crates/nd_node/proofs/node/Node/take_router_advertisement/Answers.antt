@@ -20,13 +20,13 @@ use Rattle.nd_node.proofs.Recalling.{may_redirects, redirects_stand, room_kept, 
 use Rattle.nd_node.proofs.Advertised.{takes_advertisement}
 use Rattle.nd_node.proofs.node.Node.take_router_advertisement.Goals as goal
 
-pub returns : goal.returns
-returns g c = λ taken is news.
+pub returns-clause-takes : goal.returns-clause-takes
+returns-clause-takes g c = λ taken is news.
     let said = options_left c.args.heard.now.message.options in
     let policies = c.args.self.now.policies in
     let stream = g.R.Rng.stream in
     let gone = option_map (λ (a : Addr). number_of a.0) c.hear_giver-gone.result in
-    rw c.advance_to.ensures (takes_advertisement g.R.Rng.stream c.args.self.now _ c.args.outs.now.items _ c.args.now c.args.heard.now.source c.args.heard.now.destination c.args.ra.now taken
+    rw c.advance_to.ensures (takes_advertisement g.R.Rng.stream c.args.self.now _ c.args.outs.now.items _ c.args.now c.args.heard.now.source c.args.heard.now.destination c.args.ra.now taken c.args.listed
     (record {
       one_goes = c.one_is_pushed_out.ensures;
       neighbours_overdue = c.none_overdue.ensures.table;
@@ -62,7 +62,7 @@ returns g c = λ taken is news.
       second = c.hear_router-times_out.new.choice;
       third = c.hear_prefixes.new.choice;
       may = c.hear_giver-gone.ensures.remembers;
-      listed = c.hear_router-times_out.ensures.recollects;
+      among = c.hear_router-times_out.ensures.recollects;
       linked = c.hear_prefixes.ensures.recollects;
       redirects_third = c.hear_prefixes.ensures.redirects;
       redirects_then = c.keep_until_a_prefix_ends.ensures.redirects;
@@ -77,7 +77,7 @@ returns g c = λ taken is news.
       name_limit = c.hear_dns.ensures.name_limit;
       room = room_then _ _ _ (room_kept _ _ (may_redirects c.args.self.now.choice c.hear_giver-gone.new.choice c.args.self.now.neighbours.entries c.hear_giver-gone.new.neighbours.entries c.hear_giver-gone.ensures.remembers))
           (room_then _ _ _ c.hear_router-times_out.ensures.limits (room_kept c.hear_router-times_out.new.choice c.keep_until_a_prefix_ends.new.choice (c.keep_until_a_prefix_ends.ensures.redirects ∙ c.hear_prefixes.ensures.redirects)));
-      left_is_told = c.tell_left.ensures;
+      left_is_told = c.tell_left.ensures.told;
       prefixes = λ history le s. subst (λ (told : List (PrefixValue × ℕ)). lists.Stands same_prefix c.hear_prefixes.new.prefixes.entries (then_announced c.args.now told history)) (sym is.prefixes)
           (c.hear_prefixes.ensures.stands history le s);
       retrans = _;
