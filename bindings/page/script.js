@@ -13,7 +13,7 @@ const STATES = ['', 'tentative', 'preferred', 'deprecated', 'duplicate'];
 const PREFERENCES = ['medium', 'high', 'low'];
 const CLEARABLES = ['', 'neighbours', 'routers', 'prefixes', 'redirects', 'dns'];
 const REASONS = @REASONS@;
-const POLICIES = { speakers: 2, timers: 4, self: 8, unicast: 16 };
+const POLICIES = { parts: 1, speakers: 2, timers: 4, self: 8, unicast: 16 };
 const FOREVER = 2n ** 64n - 1n, MOMENT_LIMIT = 2n ** 62n;
 
 // What a line of the script may be, by its word, and what its numbers may be beyond that (docs/FORMATS.md, docs/LIMITS.md).

@@ -85,8 +85,8 @@ static void try_options(nd_node *node)
     options.start = ND_MOMENT_LIMIT;
     is("an open at a moment that is none", open_with(node, options), ND_INVALID);
     options = host_options();
-    options.policies = 1;
-    is("an open with a policy that isn't built", open_with(node, options), ND_INVALID);
+    options.policies = ND_POLICIES_ROBUST + 1;
+    is("an open with a policy that isn't there", open_with(node, options), ND_INVALID);
     options.policies = ND_POLICY_TIMERS | UINT32_C(1) << 31;
     is("an open with a policy, and the last one", open_with(node, options), ND_INVALID);
     is("no refused open left memory", (int64_t)heap_blocks, 0);

@@ -602,7 +602,8 @@ static bool read_limit(const char *name, const char *value)
 static const struct {
     const char *name;
     uint32_t bit;
-} policies[] = {{"speakers", ND_POLICY_SPEAKERS}, {"timers", ND_POLICY_TIMERS}, {"self", ND_POLICY_SELF}, {"unicast", ND_POLICY_UNICAST}};
+} policies[] = {{"parts", ND_POLICY_PARTS}, {"speakers", ND_POLICY_SPEAKERS}, {"timers", ND_POLICY_TIMERS}, {"self", ND_POLICY_SELF},
+                {"unicast", ND_POLICY_UNICAST}};
 
 /* Reads the words of policies, parted by commas. */
 static void read_policies(char *words)

@@ -129,15 +129,22 @@ class Draws(Numbers):
 class Policy(IntFlag):
     """What a node does on a link that is not trusted, each where it is asked for; `Policy(0)` is none.
 
-    `SPEAKERS`: where a message gives the link-layer address of a new neighbour and the cache is full without a STALE entry, the INCOMPLETE one
-    that was asked for longest fails, and answers are no use of the asker's entry (RFC 6583, 7). `TIMERS`: of a Router Advertisement, a Cur Hop Limit below 32, a Reachable Time outside 1,000 to 3,600,000 ms and a Retrans Timer outside
-    100 to 30,000 ms are read as 0, unspecified (RFC 4861, 4.2). `SELF`: a message from one of the node's assigned addresses is dropped, and a
-    link-layer address that is a group's, zeros or the node's own is passed over. `UNICAST`: a router sends on only packets whose frame has its
-    own address as the Ethernet destination."""
+    `PARTS`: no message is refused for a limit (RFC 8106, 5.3.1): what has room is taken, in order, what has none is passed over, and a
+    solicitation whose asker gets no entry is answered to the link-layer address that it gives. `SPEAKERS`: where a message gives the link-layer
+    address of a new neighbour and the cache is full without a STALE entry, the INCOMPLETE one that was asked for longest fails, and answers are
+    no use of the asker's entry (RFC 6583, 7). `TIMERS`: of a Router Advertisement, a Cur Hop Limit below 32, a Reachable Time outside 1,000 to
+    3,600,000 ms and a Retrans Timer outside 100 to 30,000 ms are read as 0, unspecified (RFC 4861, 4.2). `SELF`: a message from one of the node's
+    assigned addresses is dropped, and a link-layer address that is a group's, zeros or the node's own is passed over. `UNICAST`: a router sends
+    on only packets whose frame has its own address as the Ethernet destination. `POLICIES_ROBUST` is all of them."""
+    PARTS = 1
     SPEAKERS = 2
     TIMERS = 4
     SELF = 8
     UNICAST = 16
+
+
+# All of them, for a link that is not trusted.
+POLICIES_ROBUST = Policy.PARTS | Policy.SPEAKERS | Policy.TIMERS | Policy.SELF | Policy.UNICAST
 
 
 class nd_options(Structure):

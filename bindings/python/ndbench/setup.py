@@ -71,7 +71,8 @@ def add_arguments(command: argparse.ArgumentParser, is_host: bool = False, needs
     command.add_argument("--draws", default="seed:0", type=draws_argument, metavar="SOURCE", help="its random words: seed:N or word:N (seed:0)")
     command.add_argument("--transmits", default=1, type=int, choices=range(1, 9), metavar="N",
                          help="solicitations for each of its addresses, 1 to 8 (1)")
-    command.add_argument("--policy", default=nd.Policy(0), type=policy_argument, metavar="WORDS", help="speakers, timers, self and unicast, parted by commas")
+    command.add_argument("--policy", default=nd.Policy(0), type=policy_argument, metavar="WORDS",
+                         help="parts, speakers, timers, self and unicast, parted by commas")
 
 
 def setup_of(arguments: argparse.Namespace) -> Setup:
@@ -105,8 +106,8 @@ def policy_argument(text: str) -> nd.Policy:
     """Reads the words of policies."""
     found = nd.Policy(0)
     for word in text.split(","):
-        if word not in ("speakers", "timers", "self", "unicast"):
-            raise argparse.ArgumentTypeError(f"{word!r} is no policy: speakers, timers, self or unicast")
+        if word not in ("parts", "speakers", "timers", "self", "unicast"):
+            raise argparse.ArgumentTypeError(f"{word!r} is no policy: parts, speakers, timers, self or unicast")
         found |= nd.Policy[word.upper()]
     return found
 

@@ -106,7 +106,8 @@ class Structures(unittest.TestCase):
                 questions.append(f'printf("{name}.{field} %zu %zu\\n", offsetof({name}, {field}), sizeof((({name} *)0)->{field}));')
         major, minor, patch = raw.VERSION
         constants = {"ND_VERSION": major << 16 | minor << 8 | patch, "ND_MOMENT_LIMIT": raw.MOMENT_LIMIT, "ND_FOREVER": raw.FOREVER,
-                     "ND_LIFETIME_INFINITE": raw.LIFETIME_INFINITE, "ND_BUFFER_BYTES": raw.BUFFER_BYTES}
+                     "ND_LIFETIME_INFINITE": raw.LIFETIME_INFINITE, "ND_BUFFER_BYTES": raw.BUFFER_BYTES,
+                     "ND_POLICIES_ROBUST": raw.POLICIES_ROBUST.value}
         for constant, value in constants.items():
             wanted.append(f"{constant} {value}")
             questions.append(f'printf("{constant} %llu\\n", (unsigned long long)({constant}));')

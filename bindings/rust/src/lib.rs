@@ -78,6 +78,12 @@ pub enum Draws {
 /// What a node does on a link that isn't trusted, each where it is asked for.
 #[derive(Clone, Copy, Debug, Default, PartialEq, Eq)]
 pub struct Policies {
+    /// A message is taken in part where a table has no room for all of it, and none is refused for a limit (RFC 8106, 5.3.1). Of a Router Advertisement what
+    /// has room is taken, in order, and what has none is passed over: the router, a prefix on the link, an address that would form, a server, a search name.
+    /// A refresh or a removal never is. A link-layer address that would need a new neighbour where the cache is full makes no entry. A solicitation whose
+    /// asker gets no entry is answered to the link-layer address that it gives, unless that is a group's, and isn't answered otherwise.
+    /// `Output::Ignored` reports each limit of which a part was passed over.
+    pub parts: bool,
     /// Where a message gives the link-layer address of a new neighbour, the cache is full, and none is STALE, the INCOMPLETE neighbour that was asked for
     /// longest fails instead of a refusal, and the answer to a solicitation is no use of the asker's entry (RFC 6583, 7).
     pub speakers: bool,
@@ -93,8 +99,14 @@ pub struct Policies {
 }
 
 impl Policies {
+    /// Returns all policies, for a link that isn't trusted.
+    pub fn robust() -> Policies {
+        Policies { parts: true, speakers: true, timers: true, own: true, unicast: true }
+    }
+
     fn bits(self) -> u32 {
-        u32::from(self.speakers) << 1 | u32::from(self.timers) << 2 | u32::from(self.own) << 3 | u32::from(self.unicast) << 4
+        let [parts, speakers, timers, own, unicast] = [self.parts, self.speakers, self.timers, self.own, self.unicast].map(u32::from);
+        parts | speakers << 1 | timers << 2 | own << 3 | unicast << 4
     }
 }
 

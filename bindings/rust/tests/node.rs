@@ -312,7 +312,7 @@ fn limits_are_chosen() {
 #[test]
 fn policies_are_chosen() {
     let policies = Policies { timers: true, ..Default::default() };
-    for (policies, retrans_timer) in [(policies, 1_000), (Policies::default(), u32::MAX)] {
+    for (policies, retrans_timer) in [(policies, 1_000), (Policies::robust(), 1_000), (Policies::default(), u32::MAX)] {
         let mut node = Node::open(&Options { policies, draws: Draws::Word(0), ..Options::host(MAC, 0, 0) }).unwrap();
         assert_eq!(node.receive(1_200, &bytes(RETRANS_TIMER_OF_49_DAYS)), Ok(Outcome::Done));
         assert_eq!(node.parameters(1_200).unwrap().retrans_timer, retrans_timer);
