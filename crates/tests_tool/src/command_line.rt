@@ -209,13 +209,14 @@ fn expect_limit(rt: &(impl Abort + AllocGlobal), place: usize, option: &str, num
 #[test]
 fn policies_are_named_once(rt: HostRuntime) {
     let all = Policies::none()
+        .with_parts()
         .with_speakers()
         .with_timers()
         .with_own()
         .with_unicast();
     for value in [
-        "speakers,timers,self,unicast",
-        "unicast,timers,speakers,self",
+        "parts,speakers,timers,self,unicast",
+        "unicast,timers,speakers,self,parts",
     ] {
         let read = options(&rt, &run_with("--policy", value));
         assert!(rt; read.policies == all);
@@ -229,6 +230,7 @@ fn policies_are_named_once(rt: HostRuntime) {
         "timers unicast",
         "unicast,self,unicast",
         "speakers,speakers",
+        "parts,self,parts",
     ] {
         assert_eq!(rt; refused(&rt, &run_with("--policy", value)), "policy");
     }
