@@ -18,6 +18,8 @@ mod next_hops;
 #[cfg(test)]
 mod node;
 #[cfg(test)]
+mod parts;
+#[cfg(test)]
 mod redirects;
 #[cfg(test)]
 mod refusing;
