@@ -37,7 +37,7 @@ enum {
 };
 
 /* What a link counts: records by their kind (enum nd_kind), and these. */
-enum { EVENTS = ND_OUT_RESOLVED + 1, DELIVERED, REDIRECTS, PACKETS, COUNTS };
+enum { EVENTS = ND_OUT_IGNORED + 1, DELIVERED, REDIRECTS, PACKETS, COUNTS };
 
 enum { HOSTS, LINKS, ROUTERS, SECONDS, SEED, THREADS, ARGUMENTS };
 
