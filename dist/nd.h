@@ -257,6 +257,15 @@ enum nd_draws {
 
 /* What a node does on a link that is not trusted, each where it is asked for. */
 enum nd_policy {
+    /* A message is taken in part where a table has no room for all of it, and none is refused for a
+     * limit (RFC 8106, 5.3.1). Of a Router Advertisement what has room is taken, in order, and what
+     * has none is passed over: the router, a prefix on the link, an address that would form, a
+     * server, a search name. A refresh or a removal never is. A link-layer address that would need
+     * a new neighbour where the cache is full makes no entry. A solicitation whose asker gets no
+     * entry is answered to the link-layer address that it gives, unless that is a group's, and is
+     * not answered otherwise. ND_OUT_IGNORED reports each limit of which a part was passed over. */
+    ND_POLICY_PARTS = 1,
+
     /* What is known to live goes before what is only asked for. Where a message gives the
      * link-layer address of a new neighbour, the cache is full, and none is STALE, the INCOMPLETE
      * neighbour that was asked for longest fails (ND_OUT_FAILED) instead of a refusal. The answer
@@ -278,12 +287,18 @@ enum nd_policy {
     ND_POLICY_UNICAST = 16
 };
 
+/* All five, recommended on a link that is not trusted. What is heard is never refused for a limit:
+ * a sender that fills a table does not have the messages of others refused whole, and
+ * ND_OUT_IGNORED says which limit a part was passed over for. A forwarded packet and the caller's
+ * own events are still refused for one. */
+#define ND_POLICIES_ROBUST 31
+
 typedef struct nd_options {
     uint32_t role;     /* enum nd_role */
     nd_mac mac;        /* the interface's own address; not checked */
     uint8_t transmits; /* DupAddrDetectTransmits (RFC 4862, 5.1), 1 to 8; 0: 1 */
     uint8_t draws;     /* enum nd_draws */
-    uint32_t policies; /* a sum of enum nd_policy, or 0 */
+    uint32_t policies; /* a sum of enum nd_policy, such as ND_POLICIES_ROBUST, or 0 */
     uint64_t start;    /* the moment of the start */
     uint64_t seed;     /* decides the random delays: take it from the system's entropy, so that
                           machines that start together do not send together (RFC 4861, 6.3.7) */
@@ -342,12 +357,12 @@ int32_t nd_turn(nd_node *node, uint64_t now);
  *                  follows from a message is reported after ND_OUT_HEARD. A packet in transit has
  *                  no such record: a router forwards it, which is ND_OUT_FRAME or ND_OUT_LOST, now
  *                  or once the link-layer address of its next hop is known (RFC 8200, 3).
- *   ND_REFUSED     ND_REFUSAL_FULL: a part of the message would pass a limit. No part of it was
- *                  taken. So once as many DNS servers without end are known as the limit says, an
- *                  advertisement of another server is refused whole, with its router and its
- *                  prefixes. Where the neighbours
- *                  are at their limit, the one that is STALE for longest is evicted for a new one;
- *                  if none is STALE, a message of a new neighbour is refused. */
+ *   ND_REFUSED     ND_REFUSAL_FULL, but not of a message with ND_POLICY_PARTS: a part of it would
+ *                  pass a limit. No part of it was taken. So once as many DNS servers without end
+ *                  are known as the limit says, an advertisement of another server is refused
+ *                  whole, with its router and its prefixes. Where the neighbours are at their
+ *                  limit, the one that is STALE for longest is evicted for a new one; if none is
+ *                  STALE, a message of a new neighbour is refused. */
 int32_t nd_receive(nd_node *node, uint64_t now, const uint8_t *frame, size_t length);
 
 /* Sends a packet of an upper layer (RFC 4861, 5.2, 7.2.2 and 7.3.3). `source` is an assigned
@@ -585,8 +600,8 @@ enum nd_kind {
     ND_OUT_RESOLVED = 13,     /* the link-layer address of neighbour `address` is known, for which
                                  nd_resolve returned ND_WAITING (RFC 4861, 7.2.2); the bytes are
                                  that address, 6 bytes. It follows what nd_send had left waiting */
-    ND_OUT_IGNORED = 14       /* parts of a message were passed over, for which the table `limit`
-                                 has no room. No node reports it yet */
+    ND_OUT_IGNORED = 14       /* parts of a message were passed over, by ND_POLICY_PARTS: the table
+                                 `limit` has no room for them */
 };
 
 enum nd_loss {
