@@ -7,15 +7,11 @@
  * each field. The library of a whole node, libnd_c.a, has the function too: nd.h includes this
  * header.
  */
-#ifndef ND_HEAR_H
-#define ND_HEAR_H
+#ifndef JONDASIK_ND_HEAR_H
+#define JONDASIK_ND_HEAR_H
 
 #include <stddef.h>
 #include <stdint.h>
-
-#if UINTPTR_MAX != UINT64_MAX
-#error "nd_hear.h: the library is for targets with 64-bit pointers"
-#endif
 
 #ifdef __cplusplus
 extern "C" {
@@ -23,16 +19,14 @@ extern "C" {
 
 enum nd_status { /* nd_hear returns ND_DONE or ND_INVALID, the functions of nd.h all of them */
     ND_DONE = 0,
-    ND_NOTHING = 1,    /* there is no such row or record */
-    ND_REFUSED = 2,    /* the event was refused: time has passed up to it, what was due is done, and
-                          nothing else has changed. The newest record, ND_OUT_REFUSED, says why;
-                          of nd_resolve its path does */
-    ND_WAITING = 3,    /* nd_resolve: the link-layer address of the next hop is not known yet */
+    ND_NOTHING = 1,    /* there is no such row, record or next hop */
+    ND_WAITING = 2,    /* nd_resolve: the link-layer address of the next hop is not known yet */
     ND_NO_MEMORY = -1, /* memory was refused */
     ND_CLOSED = -2,    /* the node is not open */
     ND_INVALID = -3,   /* an argument that the call does not take */
     ND_PAST = -4,      /* `now` is before nd_last_moment */
     ND_NO_ROOM = -5    /* the buffer is too short */
+    /* -16 and below: a refusal, ND_REFUSED of nd.h */
 };
 
 enum nd_role {

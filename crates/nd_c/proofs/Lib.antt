@@ -1,2 +1,5 @@
+pub mod Filled
+pub mod Filling
 pub mod Nth
 pub mod Products
+pub mod Unchanged

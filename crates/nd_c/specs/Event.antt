@@ -8,13 +8,14 @@ use Rattle.nd_node.specs.Time.{Onward}
 use Rattle.nd_session.specs.Event.{LedBy}
 use Rattle.nd_session.specs.Leases.{KeepsLeases}
 use Rattle.nd_session.specs.declared.session.Session.{Session}
-use Rattle.nd_c.specs.Status.{done, refused, no_memory, closed, invalid, past}
+use Rattle.nd_c_types.specs.Refusal.{refused}
+use Rattle.nd_c.specs.Status.{done, nothing, no_memory, closed, invalid, past}
 
 -- the status that says how the node took an event
 abbrev pub status_of : Answer → ℤ
 status_of Done = done
-status_of NoRoute = done
-status_of (Refused refusal) = refused
+status_of NoRoute = nothing
+status_of (Refused refusal) = refused refusal
 status_of (Past last) = past
 
 -- A session receives an event. If its moment is past, nothing changes. Else what is due up to it is done, and then it adds what it adds, and the

@@ -5,6 +5,7 @@ pub mod Question
 pub mod Poll
 pub mod Open
 pub mod Rows
+pub mod AllRows
 pub mod NextHop
 pub mod Resolve
 pub mod Confirmation

@@ -1,6 +1,7 @@
 -- Where packets to a destination go, for a caller that keeps them (RFC 4861, sections 5.2, 7.2.2 and 7.3.3).
 use Rattle.std.specs.Prelude.{◌≡◌, ℕ, ◌<◌, ◌≤◌, ◌^◌, ◌⊎◌, ℤ, Option, None, Some, IsSomeAnd}
 use Rattle.nd_addr.specs.declared.addr.Addr.{Addr}
+use Rattle.nd_out.specs.Out.{refusal_of}
 use Rattle.nd_out.specs.declared.out.Way.{Way}
 use Rattle.nd_out.specs.declared.out.Way.TheVariants.{NoRoute, To}
 use Rattle.nd_node.specs.Node.{last_of}
@@ -11,9 +12,10 @@ use Rattle.nd_session.specs.Resolve.{AnsweredBy}
 use Rattle.nd_session.specs.declared.resolve.PathAnswer.{PathAnswer}
 use Rattle.nd_session.specs.declared.resolve.PathAnswer.TheVariants.{Past, Refused, Path}
 use Rattle.nd_session.specs.declared.session.Session.{Session}
-use Rattle.nd_c_types.specs.Path.{path_row, refused_path}
+use Rattle.nd_c_types.specs.Path.{no_path, path_row}
+use Rattle.nd_c_types.specs.Refusal.{refused}
 use Rattle.nd_c_types.specs.declared.path.PathRow.{PathRow}
-use Rattle.nd_c.specs.Status.{done, nothing, refused, waiting, no_memory, closed, invalid, past}
+use Rattle.nd_c.specs.Status.{done, nothing, waiting, no_memory, closed, invalid, past}
 
 -- packets can be sent, there is no next hop, or they wait for its link-layer address
 abbrev pub status_of_way : Way → ℤ
@@ -24,7 +26,7 @@ status_of_way (To neighbour (Some mac)) = done
 -- the status and the row of an answer, at this version of all leases
 abbrev pub Says : ℕ → Addr → ℕ → PathAnswer → ℤ → PathRow → PathRow → Type 0
 Says now destination version (Past last) status old new = (status ≡ past) × (new ≡ old)
-Says now destination version (Refused refusal) status old new = (status ≡ refused) × (new ≡ refused_path now refusal)
+Says now destination version (Refused refusal) status old new = (status ≡ refused (refusal_of refusal)) × (new ≡ no_path now)
 Says now destination version (Path way state until) status old new = (status ≡ status_of_way way) × (new ≡ path_row destination way state until version)
 
 -- A session is asked. If its moment is past, nothing changes. Else what is due up to it is done, then the question adds what it adds, and status and row

@@ -8,13 +8,10 @@ done = pos 0
 abbrev pub nothing : ℤ
 nothing = pos 1
 
-abbrev pub refused : ℤ
-refused = pos 2
-
 abbrev pub waiting : ℤ
-waiting = pos 3
+waiting = pos 2
 
--- below: it did not
+-- below: it did not, or was refused (`Rattle.nd_c_types.specs.Refusal.refused`)
 abbrev pub no_memory : ℤ
 no_memory = negsuc 0
 

@@ -8,9 +8,9 @@ ghost use Rattle.nd_session.specs.Leases.{KeepsLeases};
 ghost use Rattle.nd_c.specs.Event.{Answers, Comes, status_of};
 ghost use Rattle.nd_c.specs.Given.{event_given};
 
-use crate::status::{CLOSED, DONE, INVALID, NO_MEMORY, PAST, REFUSED};
+use crate::status::{CLOSED, DONE, INVALID, NO_MEMORY, NOTHING, PAST};
 use nd_addr::Addr;
-use nd_c_types::MOMENT_LIMIT;
+use nd_c_types::{MOMENT_LIMIT, refused};
 use nd_node::{Answer, Event};
 use nd_session::{Session, Slot};
 use std::alloc::{AllocError, Global};
@@ -49,7 +49,7 @@ pub(crate) fn answer(alloc: Global, node: &mut Slot, now: u64, given: Given<'_>)
 
 /// Gives an event to a session, at `now` in milliseconds, and returns the status.
 #[inline(always)]
-fn comes(session: &mut Session, now: u64, given: Given<'_>) -> i32
+pub(crate) fn comes(session: &mut Session, now: u64, given: Given<'_>) -> i32
     requires { IsMoment now }
     ensures { Comes now (event_given given.entry) result session.old session.new }
 {
@@ -79,13 +79,14 @@ fn give(session: &mut Session, now: u64, given: Given<'_>) -> Result<Answer, All
     }
 }
 
-/// Returns the status that says how the node took an event. Only the record of a lost packet says that it has no next hop.
+/// Returns the status that says how the node took an event.
 fn status_of(answer: Answer) -> i32
     ensures { result ≡ status_of (answer_of answer) }
 {
     match answer {
-        Answer::Done | Answer::NoRoute => DONE,
-        Answer::Refused(_) => REFUSED,
+        Answer::Done => DONE,
+        Answer::NoRoute => NOTHING,
+        Answer::Refused(refusal) => refused(&refusal),
         Answer::Past(_) => PAST,
     }
 }

@@ -18,7 +18,7 @@ use std::alloc::Global;
 
 /// Lets time pass up to `now`, and does all that is due.
 #[unsafe(no_mangle)]
-pub extern "C" fn nd_turn(alloc: Global, node: &mut Slot, now: u64) -> i32
+pub extern "C" fn nd_pass(alloc: Global, node: &mut Slot, now: u64) -> i32
     ensures { Answers now events.Passes result node.old.handle.session node.new.handle.session }
 {
     answer(alloc, node, now, Given::Event(&Event::Passes))

@@ -5,18 +5,23 @@
 //! and what a question returns in `specs/Question.antt` and `specs/Rows.antt`. The structures are those of `nd_c_types`.
 #![tactic(auto)]
 
+mod all_rows;
 mod answer;
 mod bytes;
 mod confirmation;
 mod events;
 mod hear;
+mod message;
 mod next_hop;
 mod node;
 mod poll;
 mod pool_bytes;
 mod questions;
+mod refusal;
 mod resolve;
 mod router_events;
+mod row_of;
 mod rows;
 mod status;
+mod tables;
 mod version;

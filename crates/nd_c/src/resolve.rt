@@ -4,9 +4,9 @@ ghost use Rattle.std.specs.Prelude.{◌≡◌};
 ghost use Rattle.nd_table.specs.Moment.{IsMoment};
 ghost use Rattle.nd_c.specs.Resolve.{Finds, PathAnswers, Says, status_of_way};
 
-use crate::status::{CLOSED, DONE, INVALID, NO_MEMORY, NOTHING, PAST, REFUSED, WAITING};
+use crate::status::{CLOSED, DONE, INVALID, NO_MEMORY, NOTHING, PAST, WAITING};
 use nd_addr::Addr;
-use nd_c_types::{MOMENT_LIMIT, PathRow};
+use nd_c_types::{MOMENT_LIMIT, PathRow, refused};
 use nd_out::Way;
 use nd_session::{PathAnswer, Session, Slot};
 use std::alloc::Global;
@@ -52,8 +52,8 @@ fn say(now: u64, destination: Addr, version: u64, answer: PathAnswer, path: &mut
     match answer {
         PathAnswer::Past(_) => PAST,
         PathAnswer::Refused(refusal) => {
-            *path = PathRow::of_refusal(now, &refusal);
-            REFUSED
+            *path = PathRow::none(now);
+            refused(&refusal)
         }
         PathAnswer::Path { way, state, until } => {
             *path = PathRow::of(destination, way, state, until, version);

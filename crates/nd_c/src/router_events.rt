@@ -35,7 +35,12 @@ pub extern "C" fn nd_advertise(
 
 /// Advertises a prefix, too (RFC 4861, section 6.2.1).
 #[unsafe(no_mangle)]
-pub extern "C" fn nd_offer(alloc: Global, node: &mut Slot, now: u64, offer: &OfferRow) -> i32
+pub extern "C" fn nd_advertise_prefix(
+    alloc: Global,
+    node: &mut Slot,
+    now: u64,
+    offer: &OfferRow,
+) -> i32
     ensures { MatchOption (offer_of offer.now) ((result ≡ invalid) × (node.new.handle.session ≡ node.old.handle.session))
         (λ info. Answers now (events.Offers info) result node.old.handle.session node.new.handle.session) }
 {
@@ -48,7 +53,7 @@ pub extern "C" fn nd_offer(alloc: Global, node: &mut Slot, now: u64, offer: &Off
 
 /// Puts a static route.
 #[unsafe(no_mangle)]
-pub extern "C" fn nd_route(alloc: Global, node: &mut Slot, now: u64, route: &RouteRow) -> i32
+pub extern "C" fn nd_add_route(alloc: Global, node: &mut Slot, now: u64, route: &RouteRow) -> i32
     ensures { MatchOption (route_of route.now) ((result ≡ invalid) × (node.new.handle.session ≡ node.old.handle.session))
         (λ kept. Answers now (events.Routes kept.prefix kept.route) result node.old.handle.session node.new.handle.session) }
 {
@@ -61,7 +66,7 @@ pub extern "C" fn nd_route(alloc: Global, node: &mut Slot, now: u64, route: &Rou
 
 /// Ceases to advertise (RFC 4861, section 6.2.5).
 #[unsafe(no_mangle)]
-pub extern "C" fn nd_stop(alloc: Global, node: &mut Slot, now: u64) -> i32
+pub extern "C" fn nd_stop_advertising(alloc: Global, node: &mut Slot, now: u64) -> i32
     ensures { Answers now events.Stops result node.old.handle.session node.new.handle.session }
 {
     answer(alloc, node, now, Given::Event(&Event::Stops))

@@ -2,6 +2,7 @@ pub mod Address
 pub mod Advertising
 pub mod Dns
 pub mod Limits
+pub mod Message
 pub mod NameText
 pub mod Neighbour
 pub mod NextHop
@@ -14,6 +15,7 @@ pub mod Path
 pub mod Prefix
 pub mod Record
 pub mod Redirect
+pub mod Refusal
 pub mod Role
 pub mod Route
 pub mod Router

@@ -4,17 +4,15 @@ use Rattle.nd_addr.specs.Same.{same_addr}
 use Rattle.nd_addr.specs.declared.addr.Addr.{Addr}
 use Rattle.nd_addr.specs.declared.mac.Mac.{Mac}
 use Rattle.nd_neighbour.specs.declared.shown.Reachability.{Reachability}
-use Rattle.nd_out.specs.declared.out.Refusal.{Refusal}
 use Rattle.nd_out.specs.declared.out.Way.{Way}
 use Rattle.nd_out.specs.declared.out.Way.TheVariants as ways
 use Rattle.nd_c_types.specs.Neighbour.{mac_bytes, mac_flag, reachability_number}
 use Rattle.nd_c_types.specs.Numbers.{no_address}
-use Rattle.nd_c_types.specs.Record.{of_refusal}
 use Rattle.nd_c_types.specs.declared.path.PathRow.{PathRow}
 
 -- no next hop, up to a moment
 abbrev pub no_path : ℕ → PathRow
-no_path until = record { until = until; version = 0; next_hop = no_address; mac = replicate 6 0; has_mac = 0; reserved = 0; hop = 0; state = 0; refusal = 0; limit = 0 }
+no_path until = record { until = until; version = 0; next_hop = no_address; mac = replicate 6 0; has_mac = 0; reserved = 0; hop = 0; state = 0 }
 
 -- the destination itself, or a router: enum nd_hop
 abbrev pub hop_number : Addr → Addr → ℕ
@@ -41,7 +39,3 @@ path_row destination (ways.To to mac) state until version = record (no_path unti
   hop = hop_number to destination;
   state = state_number state;
 }
-
--- a question that was refused, as the record of an event that was: enum nd_refusal and enum nd_limit
-abbrev pub refused_path : ℕ → Refusal → PathRow
-refused_path now refusal = record (no_path now) { refusal = (of_refusal refusal).code; limit = (of_refusal refusal).limit }

@@ -6,13 +6,13 @@ use Rattle.nd_decode.specs.declared.body.Body.{Body}
 use Rattle.nd_decode.specs.declared.body.Body.TheVariants as bodies
 use Rattle.nd_out.specs.declared.out.Loss.{Loss}
 use Rattle.nd_out.specs.declared.out.Loss.TheVariants as losses
-use Rattle.nd_out.specs.declared.out.Limit.{Limit}
-use Rattle.nd_out.specs.declared.out.Limit.TheVariants as limits
 use Rattle.nd_out.specs.declared.out.Refusal.{Refusal}
 use Rattle.nd_out.specs.declared.out.Refusal.TheVariants as refusals
+use Rattle.nd_out.specs.Out.{limit_of, refusal_of}
 use Rattle.nd_out.specs.declared.out.Out.{Out}
 use Rattle.nd_out.specs.declared.out.Out.TheVariants as outs
 use Rattle.nd_c_types.specs.Numbers.{no_address}
+use Rattle.nd_c_types.specs.Refusal.{full_number, limit_number, refusal_number}
 use Rattle.nd_c_types.specs.declared.«record».Record.{Record}
 
 -- the ICMPv6 types (RFC 4861, section 4)
@@ -31,29 +31,18 @@ loss_number losses.Forgotten = 3
 loss_number losses.NoRoute = 4
 loss_number losses.HopLimit = 5
 
--- enum nd_limit
-abbrev pub limit_number : Limit → ℕ
-limit_number limits.Neighbours = 1
-limit_number limits.Routers = 2
-limit_number limits.Prefixes = 3
-limit_number limits.Addresses = 4
-limit_number limits.Servers = 5
-limit_number limits.Names = 6
-limit_number limits.Offers = 7
-limit_number limits.StaticRoutes = 8
-
 -- no field
 abbrev pub nothing : Record
 nothing = record { moment = 0; length = 0; kind = 0; code = 0; limit = 0; reserved = 0; address = no_address }
 
--- an event that was refused: enum nd_refusal
+-- the source that is no assigned address
+abbrev pub source_of : Refusal → List ℕ
+source_of (refusals.NotOurs source) = source.0
+source_of _ = no_address
+
+-- an event that was refused
 abbrev pub of_refusal : Refusal → Record
-of_refusal refusals.WrongRole = record nothing { kind = 11; code = 1 }
-of_refusal refusals.Disabled = record nothing { kind = 11; code = 2 }
-of_refusal refusals.Tentative = record nothing { kind = 11; code = 8 }
-of_refusal (refusals.NotOurs source) = record nothing { kind = 11; code = 3; address = source.0 }
-of_refusal refusals.TooLong = record nothing { kind = 11; code = 4 }
-of_refusal (refusals.Full full) = record nothing { kind = 11; code = 5; limit = limit_number full }
+of_refusal why = record nothing { kind = 11; code = refusal_number (refusal_of why); limit = full_number (refusal_of why); address = source_of why }
 
 -- the kind, and what it has besides a moment and bytes: enum nd_kind
 abbrev pub contents_of : {A : Type 0} → Out A → Record
@@ -71,7 +60,7 @@ contents_of (outs.Path destination way) = nothing
 contents_of (outs.Resolved neighbour mac) = record nothing { kind = 13; address = neighbour.0 }
 contents_of (outs.Shown rows) = nothing
 contents_of (outs.Refused why) = of_refusal why
-contents_of (outs.Ignored full) = record nothing { kind = 14; limit = limit_number full }
+contents_of (outs.Ignored full) = record nothing { kind = 14; limit = limit_number (limit_of full) }
 contents_of (outs.Past last) = nothing
 
 -- the bytes: a frame that is sent, a packet from its IPv6 header on, or a link-layer address that was resolved

@@ -1,14 +1,13 @@
 //! Where packets to a destination go, as C sees it. The definitions are in `specs/Path.antt`.
 
 ghost use Rattle.std.specs.Prelude.{◌≡◌};
-ghost use Rattle.nd_c_types.specs.Path.{hop_number, lease_version, no_path, path_row, refused_path, state_number};
+ghost use Rattle.nd_c_types.specs.Path.{hop_number, lease_version, no_path, path_row, state_number};
 
 use crate::header::{HOP_DIRECT, HOP_VIA};
 use crate::neighbour::{mac_bytes, mac_flag, reachability_number};
-use crate::record::Record;
 use nd_addr::{Addr, Mac};
 use nd_neighbour::Reachability;
-use nd_out::{Refusal, Way};
+use nd_out::Way;
 
 /// Where packets to a destination go: `nd_path` of the header. Fields that the answer does not use are 0.
 #[repr(C)]
@@ -28,10 +27,6 @@ pub struct PathRow {
     pub hop: u32,
     /// ND_REACHABILITY_INCOMPLETE to ND_REACHABILITY_PROBE.
     pub state: u32,
-    /// ND_REFUSAL_DISABLED, ND_REFUSAL_FULL or ND_REFUSAL_TENTATIVE.
-    pub refusal: u32,
-    /// ND_LIMIT_NEIGHBOURS, of ND_REFUSAL_FULL.
-    pub limit: u32,
 }
 
 impl PathRow {
@@ -67,20 +62,8 @@ impl PathRow {
         }
     }
 
-    /// Returns the row of a question that was refused at `now`, in milliseconds.
-    pub fn of_refusal(now: u64, refusal: &Refusal) -> PathRow
-        ensures { result ≡ refused_path now refusal.now }
-    {
-        let refused = Record::of_refusal(refusal);
-        PathRow {
-            refusal: refused.code,
-            limit: refused.limit,
-            ..PathRow::none(now)
-        }
-    }
-
     /// Returns a row without a next hop.
-    fn none(until: u64) -> PathRow
+    pub fn none(until: u64) -> PathRow
         ensures { result ≡ no_path until }
     {
         PathRow {
@@ -92,8 +75,6 @@ impl PathRow {
             reserved: 0,
             hop: 0,
             state: 0,
-            refusal: 0,
-            limit: 0,
         }
     }
 }

@@ -1,18 +1,16 @@
 //! What a node reports, as C sees it. The definitions are in `specs/Record.antt`.
 
 ghost use Rattle.std.specs.Prelude.{◌≡◌};
-ghost use Rattle.nd_c_types.specs.Record.{bytes_in, contents_of, limit_number, loss_number, nothing, of_refusal, record_of};
+ghost use Rattle.nd_c_types.specs.Record.{bytes_in, contents_of, loss_number, nothing, of_refusal, record_of, source_of};
 
 use crate::header::{
-    LIMIT_ADDRESSES, LIMIT_NAMES, LIMIT_NEIGHBOURS, LIMIT_OFFERS, LIMIT_PREFIXES, LIMIT_ROUTERS,
-    LIMIT_SERVERS, LIMIT_STATIC_ROUTES, LOSS_FORGOTTEN, LOSS_HOP_LIMIT, LOSS_NO_ROUTE,
-    LOSS_REPLACED, LOSS_UNREACHABLE, OUT_ASSIGNED, OUT_DROPPED, OUT_DUPLICATE, OUT_ENDED_ADDRESS,
-    OUT_ENDED_ROUTER, OUT_FAILED, OUT_FRAME, OUT_HEARD, OUT_IGNORED, OUT_LOST, OUT_REFUSED,
-    OUT_RESOLVED, OUT_UP, REFUSAL_DISABLED, REFUSAL_FULL, REFUSAL_NOT_OURS, REFUSAL_TENTATIVE,
-    REFUSAL_TOO_LONG, REFUSAL_WRONG_ROLE,
+    LOSS_FORGOTTEN, LOSS_HOP_LIMIT, LOSS_NO_ROUTE, LOSS_REPLACED, LOSS_UNREACHABLE, OUT_ASSIGNED,
+    OUT_DROPPED, OUT_DUPLICATE, OUT_ENDED_ADDRESS, OUT_ENDED_ROUTER, OUT_FAILED, OUT_FRAME,
+    OUT_HEARD, OUT_IGNORED, OUT_LOST, OUT_REFUSED, OUT_RESOLVED, OUT_UP,
 };
+use crate::refusal::{full_number, limit_number, refusal_number};
 use nd_addr::{Addr, ETHERNET_HEADER_LENGTH};
-use nd_out::{Limit, Loss, Out, Refusal};
+use nd_out::{Loss, Out, Refusal};
 use std::alloc::Allocator;
 
 /// What a node reports: `nd_out` of the header. Fields that the kind does not use are 0.
@@ -88,22 +86,14 @@ impl Record {
     }
 
     /// Returns the contents for an event that was refused.
-    pub(crate) fn of_refusal(why: &Refusal) -> Record
+    fn of_refusal(why: &Refusal) -> Record
         ensures { result ≡ of_refusal why.now }
     {
-        match why {
-            Refusal::WrongRole => Record::with_code(OUT_REFUSED, REFUSAL_WRONG_ROLE),
-            Refusal::Disabled => Record::with_code(OUT_REFUSED, REFUSAL_DISABLED),
-            Refusal::Tentative => Record::with_code(OUT_REFUSED, REFUSAL_TENTATIVE),
-            Refusal::NotOurs(source) => Record {
-                code: REFUSAL_NOT_OURS,
-                ..Record::about(OUT_REFUSED, *source)
-            },
-            Refusal::TooLong => Record::with_code(OUT_REFUSED, REFUSAL_TOO_LONG),
-            Refusal::Full(full) => Record {
-                limit: limit_number(*full),
-                ..Record::with_code(OUT_REFUSED, REFUSAL_FULL)
-            },
+        let address = source_of(why);
+        Record {
+            limit: full_number(why),
+            address,
+            ..Record::with_code(OUT_REFUSED, refusal_number(why))
         }
     }
 
@@ -158,18 +148,12 @@ fn loss_number(why: Loss) -> u32
     }
 }
 
-/// Returns the number of a table that has a limit.
-fn limit_number(full: Limit) -> u32
-    ensures { result ≡ limit_number full }
+/// Returns the source that is no assigned address, or zeros.
+fn source_of(why: &Refusal) -> [u8; 16]
+    ensures { result ≡ source_of why.now }
 {
-    match full {
-        Limit::Neighbours => LIMIT_NEIGHBOURS,
-        Limit::Routers => LIMIT_ROUTERS,
-        Limit::Prefixes => LIMIT_PREFIXES,
-        Limit::Addresses => LIMIT_ADDRESSES,
-        Limit::Servers => LIMIT_SERVERS,
-        Limit::Names => LIMIT_NAMES,
-        Limit::Offers => LIMIT_OFFERS,
-        Limit::StaticRoutes => LIMIT_STATIC_ROUTES,
+    match why {
+        Refusal::NotOurs(source) => source.0,
+        _ => [0; 16],
     }
 }

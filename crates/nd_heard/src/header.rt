@@ -4,14 +4,11 @@
 /// The call took place.
 pub const DONE: i32 = 0;
 
-/// There is no such row or record.
+/// There is no such row, record or next hop.
 pub const NOTHING: i32 = 1;
 
-/// The event was refused, and the newest record says why.
-pub const REFUSED: i32 = 2;
-
 /// The link-layer address is not known yet.
-pub const WAITING: i32 = 3;
+pub const WAITING: i32 = 2;
 
 /// Memory was refused.
 pub const NO_MEMORY: i32 = -1;
