@@ -20,6 +20,8 @@ archives() {
 command -v rt >/dev/null || skip rt
 [ -d "$crate" ] || skip crates/nd_c
 command -v readelf >/dev/null || skip readelf
+objcopy=${cc%gcc}objcopy
+command -v "$objcopy" >/dev/null || skip "$objcopy"
 mkdir -p "$out"
 kept=$(mktemp)
 trap 'rm -f "$kept"' EXIT
@@ -27,7 +29,7 @@ trap 'rm -f "$kept"' EXIT
 (cd "$crate" && rt lib --target aarch64-unknown-linux-gnu)
 archive=$(archives "$crate/out" | head -n 1)
 [ -n "$archive" ] || { echo "FAILED: rt lib made no archive for aarch64"; exit 1; }
-cp "$archive" "$out/libnd_c.a"
+"$objcopy" --redefine-syms="$here/c/memory.names" "$archive" "$out/libnd_c.a"
 # The archive for this machine comes back where `rt lib` overwrote it.
 [ "$archive" != "$crate/out/libnd_c.a" ] || { rm "$archive"; [ ! -s "$kept" ] || cp -p "$kept" "$archive"; }
 command -v "$cc" >/dev/null || skip "$cc"

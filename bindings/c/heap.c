@@ -7,30 +7,24 @@ enum { MOST_ALIGNED = 16 };
 
 _Static_assert(_Alignof(max_align_t) >= MOST_ALIGNED, "malloc aligns blocks of 16 bytes and more to 16");
 
-static struct nd_block block_of(void *p)
-{
-    static char nothing;
-    return (struct nd_block){p != NULL, p != NULL ? p : &nothing};
-}
-
 /* A block of no bytes has an address too. */
 static size_t room(size_t size)
 {
     return size > 0 ? size : MOST_ALIGNED;
 }
 
-struct nd_block rattle_alloc(size_t size, size_t align)
+struct nd_block nd_alloc(size_t size, size_t align)
 {
-    return block_of(align <= MOST_ALIGNED ? malloc(room(size)) : NULL);
+    return nd_block_at(align <= MOST_ALIGNED ? malloc(room(size)) : NULL);
 }
 
-struct nd_block rattle_realloc(void *p, size_t kept, size_t size, size_t align)
+struct nd_block nd_realloc(void *p, size_t kept, size_t size, size_t align)
 {
     (void)kept; /* realloc keeps all of them */
-    return block_of(align <= MOST_ALIGNED ? realloc(p, room(size)) : NULL);
+    return nd_block_at(align <= MOST_ALIGNED ? realloc(p, room(size)) : NULL);
 }
 
-void rattle_dealloc(void *p)
+void nd_free(void *p)
 {
     free(p);
 }

@@ -179,27 +179,25 @@ static size_t units_of(size_t size)
     return size / sizeof(struct head) + (size == 0 || size % sizeof(struct head) > 0);
 }
 
-struct nd_block rattle_alloc(size_t size, size_t align)
+struct nd_block nd_alloc(size_t size, size_t align)
 {
-    static char nothing;
-    const struct nd_block refused = {false, &nothing};
     struct head *at;
     if (align > MOST_ALIGNED)
-        return refused;
+        return nd_block_at(NULL);
     if (pool[0].units == 0) {
         pool[0].units = UNITS - 1;
         put(pool);
     }
     at = find(units_of(size));
     if (at == NULL)
-        return refused;
+        return nd_block_at(NULL);
     pick(at);
     cut(at, units_of(size));
     at->before |= 1;
-    return (struct nd_block){true, at + 1};
+    return nd_block_at(at + 1);
 }
 
-void rattle_dealloc(void *p)
+void nd_free(void *p)
 {
     struct head *at = (struct head *)p - 1;
     at->before &= ~(size_t)1;
@@ -215,7 +213,7 @@ void rattle_dealloc(void *p)
     put(at);
 }
 
-struct nd_block rattle_realloc(void *p, size_t kept, size_t size, size_t align)
+struct nd_block nd_realloc(void *p, size_t kept, size_t size, size_t align)
 {
     struct head *at = (struct head *)p - 1;
     struct nd_block moved;
@@ -223,13 +221,13 @@ struct nd_block rattle_realloc(void *p, size_t kept, size_t size, size_t align)
         join(at);
     if (align <= MOST_ALIGNED && at->units >= units_of(size)) {
         cut(at, units_of(size));
-        return (struct nd_block){true, p};
+        return nd_block_at(p);
     }
-    moved = rattle_alloc(size, align);
+    moved = nd_alloc(size, align);
     if (!moved.ok)
         return moved;
     for (size_t i = 0; i < kept; i++)
         ((unsigned char *)moved.p)[i] = ((const unsigned char *)p)[i];
-    rattle_dealloc(p);
+    nd_free(p);
     return moved;
 }

@@ -28,7 +28,8 @@ PAGE = 65536
 WASM = "wasm64-unknown-unknown"
 LOWER = [f"--enable-{feature}" for feature in ("memory64", "bulk-memory", "sign-ext", "nontrapping-float-to-int", "mutable-globals", "extended-const",
                                                "multivalue")]
-PACKAGES = {"wasm-opt": "binaryen", "wasm2c": "wabt", "gcc": "gcc"}
+PACKAGES = {"wasm-opt": "binaryen", "wasm2c": "wabt", "gcc": "gcc", "aarch64-linux-gnu-objcopy": "binutils-aarch64-linux-gnu",
+            "riscv64-linux-gnu-objcopy": "binutils-riscv64-linux-gnu"}
 
 
 class Skipped(Exception):
@@ -111,25 +112,36 @@ def compiled(target, out, *flags, of=bitcode):
     made_once(out, [module, tool], lambda: run(sys.executable, tool, clang(), module, *words), words)
 
 
+def renamed(archive, target):
+    """Copies an archive for a processor, with the names of nd.h for the memory functions."""
+    need(f"{target}-linux-gnu-objcopy")
+    os.makedirs(f"{OUT}/{target}", exist_ok=True)
+    run(f"{target}-linux-gnu-objcopy", f"--redefine-syms={BINDINGS}/c/memory.names", archive, f"{OUT}/{target}/libnd_c.a")
+
+
 def aarch64():
     bitcode()
-    os.makedirs(f"{OUT}/aarch64", exist_ok=True)
-    shutil.copy(f"{OUT}/nd.a", f"{OUT}/aarch64/libnd_c.a")
+    renamed(f"{OUT}/nd.a", "aarch64")
 
 
 def riscv64():
     compiled("riscv64-unknown-linux-gnu", f"{OUT}/riscv64.o", "-march=rv64gc", "-mabi=lp64d", "-fPIC")
-    os.makedirs(f"{OUT}/riscv64", exist_ok=True)
-    archive = f"{OUT}/riscv64/libnd_c.a"
+    archive = f"{OUT}/riscv64.a"
     if os.path.exists(archive):
         os.remove(archive)
     run(f"{kit()}/toolchain/bin/llvm-ar", "rcsD", archive, f"{OUT}/riscv64.o")
+    renamed(archive, "riscv64")
+
+
+def memory_names():
+    """Returns the names of nd.h for the memory functions, by those that the library calls."""
+    return dict(map(str.split, read(f"{BINDINGS}/c/memory.names").splitlines()))
 
 
 def functions():
     """Returns the functions of the headers that the library defines."""
     text = "".join(read(f"{TOP}/include/{name}") for name in HEADERS)
-    return re.findall(r"^[a-z]\w* (?:\*)?(nd_\w+)\(", text, re.M)
+    return [name for name in re.findall(r"^[a-z]\w* (?:\*)?(nd_\w+)\(", text, re.M) if name not in memory_names().values()]
 
 
 def module(name, memory, *flags, of=bitcode, exported=functions):
@@ -139,6 +151,8 @@ def module(name, memory, *flags, of=bitcode, exported=functions):
     # gcc's headers that need no C library stand in for clang's, which the kit lacks.
     words = [f"--target={WASM}", "-mcpu=lime1", *flags, "-std=c11", "-O2", "-ffreestanding", "-fno-builtin", "-DND_POOL_GIVEN", "-Wall", "-Wextra", "-Werror",
              "-nostdinc", "-isystem", run("gcc", "-print-file-name=include").strip(), f"-I{TOP}/include"]
+    # The module calls the memory functions by Rattle's names.
+    words += [f"-D{named}={own}" for own, named in memory_names().items()]
     others = {f"{OUT}/{name}.module.o": f"{HERE}/module.c", f"{OUT}/{name}.pool.o": f"{BINDINGS}/c/pool.c"}
     for to, source in others.items():
         run(clang(), *words, "-c", source, "-o", to)

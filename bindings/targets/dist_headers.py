@@ -1,11 +1,10 @@
-"""dist_headers: the headers of nd.c. They are those of include/ without the refusal of 32-bit processors, and with one number more. The sentences that
-are true of the archive alone are other ones. A sentence that is not there exactly once is an error."""
+"""dist_headers: the headers of nd.c. They are those of include/, with one number more. The sentences that are true of the archive alone are other ones. A
+sentence that is not there exactly once is an error."""
 import os
 import re
 
 TOP = os.path.dirname(os.path.dirname(os.path.dirname(os.path.realpath(__file__))))
 WIDTH = 100
-REFUSAL = '#if UINTPTR_MAX != UINT64_MAX\n#error "nd_hear.h: the library is for targets with 64-bit pointers"\n#endif\n\n'
 # The line of nd.h behind which that of nd.c has one more. By this a program knows which one it is over.
 BUFFER = "#define ND_BUFFER_BYTES 1514                /* a frame of a link with an MTU of 1,500 */\n"
 ONE_MEMORY = "#define ND_ONE_MEMORY 1                     /* nd.c alone: one thread makes all calls */\n"
@@ -26,8 +25,8 @@ SENTENCES = {
          "ND_NO_MEMORY is returned only where the memory of nd.c has no room for a request."),
         ("TRUSTED: the duties above, enough stack, the three memory functions, and the toolchain.",
          "TRUSTED: the duties above, enough stack, the toolchain, and what nd.c is made by, which the README.md beside it names."),
-        ("The program defines these three functions; the library uses no other memory but the stack, and no other symbol but memcpy, memmove and memset. "
-         "bindings/c/heap.c defines them over malloc, bindings/c/pool.c over a static array.",
+        ("The program defines these three functions, so there is one heap for all nodes. The library uses no other memory but the stack, and no other "
+         "symbol but memcpy, memmove and memset. bindings/c/heap.c defines them over malloc, bindings/c/pool.c over a static array.",
          "nd.c does not call these three functions, and the program need not define them: the memory of nd.c is a static array of ND_MEMORY_BYTES bytes. "
          "An archive for one processor calls them."),
         ("Returns how many bytes ND_POOL_BYTES of bindings/c/pool.c has to be for one node with these limits,",
@@ -43,6 +42,7 @@ SENTENCES = {
          "It is called while no other call runs, as all functions of nd.c."),
         ("`role` is no `enum nd_role`; nothing is written.", "`role` is no `enum nd_role`, or `length` is above ND_FRAME_BYTES; nothing is written."),
     ],
+    "nd_text.h": [],
 }
 
 
@@ -81,8 +81,6 @@ def dist_headers():
         for old, new in sentences:
             text = reworded(header, text, old, new)
         made[header] = text
-    if made["nd_hear.h"].count(REFUSAL) != 1:
-        raise ValueError("nd_hear.h does not refuse 32-bit processors")
     if made["nd.h"].count(BUFFER) != 1:
         raise ValueError("nd.h has no line of ND_BUFFER_BYTES")
-    return {"nd.h": made["nd.h"].replace(BUFFER, BUFFER + ONE_MEMORY), "nd_hear.h": made["nd_hear.h"].replace(REFUSAL, "")}
+    return {**made, "nd.h": made["nd.h"].replace(BUFFER, BUFFER + ONE_MEMORY)}

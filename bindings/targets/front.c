@@ -94,7 +94,8 @@ static void get_fields(void *to, uint32_t at, const char *fields)
 #define OPTIONS "4m11488" LIMITS
 #define COUNTS "4444444444" LIMITS
 #define OWN_ADDRESS "a44"
-#define PATH "88am114444"
+#define PATH "88am1144"
+#define MESSAGE "aa112"
 #define ADVERTISING "44444411114"
 #define OFFER "a4441111"
 #define ROUTE "aa44"
@@ -105,7 +106,7 @@ _Static_assert(sizeof(nd_limits) == 32 && sizeof(nd_options) == 64 && sizeof(nd_
                    sizeof(nd_offer_row) == 32 && sizeof(nd_route_row) == 40 && sizeof(nd_heard) == 108 && sizeof(nd_neighbour_row) == 40 &&
                    sizeof(nd_router_row) == 32 && sizeof(nd_prefix_row) == 32 && sizeof(nd_address_row) == 40 && sizeof(nd_server_row) == 24 &&
                    sizeof(nd_name_row) == 272 && sizeof(nd_redirect_row) == 32 && sizeof(nd_parameters_row) == 24 && sizeof(nd_counts_row) == 72 &&
-                   sizeof(nd_next_hop_row) == 24 && sizeof(nd_path) == 56,
+                   sizeof(nd_next_hop_row) == 24 && sizeof(nd_path) == 48 && sizeof(nd_message) == 36,
                "structures have no padding");
 
 /* ---- calls ----------------------------------------------------------------------------------- */
@@ -156,6 +157,18 @@ uint32_t nd_version(void)
 {
     prepare();
     return MODULE(nd_version)(&module);
+}
+
+uint32_t nd_refusal_of(int32_t status)
+{
+    prepare();
+    return MODULE(nd_refusal_of)(&module, (uint32_t)status);
+}
+
+uint32_t nd_limit_of(int32_t status)
+{
+    prepare();
+    return MODULE(nd_limit_of)(&module, (uint32_t)status);
 }
 
 size_t nd_node_bytes(const nd_limits *limits)
@@ -220,10 +233,10 @@ uint64_t nd_lease_version(nd_node *node)
     return MODULE(nd_lease_version)(&module, slot);
 }
 
-int32_t nd_turn(nd_node *node, uint64_t now)
+int32_t nd_pass(nd_node *node, uint64_t now)
 {
     enter(node);
-    return leave(node, MODULE(nd_turn)(&module, slot, now));
+    return leave(node, MODULE(nd_pass)(&module, slot, now));
 }
 
 int32_t nd_receive(nd_node *node, uint64_t now, const uint8_t *frame, size_t length)
@@ -233,6 +246,16 @@ int32_t nd_receive(nd_node *node, uint64_t now, const uint8_t *frame, size_t len
     enter(node);
     put(bytes, frame, length);
     return leave(node, MODULE(nd_receive)(&module, slot, now, bytes, length));
+}
+
+int32_t nd_receive_message(nd_node *node, uint64_t now, const nd_message *message, const uint8_t *content, size_t length)
+{
+    if (length > ND_FRAME_BYTES)
+        return ND_INVALID;
+    enter(node);
+    put_fields(structure, message, MESSAGE);
+    put(bytes, content, length);
+    return leave(node, MODULE(nd_receive_message)(&module, slot, now, structure, bytes, length));
 }
 
 int32_t nd_send(nd_node *node, uint64_t now, const nd_addr *source, const nd_addr *destination, uint8_t next_header, const uint8_t *payload, size_t length)
@@ -294,24 +317,24 @@ int32_t nd_advertise(nd_node *node, uint64_t now, const nd_advertising *settings
     return leave(node, MODULE(nd_advertise)(&module, slot, now, structure));
 }
 
-int32_t nd_offer(nd_node *node, uint64_t now, const nd_offer_row *offer)
+int32_t nd_advertise_prefix(nd_node *node, uint64_t now, const nd_offer_row *offer)
 {
     enter(node);
     put_fields(structure, offer, OFFER);
-    return leave(node, MODULE(nd_offer)(&module, slot, now, structure));
+    return leave(node, MODULE(nd_advertise_prefix)(&module, slot, now, structure));
 }
 
-int32_t nd_route(nd_node *node, uint64_t now, const nd_route_row *route)
+int32_t nd_add_route(nd_node *node, uint64_t now, const nd_route_row *route)
 {
     enter(node);
     put_fields(structure, route, ROUTE);
-    return leave(node, MODULE(nd_route)(&module, slot, now, structure));
+    return leave(node, MODULE(nd_add_route)(&module, slot, now, structure));
 }
 
-int32_t nd_stop(nd_node *node, uint64_t now)
+int32_t nd_stop_advertising(nd_node *node, uint64_t now)
 {
     enter(node);
-    return leave(node, MODULE(nd_stop)(&module, slot, now));
+    return leave(node, MODULE(nd_stop_advertising)(&module, slot, now));
 }
 
 int32_t nd_poll(nd_node *node, nd_out *out, uint8_t *buffer, size_t size)
@@ -348,7 +371,7 @@ int32_t nd_resolve(nd_node *node, uint64_t now, const nd_addr *destination, nd_p
     enter(node);
     put(first, destination, sizeof *destination);
     int32_t status = leave(node, MODULE(nd_resolve)(&module, slot, now, first, structure));
-    if (status >= ND_DONE)
+    if (status >= ND_DONE || status <= ND_REFUSED(ND_REFUSAL_WRONG_ROLE, 0))
         get_fields(path, structure, PATH);
     return status;
 }
@@ -383,6 +406,27 @@ int32_t nd_neighbour_of(nd_node *node, uint64_t now, const nd_addr *address, nd_
         return status;                                                                                 \
     }
 
+/* All rows of a table. As many as a frame has room for are asked for at once, and those behind one by one. */
+#define ROWS(name, name_at, row_type, fields)                                                          \
+    int32_t name(nd_node *node, uint64_t now, row_type *rows, size_t room, size_t *count)              \
+    {                                                                                                  \
+        const size_t most = ND_FRAME_BYTES / sizeof *rows;                                             \
+        uint64_t written;                                                                              \
+        row_type more;                                                                                 \
+        enter(node);                                                                                   \
+        int32_t status = leave(node, MODULE(name)(&module, slot, now, bytes, room < most ? room : most, first)); \
+        if (status != ND_DONE && status != ND_NO_ROOM)                                                 \
+            return status;                                                                             \
+        get_fields(&written, first, "8");                                                              \
+        for (*count = 0; *count < written; ++*count)                                                   \
+            get_fields(&rows[*count], bytes + (uint32_t)(*count * sizeof *rows), fields);              \
+        if (status == ND_DONE || room <= most)                                                         \
+            return status;                                                                             \
+        while (*count < room && name_at(node, now, *count, &rows[*count]) == ND_DONE)                  \
+            ++*count;                                                                                  \
+        return *count == room && name_at(node, now, room, &more) == ND_DONE ? ND_NO_ROOM : ND_DONE;    \
+    }
+
 ROW_AT(nd_neighbour_at, nd_neighbour_row, "8am1144")
 ROW_AT(nd_router_at, nd_router_row, "8a44")
 ROW_AT(nd_prefix_at, nd_prefix_row, "8a44")
@@ -392,6 +436,15 @@ ROW_AT(nd_name_at, nd_name_row, "844t")
 ROW_AT(nd_redirect_at, nd_redirect_row, "aa")
 ROW_AT(nd_offer_at, nd_offer_row, OFFER)
 ROW_AT(nd_route_at, nd_route_row, ROUTE)
+ROWS(nd_neighbours, nd_neighbour_at, nd_neighbour_row, "8am1144")
+ROWS(nd_routers, nd_router_at, nd_router_row, "8a44")
+ROWS(nd_prefixes, nd_prefix_at, nd_prefix_row, "8a44")
+ROWS(nd_addresses, nd_address_at, nd_address_row, "88a41111")
+ROWS(nd_servers, nd_server_at, nd_server_row, "8a")
+ROWS(nd_names, nd_name_at, nd_name_row, "844t")
+ROWS(nd_redirects, nd_redirect_at, nd_redirect_row, "aa")
+ROWS(nd_offers, nd_offer_at, nd_offer_row, OFFER)
+ROWS(nd_routes, nd_route_at, nd_route_row, ROUTE)
 ROW_OF(nd_parameters_of, nd_parameters_row, "84441111")
 ROW_OF(nd_advertising_of, nd_advertising, ADVERTISING)
 ROW_OF(nd_counts_of, nd_counts_row, COUNTS)

@@ -31,7 +31,7 @@ if (nd.nd_open(slot, BigInt(at), 64n) !== 0) throw new Error('not opened');
 for (const line of readFileSync(0, 'latin1').split('\n').filter((it) => it !== '')) {
     const [now, digits = ''] = line.split(' '), received = Buffer.from(digits, 'hex').subarray(0, LONGEST);
     bytes.set(received, frame);
-    const status = received.length > 0 ? nd.nd_receive(slot, BigInt(now), BigInt(frame), BigInt(received.length)) : nd.nd_turn(slot, BigInt(now));
+    const status = received.length > 0 ? nd.nd_receive(slot, BigInt(now), BigInt(frame), BigInt(received.length)) : nd.nd_pass(slot, BigInt(now));
     if (status < 0) console.error(`host: no event at ${now}`);
     drain();
 }

@@ -11,7 +11,7 @@ STAMP = f"{TOP}/dist/STAMP"
 # The frames of the examples in C, and what these print of them.
 EXAMPLES = [f"{name}.{kind}" for name in ("host", "router", "link") for kind in ("hex", "txt")]
 # The files beside the crates.
-OTHERS = ["include/nd.h", "include/nd_hear.h", "bindings/c/pool.c", *(f"examples/{name}" for name in EXAMPLES),
+OTHERS = ["include/nd.h", "include/nd_hear.h", "include/nd_text.h", "bindings/c/memory.names", "bindings/c/pool.c", *(f"examples/{name}" for name in EXAMPLES),
           *(f"bindings/targets/{name}" for name in ("bitcode.py", "build.py", "dist.md", "dist_headers.py", "front.c", "module.c", "retarget.py", "runtime.h"))]
 
 
