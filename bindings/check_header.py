@@ -21,12 +21,12 @@ STRUCTS = {"Slot": "nd_node", "Limits": "nd_limits", "Options": "nd_options", "R
            "RouterRow": "nd_router_row", "PrefixRow": "nd_prefix_row", "AddressRow": "nd_address_row", "ServerRow": "nd_server_row",
            "NameRow": "nd_name_row", "RedirectRow": "nd_redirect_row", "ParametersRow": "nd_parameters_row", "OfferRow": "nd_offer_row",
            "RouteRow": "nd_route_row", "Advertising": "nd_advertising", "CountsRow": "nd_counts_row", "NextHopRow": "nd_next_hop_row",
-           "OwnAddress": "nd_own_address", "PathRow": "nd_path", "Heard": "nd_heard"}
+           "OwnAddress": "nd_own_address", "PathRow": "nd_path", "Message": "nd_message", "Heard": "nd_heard"}
 # What the sources have as arrays, or have not: the memory functions are the toolchain's, which the archive calls.
 OTHER_STRUCTS = {"nd_addr", "nd_mac", "nd_block"}
-ALLOCATOR = """struct nd_block rattle_alloc(size_t, size_t);
-struct nd_block rattle_realloc(void *, size_t, size_t, size_t);
-void rattle_dealloc(void *);
+ALLOCATOR = """struct nd_block nd_alloc(size_t, size_t);
+struct nd_block nd_realloc(void *, size_t, size_t, size_t);
+void nd_free(void *);
 _Static_assert(sizeof(struct nd_block) == 16 && offsetof(struct nd_block, ok) == 0 && offsetof(struct nd_block, p) == 8, "nd_block");
 _Static_assert(_Generic(((struct nd_block *)0)->ok, bool: 1, default: 0) && _Generic(((struct nd_block *)0)->p, void *: 1, default: 0), "nd_block");
 _Static_assert(sizeof(nd_addr) == 16 && sizeof(((nd_addr *)0)->bytes) == 16, "nd_addr");
@@ -41,6 +41,8 @@ ARRAYS = {("u8", 16): "nd_addr", ("u8", 6): "nd_mac"}
 ALIASES = {"nd_addr": "[u8; 16]", "nd_mac": "[u8; 6]"}
 # The parameters that the sources take as the bytes of a structure. C passes its address and its size.
 AS_BYTES = {("nd_open", "options"): "nd_options"}
+# What a header computes: it is compared by its values.
+COMPUTED = {"REFUSED"}
 # The crates with the structures, those with the functions of each header, the files with the numbers, and those whose constants they name.
 CRATES = ["nd_c_types", "nd_heard", "nd_session"]
 EXPORTS = {"nd_hear.h": "nd_hear_c", "nd.h": "nd_c"}
@@ -129,11 +131,11 @@ def parameters_of(kind, names):
     if not refers:
         return [NUMBERS[kind][0]]
     const = "" if refers[1] else "const "
-    if refers[4]:
-        return [f"{const}{names[refers[4]]} *"]
     if refers[3]:
         return [f"{const}{ARRAYS[refers[2], int(refers[3])]} *"]
-    return [f"{const}{NUMBERS[refers[2]][0]} *", "size_t"]
+    named = refers[4] or refers[2]
+    pointer = f"{const}{names[named] if named in names else NUMBERS[named][0]} *"
+    return [pointer] if refers[4] else [pointer, "size_t"]
 
 
 def functions_of(text, names, pattern=r'pub extern "C" fn (\w+)\((.*?)\)(?: -> (\w+))?'):
@@ -188,7 +190,8 @@ def names_of_numbers(text):
     names = [re.fullmatch(r"\s*ND_(\w+)(?:\s*=.*)?", value, re.S)[1] for body in re.findall(r"\benum\s+\w+\s*\{(.*?)\}", text, re.S)
              for value in body.strip().rstrip(",").split(",")]
     defined = re.findall(r"^\s*#\s*define\s+(?:ND_)?(\w+)(\(?)((?:\\\n|[^\n])*)$", text, re.M)
-    return names + [name for name, bracket, body in defined if bracket or body.strip(" \\\n") and not body.strip(" \\\n").startswith("{")]
+    return names + [name for name, bracket, body in defined
+                    if name not in COMPUTED and (bracket or body.strip(" \\\n") and not body.strip(" \\\n").startswith("{"))]
 
 
 def structs_in(text):
@@ -198,7 +201,7 @@ def structs_in(text):
 
 
 def functions_in(text):
-    return set(re.findall(r"\b(nd_\w+|rattle_\w+)\([^;{]*\);", without_comments(text)))
+    return set(re.findall(r"\b(nd_\w+)\([^;{]*\);", without_comments(text)))
 
 
 def differences(what, source_names, header_names):
@@ -216,6 +219,7 @@ class Sources:
         self.functions = {header: functions_of(source(crate), STRUCTS) for header, crate in EXPORTS.items()}
         self.numbers = numbers_of_source()
         size = constants_of(["nd_c_types/src/options.rt"], {})["SIZE"]
+        self.step = constants_of(["nd_c_types/src/refusal.rt"], {})["STEP"]
         self.program = f"""#undef ND_VERSION_MAJOR
 #undef ND_VERSION_MINOR
 #undef ND_VERSION_PATCH
@@ -237,6 +241,7 @@ int main(void) {{
         yield ALLOCATOR
         yield from struct_lines(self.structs, STRUCTS)
         yield from (line for functions in self.functions.values() for line in functions.values())
+        yield f'_Static_assert(ND_REFUSED(3, 2) == -3 * {self.step} - 2, "ND_REFUSED");'
         for name, number in self.numbers.items():
             yield f'_Static_assert(ND_{name} == {number}{"" if number < 0 else "ull"}, "ND_{name}");'
 
@@ -316,6 +321,7 @@ def check_source():
     is_same = report_if(f"nd_hear.h and nd.h are what the sources have: {what}", not faults, "\n".join(faults))
     wrong = sources.wrong_arms()
     report_if("each number that C sees stands at the value of its name", not wrong, "\n".join(wrong))
+    check_texts(sources)
     if is_same:
         check_changes(sources)
     return check_rust(sources)
@@ -328,13 +334,15 @@ def check_rust(sources):
     structs = structs_of(raw)
     names = {name: name for name in structs}
     functions = functions_of(raw, names, r"pub fn (\w+)\((.*?)\)(?: -> (\w+))?;")
-    lines = ['#include "nd.h"', *struct_lines(structs, names), *functions.values(), ""]
-    report("raw.rs against nd.h: structures and functions", run(["gcc", "-std=c11", *WARNINGS, f"-I{INCLUDE}", "-fsyntax-only", "-x", "c", "-"],
-                                                                 input="\n".join(lines)))
+    constants = {name: value_of(value, {}) for name, value in re.findall(r"^pub const (ND_\w+): \w+ = ([^;]+);", raw, re.M)}
+    equal = [f'_Static_assert({name} == {number}{"" if number < 0 else "ull"}, "{name}");' for name, number in constants.items()]
+    lines = ['#include "nd.h"', *struct_lines(structs, names), *functions.values(), *equal, ""]
+    words = ["gcc", "-std=c11", *WARNINGS, f"-I{INCLUDE}", "-fsyntax-only", "-x", "c", "-"]
+    report(f"raw.rs against nd.h: structures, functions, {len(constants)} numbers", run(words, input="\n".join(lines)))
     exported = {name for declared in sources.functions.values() for name in declared}
     alone = differences("the function", exported, list(functions))
     report_if(f"raw.rs against nd.h: {len(functions)} functions, {len(structs)} structures", not alone, "\n".join(alone))
-    text = without_comments("".join(read(f"{folder}/{name}.rs") for name in ("numbers", "output")))
+    text = without_comments("".join(read(path) for path in sorted(glob.glob(f"{folder}/*.rs")) if not path.endswith("/raw.rs")))
     found = set()
     for begin, enum in ENUMS.items():
         found |= {(f"{begin}_{upper(value)}", int(number)) for number, value in re.findall(rf"\b(\d+) => (?:{enum})::(\w+)", text)}
@@ -343,17 +351,33 @@ def check_rust(sources):
     begins = {name.split("_")[0] for name, _ in found}
     wanted = {(name, number) for name, number in sources.numbers.items() if name.split("_")[0] in begins}
     wrong = [f"ND_{name} is {number} in the {'crate' if (name, number) in found else 'headers'} alone" for name, number in sorted(found ^ wanted)]
-    report_if(f"the enumerations of the crate for Rust: {len(found)} numbers", len(begins) >= 9 and not wrong, "\n".join(wrong))
+    report_if(f"the enumerations of the crate for Rust: {len(found)} numbers", len(begins) >= 10 and not wrong, "\n".join(wrong))
+
+
+def check_texts(sources):
+    """Compares the words of nd_text.h with those of the sources. `trace` prints them too, and is compared with what `ndpctl run` prints."""
+    named = re.findall(r'case ND_(\w+): return "([^"]*)";', read(f"{INCLUDE}/nd_text.h"))
+    text = without_comments("\n".join(source(crate) for crate in ("nd_addr", "nd_out")))
+    words = {}
+    for begin, enum in ENUMS.items():
+        for value, word in re.findall(rf'\b(?:{enum})::(\w+)(?:\([^()]*\))? => (?:\{{\s*)?(?:text\.push_str\()?"([^"]+)"', text):
+            words[f"{begin}_{upper(value)}"] = word.strip()
+    own = {"OUT", "DONE", "NOTHING", "WAITING", "NO", "CLOSED", "INVALID", "PAST"}
+    wrong = [f"ND_{name}: {word!r}, not {words.get(name)!r}" for name, word in named if name.split("_")[0] not in own and words.get(name) != word]
+    begins = {name.split("_")[0] for name, _ in named}
+    wrong += [f"ND_{name} has no text" for name in sources.numbers if name.split("_")[0] in begins and name not in dict(named) | {"NO_MEMORY": 0}]
+    report_if(f"nd_text.h has the words of the sources: {len(named)}", len(named) > 50 and not wrong, "\n".join(wrong))
 
 
 def check_compilers():
-    """Compiles each header alone, and both behind the system's own, which has names that begin alike."""
+    """Compiles each header alone, and all behind the system's own and before it, which has names that begin alike."""
     for compiler, standards, language in (("gcc", ["c99", "c11"], "c"), ("g++", ["c++11", "c++17"], "c++")):
         if not has(compiler, f"the headers as {language}"):
             continue
         for standard in standards:
             words = [compiler, f"-std={standard}", *WARNINGS, f"-I{INCLUDE}", "-D_DEFAULT_SOURCE", "-fsyntax-only", "-x", language, "-"]
-            for headers in (["nd_hear.h"], ["nd.h"], ["nd.h", "nd_hear.h"], ["netinet/in.h", "netinet/icmp6.h", "nd_hear.h", "nd.h"]):
+            for headers in (["nd_hear.h"], ["nd.h"], ["nd_text.h"], ["nd.h", "nd_hear.h"], ["netinet/in.h", "netinet/icmp6.h", "nd_hear.h", "nd_text.h"],
+                            ["nd_text.h", "netinet/in.h", "netinet/icmp6.h"]):
                 text = "".join(f"#include <{header}>\n" for header in headers)
                 report(f"{' and '.join(headers)} as {standard}", run(words, input=text))
 

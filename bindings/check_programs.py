@@ -2,7 +2,6 @@
 fewer frames where that takes long."""
 import os
 import re
-import shutil
 import sys
 
 from check_hostile import check_hostile
@@ -17,7 +16,7 @@ import hostile  # noqa: E402
 import scripts  # noqa: E402
 
 # The symbols that the archive of a node takes from the program.
-NEEDED = {"memcpy", "memmove", "memset", "rattle_alloc", "rattle_realloc", "rattle_dealloc"}
+NEEDED = {"memcpy", "memmove", "memset", "nd_alloc", "nd_realloc", "nd_free"}
 HEAP = f"{BINDINGS}/c/heap.c"
 POOL = f"{BINDINGS}/c/pool.c"
 COUNTING = f"{TESTS}/heap.c"
@@ -38,7 +37,7 @@ MORE_NODES = {"hosts": 100, "links": 8, "routers": 4, "seconds": 300}
 
 
 def archive_of(crate, variable):
-    """Returns the archive of a crate: the one that the variable names, or the one that `rt lib` makes. None if there is none."""
+    """Returns the archive of a crate: the one that the variable names, or the one that is made of what `rt lib` makes. None if there is none."""
     if os.environ.get(variable):
         return os.environ[variable]
     folder = f"{TOP}/crates/{crate}"
@@ -47,6 +46,14 @@ def archive_of(crate, variable):
     if not has("rt", f"the archive of {crate}"):
         return None
     return f"{folder}/out/lib{crate}.a" if report(f"the archive of {crate} is built", run(["rt", "lib"], cwd=folder)) else None
+
+
+def renamed(room, archive):
+    """Returns a copy of the archive of a node in which the memory functions have the names of nd.h. None if there is none."""
+    if not archive or not has("objcopy", "the archive of nd_c"):
+        return None
+    words = ["objcopy", f"--redefine-syms={BINDINGS}/c/memory.names", archive, f"{room}/libnd_c.a"]
+    return words[-1] if report("the memory functions of the archive have the names of nd.h", run(words)) else None
 
 
 def check_symbols(what, archive, needed):
@@ -300,7 +307,8 @@ def check_stack(room, archive):
     if os.uname().machine != "x86_64":
         return skip("the stack of a call", "nd.h says it of x86-64")
     bytes_said = re.search(r"A call has ([\d,]+) bytes of stack\.", read(f"{INCLUDE}/nd.h"))[1].replace(",", "")
-    calls = set(re.findall(r"^\w+ (nd_\w+)\(", read(f"{INCLUDE}/nd.h") + read(f"{INCLUDE}/nd_hear.h"), re.M)) - {"nd_version"}
+    calls = set(re.findall(r"^\w+ (nd_\w+)\(", read(f"{INCLUDE}/nd.h") + read(f"{INCLUDE}/nd_hear.h"), re.M))
+    calls -= {"nd_version", "nd_refusal_of", "nd_limit_of", "nd_free"}
     more = ["-Dmain=tested_main", f"-DSTACK_BYTES={bytes_said}", "-pthread", *(f"-Wl,--wrap={call}" for call in sorted(calls))]
     few = [["0", "4000", "4861", "0"], ["1", "4000", "4861", "0"]]
     for name, runs, text in (("scarce", [[]], NAMED), ("limits", [[]], FULL), ("random", few, NAMED)):
@@ -315,6 +323,9 @@ def check_stack(room, archive):
 def check_tests(room, archive):
     check_loops(room, archive)
     check_stack(room, archive)
+    messages = build(room, "messages", [f"{TESTS}/messages.c", COUNTING, archive])
+    for number, role in ((0, "host"), (1, "router")) if messages else ():
+        print(f"  {check_runs(f'messages: {role}', [messages, str(number)], MIXED, FEW)}", end="")
     misuse = build(room, "misuse", [f"{TESTS}/misuse.c", COUNTING, archive])
     if misuse:
         print(check_runs("misuse", [misuse]), end="")
@@ -422,10 +433,9 @@ def check_make(archive):
     report("make", run([*words, f"ND_ARCHIVE={archive}"]))
 
 
-def check_rust(room, archive):
+def check_rust(room):
     if not has("cargo", "the crate for Rust"):
         return
-    shutil.copy(archive, f"{room}/libnd_c.a")
     environment = {**os.environ, "ND_LIB": room, "CARGO_TARGET_DIR": f"{room}/target"}
     words = ["--offline", "--locked", "--quiet", "--manifest-path"]
     report("the tests of the crate nd", run(["cargo", "test", *words, f"{BINDINGS}/rust/Cargo.toml"], env=environment))
@@ -440,10 +450,9 @@ def check_programs(room):
     with timed("the archive of nd_hear_c, and its example"):
         check_hear(room)
     with timed("the archive of nd_c"):
-        archive = archive_of("nd_c", "ND_ARCHIVE")
-    if not archive or not os.path.exists(archive):
+        archive = renamed(room, archive_of("nd_c", "ND_ARCHIVE"))
+    if not archive:
         return None
-    archive = os.path.abspath(archive)
     check_symbols("the archive of nd_c", archive, NEEDED)
     if has("gcc", "the programs in C"):
         with timed("the examples in C"):
@@ -454,5 +463,5 @@ def check_programs(room):
             check_bare(room, archive)
             check_make(archive)
     with timed("the crate for Rust"):
-        check_rust(room, archive)
+        check_rust(room)
     return archive

@@ -54,7 +54,7 @@ __attribute__((noreturn)) void start(void)
     options.mac.bytes[0] = 2;
     status = nd_open(&node, &options, sizeof options);
     while (status == ND_DONE && nd_next_due(&node) <= 6000) {
-        status = nd_turn(&node, nd_next_due(&node));
+        status = nd_pass(&node, nd_next_due(&node));
         while (nd_poll(&node, &out, buffer, sizeof buffer) == ND_DONE)
             say(out.kind == ND_OUT_FRAME ? "frame\n" : out.kind == ND_OUT_ASSIGNED ? "assigned\n" : "other\n");
     }

@@ -65,11 +65,11 @@ WRAP(int32_t, nd_poll, nd_node *node, nd_out *out, uint8_t *buffer, size_t size)
     return status;
 }
 
-WRAP(int32_t, nd_turn, nd_node *node, uint64_t now)
+WRAP(int32_t, nd_pass, nd_node *node, uint64_t now)
 {
-    int32_t status = __real_nd_turn(node, now);
+    int32_t status = __real_nd_pass(node, now);
     if (status == ND_PAST && is_wrong(12))
-        __real_nd_turn(node, __real_nd_next_due(node));
+        __real_nd_pass(node, __real_nd_next_due(node));
     return status;
 }
 
@@ -82,7 +82,7 @@ WRAP(int32_t, nd_receive, nd_node *node, uint64_t now, const uint8_t *frame, siz
 WRAP(int32_t, nd_send, nd_node *node, uint64_t now, const nd_addr *from, const nd_addr *to, uint8_t next, const uint8_t *payload, size_t length)
 {
     int32_t status = is_wrong(15) ? ND_NO_MEMORY : __real_nd_send(node, now, from, to, next, payload, length);
-    if (status == ND_REFUSED && is_wrong(19))
+    if (nd_refusal_of(status) != 0 && is_wrong(19))
         nd_clear(node, now, ND_CLEARABLE_PREFIXES);
     if (status == ND_NO_MEMORY && is_wrong(20))
         nd_clear(node, now, ND_CLEARABLE_NEIGHBOURS);
@@ -131,9 +131,9 @@ WRAP(uint64_t, nd_lease_version, nd_node *node)
     return is_wrong(25) ? 1 : __real_nd_lease_version(node);
 }
 
-WRAP(int32_t, nd_offer, nd_node *node, uint64_t now, const nd_offer_row *offer)
+WRAP(int32_t, nd_advertise_prefix, nd_node *node, uint64_t now, const nd_offer_row *offer)
 {
-    return is_wrong(17) ? __real_nd_turn(node, now), ND_REFUSED : __real_nd_offer(node, now, offer);
+    return is_wrong(17) ? __real_nd_pass(node, now), ND_REFUSED(ND_REFUSAL_FULL, ND_LIMIT_OFFERS) : __real_nd_advertise_prefix(node, now, offer);
 }
 
 WRAP(void, nd_close, nd_node *node)

@@ -88,7 +88,7 @@ static inline void open_busy(nd_node *node, uint32_t role)
     options.role = role;
     options.mac = role == ND_ROLE_ROUTER ? ROUTER_MAC : MAC;
     options.limits.routers = busy_routers;
-    require(nd_open(node, &options, sizeof options) == ND_DONE && nd_turn(node, 2000) == ND_DONE, "nd_open");
+    require(nd_open(node, &options, sizeof options) == ND_DONE && nd_pass(node, 2000) == ND_DONE, "nd_open");
     if (role == ND_ROLE_HOST) {
         hear_named(node, 2050, "ADVERTISEMENT_WITH_DNS");
         hear_named(node, 2100, "ADVERTISEMENT_WITH_PREFIX");
@@ -99,12 +99,12 @@ static inline void open_busy(nd_node *node, uint32_t role)
         hear_named(node, 3500, "ADVERTISEMENT_WITH_SECOND_PREFIX");
         require(nd_confirm(node, 3550, &SECOND_ROUTER) == ND_DONE, "nd_confirm");
     } else {
-        require(nd_offer(node, 2000, &offer) == ND_DONE && nd_advertise(node, 2000, &settings) == ND_DONE, "nd_advertise");
-        require(nd_route(node, 2000, &direct) == ND_DONE && nd_route(node, 2000, &far) == ND_DONE, "nd_route");
+        require(nd_advertise_prefix(node, 2000, &offer) == ND_DONE && nd_advertise(node, 2000, &settings) == ND_DONE, "nd_advertise");
+        require(nd_add_route(node, 2000, &direct) == ND_DONE && nd_add_route(node, 2000, &far) == ND_DONE, "nd_add_route");
         hear_named(node, 3000, "ROUTER_SOLICITATION");
         hear_named(node, 3300, "DATAGRAM_IN_TRANSIT");
     }
-    require(nd_turn(node, BUSY_AT) == ND_DONE, "nd_turn");
+    require(nd_pass(node, BUSY_AT) == ND_DONE, "nd_pass");
     drain(node, FIRST_HASH);
 }
 
@@ -116,7 +116,7 @@ static inline uint64_t later_of(nd_node *node)
     uint64_t hash = FIRST_HASH, now = nd_last_moment(node);
     for (size_t i = 0; i < sizeof STEPS / sizeof *STEPS; i++) {
         now += STEPS[i];
-        require(nd_turn(node, now) == ND_DONE, "nd_turn");
+        require(nd_pass(node, now) == ND_DONE, "nd_pass");
         hash = drain(node, hash);
     }
     return hash ^ tables_of(node, now);

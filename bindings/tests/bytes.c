@@ -32,7 +32,7 @@ static struct held opened(nd_node *node, uint32_t role, const nd_limits *limits)
     options.limits = *limits;
     require(nd_open(node, &options, sizeof options) == ND_DONE, "nd_open");
     held.opened = held.most = heap_now;
-    require(nd_turn(node, OPENED_AT) == ND_DONE, "nd_turn");
+    require(nd_pass(node, OPENED_AT) == ND_DONE, "nd_pass");
     hold(node, &held.most);
     return held;
 }
@@ -54,11 +54,11 @@ static void call_for_rows(nd_node *node, size_t *most)
         const nd_offer_row offer = {.prefix = prefix, .bits = 64, .valid_lifetime = 9, .preferred_lifetime = 9};
         const nd_route_row route = {.prefix = i == 0 ? none : prefix, .bits = i == 0 ? 0 : 64, .hop = ND_HOP_VIA, .router = router};
         const nd_own_address own = {{{0x20, 1, 0xd, 0xb8, 0xff, 0xff, [15] = (uint8_t)i}}, ND_LIFETIME_INFINITE, ND_LIFETIME_INFINITE};
-        require(nd_offer(node, OPENED_AT, &offer) >= 0 && nd_route(node, OPENED_AT, &route) >= 0, "nd_offer and nd_route");
-        require(nd_add_address(node, OPENED_AT, &own) >= 0, "nd_add_address");
+        require(is_taken(nd_advertise_prefix(node, OPENED_AT, &offer)) && is_taken(nd_add_route(node, OPENED_AT, &route)), "what a router is given");
+        require(is_taken(nd_add_address(node, OPENED_AT, &own)), "nd_add_address");
         hold(node, most);
     }
-    require(nd_advertise(node, OPENED_AT, &settings) == ND_DONE && nd_turn(node, OPENED_AT) == ND_DONE, "nd_advertise");
+    require(nd_advertise(node, OPENED_AT, &settings) == ND_DONE && nd_pass(node, OPENED_AT) == ND_DONE, "nd_advertise");
     hold(node, most);
 }
 
@@ -80,7 +80,7 @@ static void fill(nd_node *node, uint32_t role, const nd_limits *limits, struct h
     if (role == ND_ROLE_ROUTER)
         call_for_rows(node, &held->most);
     for (size_t i = 0; i < frame_count; i++) {
-        require(nd_receive(node, ++now, frames[i].bytes, frames[i].length) >= 0, "nd_receive");
+        require(is_taken(nd_receive(node, ++now, frames[i].bytes, frames[i].length)), "nd_receive");
         hold(node, &held->most);
     }
     send_to_many(node, ++now, &held->most);

@@ -74,11 +74,11 @@ static size_t pass(nd_node *node, uint64_t now)
 {
     size_t calls = 0;
     int32_t status;
-    while ((status = nd_turn(node, now)) == ND_NO_MEMORY) {
+    while ((status = nd_pass(node, now)) == ND_NO_MEMORY) {
         taken(node, 0);
         require(++calls < MOST_CALLS, "a call with an empty queue does something that is due");
     }
-    require(status == ND_DONE, "nd_turn");
+    require(status == ND_DONE, "nd_pass");
     taken(node, 0);
     return calls;
 }
@@ -95,7 +95,7 @@ static bool open_in(nd_node *node, size_t bytes, uint32_t role)
     if (nd_open(node, &options, sizeof options) != ND_DONE)
         return false;
     if (role == ND_ROLE_ROUTER) {
-        require(nd_route(node, 0, &route) == ND_DONE, "nd_route");
+        require(nd_add_route(node, 0, &route) == ND_DONE, "nd_add_route");
         require(nd_advertise(node, 0, &settings) == ND_DONE, "nd_advertise");
     }
     pass(node, AT);

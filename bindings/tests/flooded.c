@@ -64,7 +64,7 @@ static void solicit(uint8_t kind, size_t number)
 {
     nd_mac mac;
     nd_addr source = station(kind, number, &mac);
-    require(nd_receive(&node, now, bytes, message(SOLICITATION, 0, &source, &LINK_LOCAL, &LINK_LOCAL, &mac)) >= 0, "a solicitation is received");
+    require(is_taken(nd_receive(&node, now, bytes, message(SOLICITATION, 0, &source, &LINK_LOCAL, &LINK_LOCAL, &mac))), "a solicitation is received");
 }
 
 /* The station of a target answers the node (RFC 4861, 7.2.4). */
@@ -104,7 +104,7 @@ static void open_node(uint32_t role, uint16_t neighbours, uint32_t policies)
     require(nd_open(&node, &options, sizeof options) == ND_DONE, "a node is opened");
     now = OPENED_AT;
     packets = advertisements = losses = 0;
-    require(nd_turn(&node, now) == ND_DONE, "its address is assigned");
+    require(nd_pass(&node, now) == ND_DONE, "its address is assigned");
     take(0);
 }
 
@@ -112,7 +112,7 @@ static void send_to(size_t number)
 {
     nd_mac mac;
     nd_addr to = station(1, number, &mac);
-    require(nd_send(&node, now, &LINK_LOCAL, &to, UDP, mac.bytes, sizeof mac.bytes) >= 0, "a packet is sent");
+    require(is_taken(nd_send(&node, now, &LINK_LOCAL, &to, UDP, mac.bytes, sizeof mac.bytes)), "a packet is sent");
     take(1);
 }
 
@@ -134,7 +134,7 @@ static void busy(uint16_t neighbours, uint32_t policies)
     }
     double time = time_of_each(others);
     now += 10 * 1000;
-    require(nd_turn(&node, now) == ND_DONE, "time passes");
+    require(nd_pass(&node, now) == ND_DONE, "time passes");
     take(1);
     printf("busy: %u neighbours, policies %u: of %zu packets %zu arrived, %zu were lost, ", neighbours, policies, sent, packets, losses);
     printf("%zu refused\n", sent - packets - losses);
@@ -151,7 +151,7 @@ static void scan(uint16_t neighbours, uint32_t policies)
     size_t sent = 0, asked = 0;
     nd_addr nobody = PREFIX;
     open_node(ND_ROLE_ROUTER, neighbours, policies);
-    require(nd_route(&node, now, &on_link) == ND_DONE, "the router has a route");
+    require(nd_add_route(&node, now, &on_link) == ND_DONE, "the router has a route");
     start_clock();
     for (uint64_t end = now + SECONDS * 1000; now < end; now++) {
         put16(nobody.bytes + 14, sent & 0xffff);
@@ -159,7 +159,7 @@ static void scan(uint16_t neighbours, uint32_t policies)
         memset(bytes + HEADERS, 0, 8);
         size_t length = framed(FAR.bytes, nobody.bytes, UDP, 8);
         memcpy(bytes, MAC.bytes, sizeof MAC.bytes);
-        require(nd_receive(&node, now, bytes, length) >= 0, "a packet is received");
+        require(is_taken(nd_receive(&node, now, bytes, length)), "a packet is received");
         take(3);
         if (now < OPENED_AT + HOSTS_FROM || now % 1000 >= HOSTS)
             continue;

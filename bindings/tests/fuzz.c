@@ -11,7 +11,7 @@
 enum { LONGEST_INPUT = 1024, STATUSES = 8, KINDS = 15 };
 
 /* The calls by the value of a byte, the frequent ones more often. */
-static const enum call OFTEN[] = {TURN,  TURN,        RECEIVE,        RECEIVE,  RECEIVE,   RECEIVE, RECEIVE, RECEIVE, SEND, SEND, CONFIRM, CONFIRM_TO, FORGET,
+static const enum call OFTEN[] = {PASS,  PASS,        RECEIVE,        RECEIVE,  RECEIVE,   RECEIVE, RECEIVE, RECEIVE, SEND, SEND, CONFIRM, CONFIRM_TO, FORGET,
                                   CLEAR, ADD_ADDRESS, REMOVE_ADDRESS, NEXT_HOP, RESOLVE,   RESOLVE, ADVERTISE, OFFER, ROUTE, STOP};
 
 static size_t done[CALLS][STATUSES], kinds[KINDS], inputs;
@@ -41,14 +41,14 @@ static int32_t resolve(uint64_t at)
     memset(&path, 0xff, sizeof path);
     int32_t status = nd_resolve(&node, at, &with.one, &path);
     if (status < 0) {
-        require(path.reserved == 0xff && path.until == UINT64_MAX && path.limit == UINT32_MAX, "an error writes no path");
+        require(nd_refusal_of(status) != 0 || (path.reserved == 0xff && path.until == UINT64_MAX), "an error writes no path");
+        require(nd_refusal_of(status) == 0 || (path.hop == 0 && path.has_mac == 0 && path.until == at && path.version == 0), "a refusal writes none");
         return status;
     }
     bool has_hop = status == ND_DONE || status == ND_WAITING;
     require(path.reserved == 0 && (path.has_mac == 1) == (status == ND_DONE), "a path has the link-layer address where it is known");
     require(path.has_mac == 1 || memcmp(&path.mac, &none, sizeof none) == 0, "and zeros where not");
-    require((path.hop != 0) == has_hop && (path.refusal != 0) == (status == ND_REFUSED), "a next hop, or the reason of a refusal");
-    require((path.limit != 0) == (path.refusal == ND_REFUSAL_FULL), "a limit where it is full");
+    require((path.hop != 0) == has_hop, "a next hop where the status says so");
     require(path.version == (status == ND_DONE ? nd_lease_version(&node) : 0), "a lease has the version of the node");
     require(path.until >= at && (status == ND_DONE || path.until == at), "a lease where the link-layer address is known");
     require(path.until == at || path.until <= nd_next_due(&node), "a lease ends where something is due");
@@ -59,7 +59,7 @@ static int32_t act(enum call call, uint64_t at)
 {
     nd_next_hop_row hop;
     switch (call) {
-    case TURN: return nd_turn(&node, at);
+    case PASS: return nd_pass(&node, at);
     case RECEIVE: return nd_receive(&node, at, with.bytes, with.length);
     case SEND: return nd_send(&node, at, &with.one, &with.other, 17, with.bytes, with.length);
     case CONFIRM: return nd_confirm(&node, at, &with.one);
@@ -71,20 +71,30 @@ static int32_t act(enum call call, uint64_t at)
     case NEXT_HOP: return nd_next_hop(&node, at, &with.one, &hop);
     case RESOLVE: return resolve(at);
     case ADVERTISE: return nd_advertise(&node, at, &with.settings);
-    case OFFER: return nd_offer(&node, at, &with.offer);
-    case ROUTE: return nd_route(&node, at, &with.route);
-    case STOP: return nd_stop(&node, at);
+    case OFFER: return nd_advertise_prefix(&node, at, &with.offer);
+    case ROUTE: return nd_add_route(&node, at, &with.route);
+    case STOP: return nd_stop_advertising(&node, at);
     default: return nd_open(&node, &options, sizeof options);
     }
+}
+
+/* Returns true if a status is that of a refusal that nd.h has, and names a limit where a table is full and only there. */
+static bool is_refusal(int32_t status)
+{
+    uint32_t refusal = nd_refusal_of(status), limit = nd_limit_of(status);
+    bool is_one = (refusal >= ND_REFUSAL_WRONG_ROLE && refusal <= ND_REFUSAL_FULL) || refusal == ND_REFUSAL_TENTATIVE;
+    return is_one && status == ND_REFUSED((int32_t)refusal, (int32_t)limit) && limit <= ND_LIMIT_STATIC_ROUTES &&
+           (limit != 0) == (refusal == ND_REFUSAL_FULL);
 }
 
 /* Returns true if nd.h allows a status for a call at an open node whose arguments are good. */
 static bool is_allowed(enum call call, int32_t status)
 {
     if (call >= ADVERTISE && call <= STOP && options.role == ND_ROLE_HOST)
-        return status == ND_REFUSED;
+        return status == ND_REFUSED(ND_REFUSAL_WRONG_ROLE, 0);
     bool may_be_refused = call == RECEIVE || call == SEND || call == ADD_ADDRESS || call == RESOLVE || call == OFFER || call == ROUTE;
-    return status == ND_DONE || (status == ND_REFUSED && may_be_refused) || (status == ND_NOTHING && (call == NEXT_HOP || call == RESOLVE || call == CONFIRM_TO)) ||
+    bool may_find_nothing = call == SEND || call == NEXT_HOP || call == RESOLVE || call == CONFIRM_TO;
+    return status == ND_DONE || (is_refusal(status) && may_be_refused) || (status == ND_NOTHING && may_find_nothing) ||
            (status == ND_WAITING && call == RESOLVE);
 }
 
@@ -221,14 +231,14 @@ static int32_t call_well(enum call call, uint64_t at)
 {
     uint64_t before = nd_lease_version(&node);
     bool is_due = nd_next_due(&node) <= at, is_sign = call == CONFIRM || call == CONFIRM_TO;
-    bool is_event = call != TURN && call != NEXT_HOP && call != RESOLVE && call != OPEN && !is_sign;
+    bool is_event = call != PASS && call != NEXT_HOP && call != RESOLVE && call != OPEN && !is_sign;
     uint64_t shown = call == CONFIRM_TO && !is_due ? rows_at(&node, at) : 0;
     int32_t status = call_twice(call, at, 0);
     bool grows = nd_lease_version(&node) > before;
     require(nd_lease_version(&node) >= before, "the version of leases never falls");
     require(grows || status != ND_DONE || !is_event || call == RECEIVE, "an event raises the version of leases");
     require(call != CONFIRM_TO || status != ND_NOTHING || is_due || (!grows && rows_at(&node, at) == shown), "a sign without effect keeps it, and changes no table");
-    require((call != TURN && call != NEXT_HOP) || !grows || is_due, "nd_turn and nd_next_hop keep it where nothing is due");
+    require((call != PASS && call != NEXT_HOP) || !grows || is_due, "nd_pass and nd_next_hop keep it where nothing is due");
     return status;
 }
 
@@ -260,14 +270,14 @@ static void step(void)
         call_wrongly(call, at, error);
         return;
     }
-    settled = call != OPEN && once_in(4) && nd_turn(&node, at) == ND_DONE ? tables_of(&node, at) : 0;
+    settled = call != OPEN && once_in(4) && nd_pass(&node, at) == ND_DONE ? tables_of(&node, at) : 0;
     status = call_well(call, at);
-    require(status != ND_REFUSED || settled == 0 || tables_of(&node, at) == settled, "an event that is refused changes nothing");
+    require(nd_refusal_of(status) == 0 || settled == 0 || tables_of(&node, at) == settled, "an event that is refused changes nothing");
     settled = 0;
     require(call == OPEN ? status == ND_DONE : is_allowed(call, status), "a status is one that nd.h allows");
     require(call == NEXT_HOP ? nd_last_moment(&node) <= at : nd_last_moment(&node) == at, "time has passed up to the call");
-    require((call != TURN && call != NEXT_HOP) || nd_next_due(&node) > at, "after nd_turn and nd_next_hop nothing is due");
-    if (status == ND_REFUSED && call != RESOLVE)
+    require((call != PASS && call != NEXT_HOP) || nd_next_due(&node) > at, "after nd_pass and nd_next_hop nothing is due");
+    if (nd_refusal_of(status) != 0 && call != RESOLVE)
         require(take_records() == ND_OUT_REFUSED, "the newest record says why an event is refused");
     else if (once_in(3))
         take_records();
@@ -287,7 +297,7 @@ int LLVMFuzzerTestOneInput(const uint8_t *bytes, size_t length)
 }
 
 #ifndef FUZZER
-static const char *const NAMES[CALLS] = {"turn",     "receive",   "send",  "confirm", "confirm_to", "forget", "clear", "add_address", "remove_address",
+static const char *const NAMES[CALLS] = {"pass",     "receive",   "send",  "confirm", "confirm_to", "forget", "clear", "add_address", "remove_address",
                                          "next_hop", "resolve",   "advertise", "offer", "route",   "stop",   "open",  "close"};
 static uint64_t seed;
 

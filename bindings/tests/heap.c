@@ -49,7 +49,7 @@ static struct head *head_of(void *p)
     return head;
 }
 
-struct nd_block rattle_alloc(size_t size, size_t align)
+struct nd_block nd_alloc(size_t size, size_t align)
 {
     struct head *head;
     if (is_refused(align))
@@ -64,7 +64,7 @@ struct nd_block rattle_alloc(size_t size, size_t align)
     return (struct nd_block){true, head + 1};
 }
 
-void rattle_dealloc(void *p)
+void nd_free(void *p)
 {
     struct head *head = head_of(p);
     heap_blocks--;
@@ -74,7 +74,7 @@ void rattle_dealloc(void *p)
     free(head);
 }
 
-struct nd_block rattle_realloc(void *p, size_t kept, size_t size, size_t align)
+struct nd_block nd_realloc(void *p, size_t kept, size_t size, size_t align)
 {
     struct nd_block moved;
     size_t refuse;
@@ -83,10 +83,10 @@ struct nd_block rattle_realloc(void *p, size_t kept, size_t size, size_t align)
         return refused();
     refuse = heap_refuse; /* one request, not two */
     heap_refuse = 0;
-    moved = rattle_alloc(size, align);
+    moved = nd_alloc(size, align);
     heap_refuse = refuse;
     heap_requests--;
     memcpy(moved.p, p, kept);
-    rattle_dealloc(p);
+    nd_free(p);
     return moved;
 }

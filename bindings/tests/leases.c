@@ -5,7 +5,7 @@
  * no lease of its own holds: else its time passes, or it gets no call. After each step both have returned and reported the same, and show the same;
  * and so they do later. A path that is asked for in its lease goes the same way, and ends no earlier. A tenth of the steps, or more, is in a lease. In
  * every second run memory is refused to the first node now and then, and its call is made again; a question in a lease needs none.
- *   The version of leases grows with each event but a confirmation. Where nothing is due it stays with nd_turn and nd_next_hop, with all else that changes
+ *   The version of leases grows with each event but a confirmation. Where nothing is due it stays with nd_pass and nd_next_hop, with all else that changes
  * no more than the moment, and with a confirmation, unless that makes a lease shorter; some calls that do what is due leave it too. It never falls.
  * nd_confirm_to does what nd_next_hop, nd_neighbour_of, nd_parameters_of and nd_confirm do. The lines are the counts of each run. */
 #include "heap.h"
@@ -41,7 +41,7 @@ static bool is_scarce;
 static size_t again;
 
 /* Of the questions or packets of a run: the statuses, and how many were in a lease, and how many of those after one for another destination. */
-static size_t statuses[STATUSES], in_lease, in_others;
+static size_t statuses[STATUSES], refused, in_lease, in_others;
 
 /* Of the signs that packets arrive: how many had no effect, and how many confirmed a neighbour. Of all confirmations: how many kept the version. How
  * many other calls, of all runs, kept it that did what was due. */
@@ -114,7 +114,7 @@ static void refuse_some(const nd_node *node)
         require(!heap_is_spent, "a question in a lease needs no memory"), again++; \
     heap_refuse = 0
 
-enum call { RECEIVE, SEND, CONFIRM, CONFIRM_TO, FORGET, CLEAR, ADD_ADDRESS, REMOVE_ADDRESS, ROUTE, TURN, NEXT_HOP };
+enum call { RECEIVE, SEND, CONFIRM, CONFIRM_TO, FORGET, CLEAR, ADD_ADDRESS, REMOVE_ADDRESS, ROUTE, PASS, NEXT_HOP };
 
 /* A call, and what it is passed. */
 struct act {
@@ -142,7 +142,7 @@ static const struct frame *a_frame(void)
 
 static struct act an_act(void)
 {
-    static const enum call OFTEN[] = {RECEIVE, RECEIVE, RECEIVE, RECEIVE, RECEIVE, RECEIVE, SEND, SEND, CONFIRM, CONFIRM_TO, CONFIRM_TO, TURN, NEXT_HOP,
+    static const enum call OFTEN[] = {RECEIVE, RECEIVE, RECEIVE, RECEIVE, RECEIVE, RECEIVE, SEND, SEND, CONFIRM, CONFIRM_TO, CONFIRM_TO, PASS, NEXT_HOP,
                                       NEXT_HOP};
     static const enum call SELDOM[] = {FORGET, FORGET, CLEAR, ADD_ADDRESS, REMOVE_ADDRESS, ROUTE};
     struct act act = {.frame = a_frame(), .address = destinations[a_destination()], .number = (uint32_t)below(5)};
@@ -167,8 +167,8 @@ static int32_t done(nd_node *node, const struct act *act)
     case CLEAR: return nd_clear(node, now, 1 + act->number);
     case ADD_ADDRESS: return nd_add_address(node, now, &own);
     case REMOVE_ADDRESS: return nd_remove_address(node, now, &own.address);
-    case ROUTE: return nd_route(node, now, &route);
-    case TURN: return nd_turn(node, now);
+    case ROUTE: return nd_add_route(node, now, &route);
+    case PASS: return nd_pass(node, now);
     default: return nd_next_hop(node, now, &act->address, &hop);
     }
 }
@@ -203,8 +203,8 @@ static int32_t with_version(nd_node *node, const struct act *act)
     bool is_refused = again > made;
     after = nd_lease_version(node);
     require(after >= before, "the version never falls");
-    if (act->call == TURN || act->call == NEXT_HOP || (act->call == CONFIRM_TO && status == ND_NOTHING))
-        require(after == before || due <= now, "nd_turn, nd_next_hop and a sign without effect keep the version where nothing is due"),
+    if (act->call == PASS || act->call == NEXT_HOP || (act->call == CONFIRM_TO && status == ND_NOTHING))
+        require(after == before || due <= now, "nd_pass, nd_next_hop and a sign without effect keep the version where nothing is due"),
             kept_when_due += due <= now && after == before;
     else if (act->call == CONFIRM || act->call == CONFIRM_TO)
         require(after == before || due <= now || !leaves || is_refused, "a confirmation keeps the version where nothing is due and no lease is shorter"),
@@ -212,7 +212,7 @@ static int32_t with_version(nd_node *node, const struct act *act)
     else if (act->call == RECEIVE && !is_message(act->frame))
         require(due <= now || after == before || is_refused, "a frame that is dropped, and a packet for the node, keep the version");
     else
-        require(after > before || status == ND_REFUSED || act->call == RECEIVE, "an event raises the version");
+        require(after > before || nd_refusal_of(status) != 0 || act->call == RECEIVE, "an event raises the version");
     return status;
 }
 
@@ -223,7 +223,7 @@ static int32_t confirmed_in_parts(nd_node *node, const struct act *act)
     nd_neighbour_row row;
     nd_parameters_row parameters;
     int32_t found = nd_next_hop(node, now, &act->address, &hop);
-    require(nd_turn(node, now) == ND_DONE && nd_parameters_of(node, now, &parameters) == ND_DONE, "nd_turn and nd_parameters_of");
+    require(nd_pass(node, now) == ND_DONE && nd_parameters_of(node, now, &parameters) == ND_DONE, "nd_pass and nd_parameters_of");
     if (found == ND_NOTHING || act->address.bytes[0] == 0xff || nd_neighbour_of(node, now, &hop.address, &row) != ND_DONE || row.has_mac == 0)
         return ND_NOTHING;
     uint64_t spent = parameters.reachable_time > row.reachable_left ? parameters.reachable_time - row.reachable_left : 0;
@@ -237,7 +237,7 @@ static void act_at_both(void)
     struct act act = an_act();
     int32_t status = with_version(&one, &act);
     bool is_sign = act.call == CONFIRM_TO;
-    require(status >= 0, "a call takes place");
+    require(is_taken(status), "a call takes place");
     require((is_sign ? confirmed_in_parts(&other, &act) : with_version(&other, &act)) == status, "both nodes return the same status");
     signs += is_sign && status == ND_NOTHING, confirmations += is_sign && status == ND_DONE;
     last_question = SIZE_MAX;
@@ -270,14 +270,14 @@ static int32_t path_of(nd_node *node, size_t to, nd_path *path)
     uint64_t before = nd_lease_version(node);
     int32_t status;
     RETRIED(status, node, nd_resolve(node, now, &destinations[to], path));
-    require(status >= 0 && nd_lease_version(node) >= before, "a question does not lower the version");
+    require(is_taken(status) && nd_lease_version(node) >= before, "a question does not lower the version");
     require(path->version == (status == ND_DONE ? nd_lease_version(node) : 0), "a lease has the version of the node");
     return status;
 }
 
 static void count(int32_t status, bool is_in_lease, size_t to)
 {
-    statuses[status]++;
+    status < 0 ? refused++ : statuses[status]++;
     in_lease += is_in_lease;
     in_others += is_in_lease && to != last_question;
     last_question = to;
@@ -300,14 +300,14 @@ static void ask_both(size_t to)
     count(status, is_in_lease, to);
 }
 
-/* Sends a packet from both nodes. The first one is asked, the second one if it gave no lease that holds: in a lease it gets no call, or nd_turn. */
+/* Sends a packet from both nodes. The first one is asked, the second one if it gave no lease that holds: in a lease it gets no call, or nd_pass. */
 static void send_both(size_t to)
 {
     bool is_in_lease = holds(&answers[to], &other);
     nd_path path;
     int32_t status = path_of(&one, to, &path);
     if (is_in_lease) {
-        require(nd_next_due(&other) > now && (once_in(2) || nd_turn(&other, now) == ND_DONE), "nothing is due in a lease");
+        require(nd_next_due(&other) > now && (once_in(2) || nd_pass(&other, now) == ND_DONE), "nothing is due in a lease");
         require(status == ND_DONE && is_kept(&answers[to], &path), "packets go in a lease as by a question");
     } else
         require(path_of(&other, to, &answers[to]) == status && are_same(path, answers[to]), "both nodes answer the same");
@@ -326,9 +326,9 @@ static void open_node(nd_node *node, const struct setting *setting)
     options.draws = ND_DRAWS_SEED;
     options.limits.destinations = setting->destinations;
     options.limits.neighbours = setting->neighbours;
-    require(nd_open(node, &options, sizeof options) == ND_DONE && nd_turn(node, OPENED_AT) == ND_DONE, "nd_open");
+    require(nd_open(node, &options, sizeof options) == ND_DONE && nd_pass(node, OPENED_AT) == ND_DONE, "nd_open");
     if (role == ND_ROLE_ROUTER) {
-        require(nd_route(node, OPENED_AT, &direct) == ND_DONE && nd_route(node, OPENED_AT, &far) == ND_DONE, "nd_route");
+        require(nd_add_route(node, OPENED_AT, &direct) == ND_DONE && nd_add_route(node, OPENED_AT, &far) == ND_DONE, "nd_add_route");
         require(nd_advertise(node, OPENED_AT, &settings) == ND_DONE, "nd_advertise");
     }
 }
@@ -354,6 +354,7 @@ static void run(const char *what, const struct setting *setting, size_t steps, v
     last_question = SIZE_MAX;
     memset(answers, 0, sizeof answers);
     memset(statuses, 0, sizeof statuses);
+    refused = 0;
     require_same(shown);
     for (size_t i = 0; i < steps; i++) {
         bool is_quiet = i / PHASE % 2 == 0;
@@ -361,14 +362,14 @@ static void run(const char *what, const struct setting *setting, size_t steps, v
         once_in(is_quiet ? 40 : 4) ? act_at_both() : question(a_destination());
         require_same(shown);
     }
-    require(nd_turn(&one, now) == ND_DONE && nd_turn(&other, now) == ND_DONE, "nd_turn");
+    require(nd_pass(&one, now) == ND_DONE && nd_pass(&other, now) == ND_DONE, "nd_pass");
     require_same(tables_of);
     require(later_of(&one) == later_of(&other), "both nodes report and show the same later");
     nd_close(&one);
     nd_close(&other);
     printf("  %s, %u of %zu destinations remembered: in a lease %zu, %zu of them after another destination; done %zu, waiting %zu, nothing %zu, "
            "refused %zu; confirmed %zu, not %zu, leases kept %zu; made again %zu\n", what, setting->destinations, asked, in_lease, in_others, statuses[ND_DONE], statuses[ND_WAITING],
-           statuses[ND_NOTHING], statuses[ND_REFUSED], confirmations, signs, kept, again);
+           statuses[ND_NOTHING], refused, confirmations, signs, kept, again);
     require(in_lease >= steps / 10 && in_others >= steps / 100, "many questions or packets are in a lease, many of them after another destination");
     require(signs > 0 && confirmations > 0 && kept > 0, "some signs confirm a neighbour, some don't, and some confirmations keep leases");
     require(!is_scarce || again > 0, "memory is refused");
@@ -392,7 +393,7 @@ static void refuse_moment(uint64_t at, int32_t error, uint64_t version)
     nd_next_hop_row hop;
     nd_neighbour_row row;
     nd_path path;
-    KEEPS(nd_turn(&one, at), error);
+    KEEPS(nd_pass(&one, at), error);
     KEEPS(nd_receive(&one, at, frame->bytes, frame->length), error);
     KEEPS(nd_send(&one, at, &LINK_LOCAL, &destinations[0], 17, PAYLOAD, sizeof PAYLOAD), error);
     KEEPS(nd_confirm(&one, at, &destinations[0]), error);
@@ -404,9 +405,9 @@ static void refuse_moment(uint64_t at, int32_t error, uint64_t version)
     KEEPS(nd_next_hop(&one, at, &destinations[0], &hop), error);
     KEEPS(nd_resolve(&one, at, &destinations[0], &path), error);
     KEEPS(nd_advertise(&one, at, &settings), error);
-    KEEPS(nd_offer(&one, at, &offer), error);
-    KEEPS(nd_route(&one, at, &route), error);
-    KEEPS(nd_stop(&one, at), error);
+    KEEPS(nd_advertise_prefix(&one, at, &offer), error);
+    KEEPS(nd_add_route(&one, at, &route), error);
+    KEEPS(nd_stop_advertising(&one, at), error);
     KEEPS(nd_neighbour_of(&one, at, &destinations[0], &row), error);
 }
 
@@ -437,9 +438,9 @@ static void keep_version(const nd_path *lease)
     KEEPS(nd_poll(&one, &out, buffer, sizeof buffer), ND_NOTHING);
     tables_of(&one, last);
     KEEPS(nd_neighbour_of(&one, later, &destinations[0], &row), ND_DONE);
-    KEEPS(nd_turn(&one, last), ND_DONE);
+    KEEPS(nd_pass(&one, last), ND_DONE);
     KEEPS(nd_resolve(&one, last, &destinations[0], &path) == ND_DONE && memcmp(&path, lease, sizeof path) == 0, true);
-    KEEPS(nd_turn(&one, last + 1), ND_DONE);
+    KEEPS(nd_pass(&one, last + 1), ND_DONE);
     KEEPS(nd_next_hop(&one, last + 2, &destinations[0], &hop), ND_DONE);
     KEEPS(nd_confirm_to(&one, last + 2, &destinations[0], 3), ND_NOTHING);
     KEEPS(nd_confirm_to(&one, last + 2, &NO_NEIGHBOUR, 0), ND_NOTHING);
@@ -456,8 +457,8 @@ static void keep_version(const nd_path *lease)
     KEEPS(nd_clear(&one, later, 0), ND_INVALID);
     KEEPS(nd_add_address(&one, later, &(nd_own_address){{{0xff}}, 1, 1}), ND_INVALID);
     KEEPS(nd_advertise(&one, later, &(nd_advertising){0}), ND_INVALID);
-    KEEPS(nd_offer(&one, later, &(nd_offer_row){.bits = 129}), ND_INVALID);
-    KEEPS(nd_route(&one, later, &(nd_route_row){.bits = 129}), ND_INVALID);
+    KEEPS(nd_advertise_prefix(&one, later, &(nd_offer_row){.bits = 129}), ND_INVALID);
+    KEEPS(nd_add_route(&one, later, &(nd_route_row){.bits = 129}), ND_INVALID);
     KEEPS(nd_resolve(&one, later, &destinations[0], &path) == ND_DONE && is_kept(lease, &path), true);
 }
 
@@ -476,7 +477,7 @@ static void try_versions(void)
     keep_version(&path);
     version = path.version;
     now = nd_next_due(&one);
-    RAISES(nd_turn(&one, now), ND_DONE);
+    RAISES(nd_pass(&one, now), ND_DONE);
     RAISES(nd_send(&one, now, &LINK_LOCAL, &destinations[0], 17, PAYLOAD, sizeof PAYLOAD), ND_DONE);
     KEEPS(nd_confirm_to(&one, now, &destinations[0], 1), ND_DONE);
     RAISES(nd_forget(&one, now, &destinations[0]), ND_DONE);

@@ -78,9 +78,9 @@ static void call_for_rows(nd_node *node, uint64_t now, const nd_limits *asked)
         const nd_offer_row offer = {.prefix = {{0x20, 1, 0xd, 0xb8, 1, (uint8_t)i}}, .bits = 64, .valid_lifetime = 9, .preferred_lifetime = 9};
         const nd_route_row route = {.prefix = offer.prefix, .bits = 64, .hop = ND_HOP_DIRECT};
         const nd_own_address own = {{{0x20, 1, 0xd, 0xb8, 0xff, 0xff, [15] = (uint8_t)i}}, ND_LIFETIME_INFINITE, ND_LIFETIME_INFINITE};
-        require(i > 16 || nd_offer(node, now, &offer) >= 0, "nd_offer");
-        require(nd_route(node, now, &route) >= 0, "nd_route");
-        require(nd_add_address(node, now, &own) >= 0, "nd_add_address");
+        require(i > 16 || is_taken(nd_advertise_prefix(node, now, &offer)), "nd_advertise_prefix");
+        require(is_taken(nd_add_route(node, now, &route)), "nd_add_route");
+        require(is_taken(nd_add_address(node, now, &own)), "nd_add_address");
         drain(node, FIRST_HASH);
         counts_within(node, now, asked);
     }
@@ -105,13 +105,13 @@ static void fill(uint32_t role, const nd_limits *asked)
     uint64_t now = OPENED_AT;
     options.role = role;
     options.limits = *asked;
-    require(nd_open(&node, &options, sizeof options) == ND_DONE && nd_turn(&node, now) == ND_DONE, "nd_open");
+    require(nd_open(&node, &options, sizeof options) == ND_DONE && nd_pass(&node, now) == ND_DONE, "nd_open");
     drain(&node, FIRST_HASH);
     fill_waiting(&node, role, limit_of(asked, RANGES - 1));
     if (role == ND_ROLE_ROUTER)
         call_for_rows(&node, now, asked);
     for (size_t i = 0; i < frame_count; i++) {
-        require(nd_receive(&node, ++now, frames[i].bytes, frames[i].length) >= 0, "nd_receive");
+        require(is_taken(nd_receive(&node, ++now, frames[i].bytes, frames[i].length)), "nd_receive");
         drain(&node, FIRST_HASH);
         counts_within(&node, now, asked);
     }

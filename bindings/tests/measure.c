@@ -166,7 +166,7 @@ int main(int argc, char **argv)
     size_t count = read_moments(), refused;
     require(argc == 3, "measure NEIGHBOURS MOMENT < moments and frames");
     options.limits.neighbours = (uint16_t)strtoul(argv[1], NULL, 10);
-    require(nd_open(&node, &options, sizeof options) == ND_DONE && nd_turn(&node, 2500) == ND_DONE, "nd_open and nd_turn");
+    require(nd_open(&node, &options, sizeof options) == ND_DONE && nd_pass(&node, 2500) == ND_DONE, "nd_open and nd_pass");
     drain(&node, FIRST_HASH);
     refused = run_all(&node, count, strtoull(argv[2], NULL, 10));
     require(nd_poll(&node, &out, buffer, sizeof buffer) == ND_NOTHING, "no record is left");

@@ -47,7 +47,7 @@ static void try_closed(nd_node *node)
     nd_neighbour_row neighbour;
     nd_next_hop_row hop;
     nd_path path;
-    is("a turn of a closed node", nd_turn(node, 0), ND_CLOSED);
+    is("time that passes at a closed node", nd_pass(node, 0), ND_CLOSED);
     is("a frame at a closed node", nd_receive(node, 0, buffer, 0), ND_CLOSED);
     is("a packet at a closed node", nd_send(node, 0, &LINK_LOCAL, &LINK_LOCAL, 17, buffer, 0), ND_CLOSED);
     is("a poll of a closed node", nd_poll(node, &out, buffer, sizeof buffer), ND_CLOSED);
@@ -55,14 +55,14 @@ static void try_closed(nd_node *node)
     is("a next hop of a closed node", nd_next_hop(node, 0, &LINK_LOCAL, &hop), ND_CLOSED);
     is("a path of a closed node", nd_resolve(node, 0, &LINK_LOCAL, &path), ND_CLOSED);
     is("a sign at a closed node", nd_confirm_to(node, 0, &LINK_LOCAL, 0), ND_CLOSED);
-    is("a stop of a closed node", nd_stop(node, 0), ND_CLOSED);
+    is("a stop of a closed node", nd_stop_advertising(node, 0), ND_CLOSED);
     is("an address for a closed node", nd_add_address(node, 0, &OWN), ND_CLOSED);
     is("an address that is removed from a closed node", nd_remove_address(node, 0, &OWN.address), ND_CLOSED);
     refuse_own(node, 0);
     is("what is due at a closed node", nd_next_due(node) == UINT64_MAX, true);
     is("the last moment of a closed node", nd_last_moment(node) == UINT64_MAX, true);
     is("the version of leases of a closed node", nd_lease_version(node) == 0, true);
-    is("a closed node and a moment that is none", nd_turn(node, ND_MOMENT_LIMIT), ND_INVALID);
+    is("a closed node and a moment that is none", nd_pass(node, ND_MOMENT_LIMIT), ND_INVALID);
     nd_close(node);
     is("a closed node that is closed", node->is_open, false);
 }
@@ -130,7 +130,7 @@ static void try_sizes(void)
     later.options.limits.neighbours = 0x0708;
     later.options.limits.waiting = 8;
     is("an open without a byte", open_bytes(&node, &later, 0), ND_DONE);
-    is("is of a host, which refuses to stop", nd_stop(&node, 0), ND_REFUSED);
+    is("is of a host, which refuses to stop", nd_stop_advertising(&node, 0), ND_REFUSED(ND_REFUSAL_WRONG_ROLE, 0));
     is("has an own address", nd_address_at(&node, 0, 0, &own), ND_DONE);
     is("which is that of zeros", memcmp(&own.address, &of_zeros, sizeof own.address), 0);
     nd_close(&node);
@@ -212,9 +212,9 @@ static void try_moments(nd_node *node)
     nd_address_row own;
     nd_neighbour_row neighbour;
     nd_out out;
-    is("a turn to a moment that is none", nd_turn(node, ND_MOMENT_LIMIT), ND_INVALID);
-    is("a turn", nd_turn(node, 2000), ND_DONE);
-    is("a turn to the past", nd_turn(node, 1999), ND_PAST);
+    is("time up to a moment that is none", nd_pass(node, ND_MOMENT_LIMIT), ND_INVALID);
+    is("time that passes", nd_pass(node, 2000), ND_DONE);
+    is("time up to the past", nd_pass(node, 1999), ND_PAST);
     is("a frame of the past", nd_receive(node, 1999, frame, 14), ND_PAST);
     is("a question of the past", nd_address_at(node, 1999, 0, &own), ND_PAST);
     is("a question of a moment that is none", nd_address_at(node, UINT64_MAX, 0, &own), ND_INVALID);
@@ -253,15 +253,15 @@ static void try_host(nd_node *node)
     nd_advertising settings = {.min_interval = 200, .max_interval = 600, .lifetime = 1800};
     nd_route_row route = {.bits = 64, .hop = ND_HOP_DIRECT};
     nd_heard heard;
-    is("a command of a router", nd_stop(node, 2000), ND_REFUSED);
+    is("a command of a router", nd_stop_advertising(node, 2000), ND_REFUSED(ND_REFUSAL_WRONG_ROLE, 0));
     is("its reason", refusal(node), ND_REFUSAL_WRONG_ROLE);
-    is("settings of a router", nd_advertise(node, 2000, &settings), ND_REFUSED);
+    is("settings of a router", nd_advertise(node, 2000, &settings), ND_REFUSED(ND_REFUSAL_WRONG_ROLE, 0));
     is("their reason", refusal(node), ND_REFUSAL_WRONG_ROLE);
-    is("a route of a router", nd_route(node, 2000, &route), ND_REFUSED);
+    is("a route of a router", nd_add_route(node, 2000, &route), ND_REFUSED(ND_REFUSAL_WRONG_ROLE, 0));
     is("its reason", refusal(node), ND_REFUSAL_WRONG_ROLE);
-    is("a packet from another address", nd_send(node, 2000, &other, &LINK_LOCAL, 17, payload, 1), ND_REFUSED);
+    is("a packet from another address", nd_send(node, 2000, &other, &LINK_LOCAL, 17, payload, 1), ND_REFUSED(ND_REFUSAL_NOT_OURS, 0));
     is("its reason", refusal(node), ND_REFUSAL_NOT_OURS);
-    is("a packet that is too long", nd_send(node, 2000, &LINK_LOCAL, &other, 17, payload, 1461), ND_REFUSED);
+    is("a packet that is too long", nd_send(node, 2000, &LINK_LOCAL, &other, 17, payload, 1461), ND_REFUSED(ND_REFUSAL_TOO_LONG, 0));
     is("its reason", refusal(node), ND_REFUSAL_TOO_LONG);
     is("a table that cannot be cleared", nd_clear(node, 2000, 0), ND_INVALID);
     is("a table that is none", nd_clear(node, 2000, 6), ND_INVALID);
@@ -301,7 +301,7 @@ static void try_addresses(nd_node *node)
     is("no record", nd_poll(node, &out, buffer, sizeof buffer), ND_NOTHING);
     is("an address by hand", nd_add_address(node, 2000, &OWN), ND_DONE);
     show_own(node, OWN.valid_lifetime, OWN.preferred_lifetime);
-    is("what it makes due", nd_turn(node, 2000), ND_DONE);
+    is("what it makes due", nd_pass(node, 2000), ND_DONE);
     is("is a record", nd_poll(node, &out, buffer, sizeof buffer), ND_DONE);
     is("of a solicitation", out.kind == ND_OUT_FRAME && buffer[54] == 135, true);
     own.valid_lifetime = own.preferred_lifetime = 7;
@@ -329,13 +329,13 @@ static void try_refused_addresses(nd_node *node, uint32_t role)
     options.role = role;
     options.limits.addresses = 1;
     is("an open with one address", open_with(node, options), ND_DONE);
-    is("what is due at its start", nd_turn(node, 0), ND_DONE);
+    is("what is due at its start", nd_pass(node, 0), ND_DONE);
     drain(node, FIRST_HASH);
-    is("an address before the link-local one is assigned", nd_add_address(node, 999, &OWN), ND_REFUSED);
+    is("an address before the link-local one is assigned", nd_add_address(node, 999, &OWN), ND_REFUSED(ND_REFUSAL_TENTATIVE, 0));
     is("its reason", refusal(node), ND_REFUSAL_TENTATIVE);
-    is("the link-local address is assigned", nd_turn(node, 2000), ND_DONE);
+    is("the link-local address is assigned", nd_pass(node, 2000), ND_DONE);
     drain(node, FIRST_HASH);
-    is("a second address", nd_add_address(node, 2000, &OWN), ND_REFUSED);
+    is("a second address", nd_add_address(node, 2000, &OWN), ND_REFUSED(ND_REFUSAL_FULL, ND_LIMIT_ADDRESSES));
     is("its reason", refusal(node), ND_REFUSAL_FULL);
     nd_close(node);
 }
@@ -375,26 +375,26 @@ static void try_router(nd_node *node)
     is("are advertised", nd_advertising_of(node, 2000, &row), ND_DONE);
     is("as they are", memcmp(&row, &good, sizeof row), 0);
     offer.bits = 129;
-    is("an offer of 129 bits", nd_offer(node, 2000, &offer), ND_INVALID);
+    is("an offer of 129 bits", nd_advertise_prefix(node, 2000, &offer), ND_INVALID);
     offer.bits = 64;
     offer.preferred_lifetime = 11;
-    is("an offer that is preferred for longer than it is valid", nd_offer(node, 2000, &offer), ND_INVALID);
+    is("an offer that is preferred for longer than it is valid", nd_advertise_prefix(node, 2000, &offer), ND_INVALID);
     offer.preferred_lifetime = 5;
     offer.on_link = 2;
-    is("an offer with a flag of 2", nd_offer(node, 2000, &offer), ND_INVALID);
+    is("an offer with a flag of 2", nd_advertise_prefix(node, 2000, &offer), ND_INVALID);
     offer.on_link = 1;
     offer.reserved[1] = 1;
-    is("an offer with a reserved field", nd_offer(node, 2000, &offer), ND_INVALID);
+    is("an offer with a reserved field", nd_advertise_prefix(node, 2000, &offer), ND_INVALID);
     offer.reserved[1] = 0;
     offer.prefix = (nd_addr){{0xfe, 0x80}};
-    is("an offer of the link-local prefix", nd_offer(node, 2000, &offer), ND_INVALID);
-    is("a route of 129 bits", nd_route(node, 2000, &route), ND_INVALID);
+    is("an offer of the link-local prefix", nd_advertise_prefix(node, 2000, &offer), ND_INVALID);
+    is("a route of 129 bits", nd_add_route(node, 2000, &route), ND_INVALID);
     route.bits = 64;
     route.hop = 0;
-    is("a route to nowhere", nd_route(node, 2000, &route), ND_INVALID);
+    is("a route to nowhere", nd_add_route(node, 2000, &route), ND_INVALID);
     is("there is no offer", nd_offer_at(node, 2000, 0, &offer), ND_NOTHING);
     is("there is no route", nd_route_at(node, 2000, 0, &route), ND_NOTHING);
-    is("what is due at a router", nd_turn(node, 2000), ND_DONE);
+    is("what is due at a router", nd_pass(node, 2000), ND_DONE);
     drain(node, FIRST_HASH);
     try_addresses(node);
     nd_close(node);
@@ -430,7 +430,7 @@ static void goes_to(nd_node *node, const nd_path *path, const nd_addr *next_hop,
     is("its link-layer address", memcmp(&path->mac, mac != NULL ? mac : &none, sizeof none), 0);
     is("which is known or not", path->has_mac, mac != NULL);
     is("the version of the node, or none", path->version == (mac != NULL ? nd_lease_version(node) : 0), true);
-    is("no refusal", path->refusal == 0 && path->limit == 0 && path->reserved == 0, true);
+    is("nothing in reserve", path->reserved, 0);
 }
 
 /* Where packets go of a caller that keeps them. */
@@ -449,19 +449,18 @@ static void try_paths(nd_node *node)
     before = path;
     is("a path at a moment that is none", nd_resolve(node, ND_MOMENT_LIMIT, &neighbour, &path), ND_INVALID);
     is("is not written", memcmp(&path, &before, sizeof path), 0);
-    is("what is due at the start", nd_turn(node, 999), ND_DONE);
+    is("what is due at the start", nd_pass(node, 999), ND_DONE);
     drain(node, FIRST_HASH);
     is("a sign at a moment that is none", nd_confirm_to(node, ND_MOMENT_LIMIT, &neighbour, 0), ND_INVALID);
     is("a sign of the past", nd_confirm_to(node, 998, &neighbour, 0), ND_PAST);
     is("a path of the past", nd_resolve(node, 998, &neighbour, &path), ND_PAST);
     is("is not written", memcmp(&path, &before, sizeof path), 0);
-    is("a path before the link-local address is assigned", nd_resolve(node, 999, &group, &path), ND_REFUSED);
-    is("its reason", path.refusal, ND_REFUSAL_TENTATIVE);
-    is("no limit, and no next hop", path.limit == 0 && path.hop == 0 && path.has_mac == 0, true);
+    is("a path before the link-local address is assigned", nd_resolve(node, 999, &group, &path), ND_REFUSED(ND_REFUSAL_TENTATIVE, 0));
+    is("no next hop", path.hop == 0 && path.has_mac == 0, true);
     is("and no lease", path.until == 999 && path.version == 0, true);
     is("there is no record of it", nd_poll(node, &out, buffer, sizeof buffer), ND_NOTHING);
     is("an advertisement of a router", receive_digits(node, 1200, ROUTER_ADVERTISEMENT), ND_DONE);
-    is("detection ends", nd_turn(node, 2200), ND_DONE);
+    is("detection ends", nd_pass(node, 2200), ND_DONE);
     drain(node, FIRST_HASH);
     is("a sign of a neighbour that is not known", nd_confirm_to(node, 3000, &neighbour, 0), ND_NOTHING);
     is("a path to a neighbour that is not known", nd_resolve(node, 3000, &neighbour, &path), ND_WAITING);
@@ -506,10 +505,26 @@ static void try_paths(nd_node *node)
     nd_close(node);
 }
 
+/* What a status says of a refusal. */
+static void try_refusals(void)
+{
+    static const int32_t others[] = {ND_DONE, ND_NOTHING, ND_WAITING, ND_NO_MEMORY, ND_CLOSED, ND_INVALID, ND_PAST, ND_NO_ROOM, -15, INT32_MAX};
+    for (size_t i = 0; i < sizeof others / sizeof *others; i++)
+        is("a status that is no refusal", nd_refusal_of(others[i]) == 0 && nd_limit_of(others[i]) == 0, true);
+    for (int32_t limit = ND_LIMIT_NEIGHBOURS; limit <= ND_LIMIT_STATIC_ROUTES; limit++) {
+        is("a full table is a refusal", nd_refusal_of(ND_REFUSED(ND_REFUSAL_FULL, limit)), ND_REFUSAL_FULL);
+        is("which names the table", nd_limit_of(ND_REFUSED(ND_REFUSAL_FULL, limit)), limit);
+    }
+    is("a refusal without a limit", nd_refusal_of(ND_REFUSED(ND_REFUSAL_TENTATIVE, 0)), ND_REFUSAL_TENTATIVE);
+    is("has none", nd_limit_of(ND_REFUSED(ND_REFUSAL_TENTATIVE, 0)), 0);
+    is("the first one", nd_refusal_of(-16), ND_REFUSAL_WRONG_ROLE);
+}
+
 int main(void)
 {
     nd_node node = ND_NODE_INIT, moved;
     is("the version of the header", nd_version(), ND_VERSION);
+    try_refusals();
     try_closed(&node);
     try_sizes();
     try_limits();
@@ -519,7 +534,7 @@ int main(void)
     try_host(&node);
     try_addresses(&node);
     moved = node; /* from here on the node is in its new place */
-    is("a node that was moved", nd_turn(&moved, 2001), ND_DONE);
+    is("a node that was moved", nd_pass(&moved, 2001), ND_DONE);
     nd_close(&moved);
     is("closing gives all memory back", (int64_t)heap_blocks, 0);
     try_closed(&moved);

@@ -55,7 +55,7 @@ static size_t length(void)
 static void request(struct block *block)
 {
     size_t wanted = length();
-    struct nd_block given = rattle_alloc(wanted, (size_t)1 << below(5));
+    struct nd_block given = nd_alloc(wanted, (size_t)1 << below(5));
     if (!given.ok)
         return;
     if ((uintptr_t)given.p % HEAD_BYTES != 0)
@@ -68,7 +68,7 @@ static void request(struct block *block)
 static void change(struct block *block)
 {
     size_t wanted = length(), kept = block->length < wanted ? block->length : wanted;
-    struct nd_block given = rattle_realloc(block->bytes, kept, wanted, 8);
+    struct nd_block given = nd_realloc(block->bytes, kept, wanted, 8);
     if (!given.ok) {
         compare(block, block->length);
         return;
@@ -82,21 +82,21 @@ static void change(struct block *block)
 static void give_back(struct block *block)
 {
     compare(block, block->length);
-    rattle_dealloc(block->bytes);
+    nd_free(block->bytes);
     block->bytes = NULL;
 }
 
 static void is_whole(void)
 {
-    struct nd_block all = rattle_alloc(POOL_BYTES - HEAD_BYTES, HEAD_BYTES);
+    struct nd_block all = nd_alloc(POOL_BYTES - HEAD_BYTES, HEAD_BYTES);
     if (!all.ok)
         fail("the whole pool can't be taken");
-    rattle_dealloc(all.p);
+    nd_free(all.p);
 }
 
 static void *taken(size_t length)
 {
-    struct nd_block given = rattle_alloc(length, HEAD_BYTES);
+    struct nd_block given = nd_alloc(length, HEAD_BYTES);
     if (!given.ok)
         fail("there is room for a block");
     return given.p;
@@ -107,7 +107,7 @@ static void *rest(void)
 {
     struct nd_block given = {false, NULL};
     for (size_t length = POOL_BYTES; !given.ok; length -= HEAD_BYTES)
-        given = rattle_alloc(length, HEAD_BYTES);
+        given = nd_alloc(length, HEAD_BYTES);
     return given.p;
 }
 
@@ -122,13 +122,13 @@ static void is_found_behind_shorter_ones(void)
         between[i] = taken(1);
     }
     others = rest();
-    rattle_dealloc(wanted);
+    nd_free(wanted);
     for (size_t i = 0; i < COUNT; i++)
-        rattle_dealloc(shorter[i]);
-    rattle_dealloc(taken(WANTED));
+        nd_free(shorter[i]);
+    nd_free(taken(WANTED));
     for (size_t i = 0; i <= COUNT; i++)
-        rattle_dealloc(between[i]);
-    rattle_dealloc(others);
+        nd_free(between[i]);
+    nd_free(others);
 }
 
 int main(int count, char **arguments)

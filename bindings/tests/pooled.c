@@ -48,7 +48,7 @@ static void called(int32_t status)
         printf("no memory at: %s\n", step);
         exit(SPENT);
     }
-    require(status >= 0, step);
+    require(is_taken(status), step);
     for (; (status = nd_poll(&node, &out, buffer, sizeof buffer)) == ND_DONE; count++)
         kinds[out.kind]++;
     require(status == ND_NOTHING, "the queue is emptied");
@@ -62,7 +62,7 @@ static void pass(uint64_t at, uint64_t late)
 {
     while (nd_next_due(&node) + late <= at) {
         now = nd_next_due(&node) + late;
-        called(nd_turn(&node, now));
+        called(nd_pass(&node, now));
     }
     now = at;
 }
@@ -270,8 +270,8 @@ static void configure(void)
         nd_route_row route = {.prefix = offer.prefix, .bits = 64, .hop = ND_HOP_DIRECT};
         if (i == 0)
             memcpy(route.prefix.bytes, ON_LINK, sizeof route.prefix.bytes);
-        called(nd_offer(&node, now, &offer));
-        called(nd_route(&node, now, &route));
+        called(nd_advertise_prefix(&node, now, &offer));
+        called(nd_add_route(&node, now, &route));
     }
     called(nd_advertise(&node, now, &settings));
 }
@@ -309,7 +309,7 @@ static void fail_all(size_t later, void (*event)(void))
 
 static void turn(void)
 {
-    called(nd_turn(&node, now));
+    called(nd_pass(&node, now));
 }
 
 static void clear_neighbours(void)
@@ -339,7 +339,7 @@ static void send_longest(void)
 
 static void stop(void)
 {
-    called(nd_stop(&node, now));
+    called(nd_stop_advertising(&node, now));
 }
 
 static void (*const EVENTS[])(void) = {turn, short_names, long_names, deliver_longest, send_longest, clear_neighbours, stop};

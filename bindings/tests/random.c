@@ -309,8 +309,8 @@ static bool settle(void)
     int32_t status;
     if (nd_next_due(&node) > now)
         return false;
-    RETRIED(status, nd_turn(&node, now));
-    require(status == ND_DONE && nd_next_due(&node) > now, "nd_turn");
+    RETRIED(status, nd_pass(&node, now));
+    require(status == ND_DONE && nd_next_due(&node) > now, "nd_pass");
     records = take_records(&first, &bytes);
     require_bounds(records, bytes);
     return true;
@@ -326,16 +326,17 @@ static bool between(void)
     int32_t status;
     if (once_in(8)) {
         now += once_in(2000) ? 9000000 : STEPS[below(once_in(8) ? 7 : 5)];
-        RETRIED(status, nd_turn(&node, now));
-        require(status == ND_DONE && nd_next_due(&node) > now, "nd_turn");
+        RETRIED(status, nd_pass(&node, now));
+        require(status == ND_DONE && nd_next_due(&node) > now, "nd_pass");
     } else if (once_in(8)) {
         const nd_addr source = an_own(), destination = once_in(2) ? a_far() : a_neighbour();
         size_t length = once_in(8) ? below(1400) : 4;
         RETRIED(status, nd_send(&node, now, &source, &destination, 17, payload, length));
-        require(status == ND_DONE || status == ND_REFUSED, "nd_send");
-        if (status == ND_REFUSED) {
+        require(status == ND_DONE || status == ND_NOTHING || nd_refusal_of(status) != 0, "nd_send");
+        if (nd_refusal_of(status) != 0) {
             records = take_records(&first, &bytes);
             require(records == 1 && first.kind == ND_OUT_REFUSED && first.code < REFUSALS, "a packet is refused");
+            require(first.code == nd_refusal_of(status) && first.limit == nd_limit_of(status), "the status says why");
             refused_events[first.code]++;
             require_bounds(records, bytes);
             return true;
@@ -359,7 +360,8 @@ static bool between(void)
 /* Counts what a frame was. Returns true if it was dropped or refused. */
 static bool count(int32_t status, size_t records, const nd_out *first, const nd_heard *hears)
 {
-    if (status == ND_REFUSED) {
+    if (nd_refusal_of(status) != 0) {
+        require(status == ND_REFUSED(ND_REFUSAL_FULL, (int32_t)first->limit), "the status of a frame that is refused names the limit");
         require(records == 1 && first->kind == ND_OUT_REFUSED && first->code == ND_REFUSAL_FULL && first->limit > 0 && first->limit < LIMITS,
                 "a frame that is refused has one record, which names the limit");
         require(hears->hearing != ND_HEARING_DROP, "what is refused is no frame to be dropped");
@@ -397,10 +399,10 @@ static void open_small(void)
     options.mac = role == ND_ROLE_ROUTER ? ROUTER_MAC : MAC;
     options.limits = SMALL;
     bound = nd_node_bytes(&SMALL);
-    require(bound > 0 && nd_open(&node, &options, sizeof options) == ND_DONE && nd_turn(&node, now) == ND_DONE, "nd_open");
+    require(bound > 0 && nd_open(&node, &options, sizeof options) == ND_DONE && nd_pass(&node, now) == ND_DONE, "nd_open");
     if (role == ND_ROLE_ROUTER) {
-        require(nd_offer(&node, now, &offer) == ND_DONE && nd_advertise(&node, now, &settings) == ND_DONE, "nd_advertise");
-        require(nd_route(&node, now, &direct) == ND_DONE && nd_route(&node, now, &far) == ND_DONE, "nd_route");
+        require(nd_advertise_prefix(&node, now, &offer) == ND_DONE && nd_advertise(&node, now, &settings) == ND_DONE, "nd_advertise");
+        require(nd_add_route(&node, now, &direct) == ND_DONE && nd_add_route(&node, now, &far) == ND_DONE, "nd_add_route");
     }
     drain(&node, FIRST_HASH);
     heap_most = heap_now;
@@ -500,7 +502,7 @@ static void run_again(size_t frames, bool takes_all)
             continue;
         before = reported;
         RETRIED(status, nd_receive(&node, now, bytes, length));
-        require(status == ND_DONE || (status == ND_REFUSED && is_without_effect[i]), "a frame that had an effect has it again");
+        require(status == ND_DONE || (nd_refusal_of(status) != 0 && is_without_effect[i]), "a frame that had an effect has it again");
         take_records(&first, &size);
         if (is_without_effect[i])
             reported = before;

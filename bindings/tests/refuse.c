@@ -28,15 +28,15 @@ static void open_again(nd_node *node)
 static void turn_again(nd_node *node, uint64_t now)
 {
     int32_t status;
-    RETRIED(status, nd_turn(node, now));
-    require(status == ND_DONE && nd_last_moment(node) == now, "nd_turn");
+    RETRIED(status, nd_pass(node, now));
+    require(status == ND_DONE && nd_last_moment(node) == now, "nd_pass");
 }
 
 static void receive_again(nd_node *node, uint64_t now, const struct frame *frame)
 {
     int32_t status;
     RETRIED(status, nd_receive(node, now, frame->bytes, frame->length));
-    require(status >= 0 && nd_last_moment(node) == now, "nd_receive");
+    require(is_taken(status) && nd_last_moment(node) == now, "nd_receive");
 }
 
 static void send_again(nd_node *node, uint64_t now, size_t i)
@@ -45,7 +45,7 @@ static void send_again(nd_node *node, uint64_t now, size_t i)
     const nd_addr far = {{0x20, 0x01, 0x0d, 0xb8, 0, 0x77, [15] = (uint8_t)i}};
     int32_t status;
     RETRIED(status, nd_send(node, now, &LINK_LOCAL, &far, 17, payload, sizeof payload));
-    require(status >= 0 && nd_last_moment(node) == now, "nd_send");
+    require(is_taken(status) && nd_last_moment(node) == now, "nd_send");
 }
 
 /* Asks where packets go: to a neighbour of the link, or through a router. Returns the hash with the answer mixed in, but for its version: a call that
@@ -56,7 +56,7 @@ static uint64_t resolve_again(nd_node *node, uint64_t now, size_t i, uint64_t ha
     nd_path path;
     int32_t status;
     RETRIED(status, nd_resolve(node, now, i % 16 < 8 ? &on_link : &far, &path));
-    require(status >= 0 && nd_last_moment(node) == now, "nd_resolve");
+    require(is_taken(status) && nd_last_moment(node) == now, "nd_resolve");
     path.version = 0;
     return mix(mix(hash, &status, sizeof status), &path, sizeof path);
 }
@@ -81,11 +81,11 @@ static void advertise_again(nd_node *node, uint64_t now)
     const nd_advertising settings = {.min_interval = 3, .max_interval = 4, .lifetime = 1800, .hop_limit = 64};
     const nd_offer_row offer = {.prefix = {{0x20, 1, 0xd, 0xb8}}, .bits = 64, .valid_lifetime = 3600, .preferred_lifetime = 1800, .on_link = 1};
     const nd_route_row route = {.prefix = {{0x20, 1, 0xd, 0xb8}}, .bits = 32, .hop = ND_HOP_DIRECT};
-    int32_t status, wanted = role == ND_ROLE_ROUTER ? ND_DONE : ND_REFUSED;
-    RETRIED(status, nd_offer(node, now, &offer));
-    require(status == wanted, "nd_offer");
-    RETRIED(status, nd_route(node, now, &route));
-    require(status == wanted, "nd_route");
+    int32_t status, wanted = role == ND_ROLE_ROUTER ? ND_DONE : ND_REFUSED(ND_REFUSAL_WRONG_ROLE, 0);
+    RETRIED(status, nd_advertise_prefix(node, now, &offer));
+    require(status == wanted, "nd_advertise_prefix");
+    RETRIED(status, nd_add_route(node, now, &route));
+    require(status == wanted, "nd_add_route");
     RETRIED(status, nd_advertise(node, now, &settings));
     require(status == wanted, "nd_advertise");
 }

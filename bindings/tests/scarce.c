@@ -124,7 +124,7 @@ static int32_t clear(nd_node *node, const char *number)
 
 static int32_t turn(nd_node *node, const char *milliseconds)
 {
-    return nd_turn(node, BUSY_AT + strtoull(milliseconds, NULL, 10));
+    return nd_pass(node, BUSY_AT + strtoull(milliseconds, NULL, 10));
 }
 
 static int32_t advertise(nd_node *node, const char *lifetime)
@@ -136,19 +136,19 @@ static int32_t advertise(nd_node *node, const char *lifetime)
 static int32_t offer(nd_node *node, const char *digits)
 {
     const nd_offer_row row = {.prefix = address_of(digits), .bits = 64, .valid_lifetime = 3600, .preferred_lifetime = 1800, .on_link = 1};
-    return nd_offer(node, BUSY_AT, &row);
+    return nd_advertise_prefix(node, BUSY_AT, &row);
 }
 
 static int32_t route(nd_node *node, const char *digits)
 {
     const nd_route_row row = {.prefix = address_of(digits), .bits = 64, .hop = ND_HOP_DIRECT};
-    return nd_route(node, BUSY_AT, &row);
+    return nd_add_route(node, BUSY_AT, &row);
 }
 
 static int32_t stop(nd_node *node, const char *nothing)
 {
     (void)nothing;
-    return nd_stop(node, BUSY_AT);
+    return nd_stop_advertising(node, BUSY_AT);
 }
 
 #define NEW "20010db8000000000000000000000077"
@@ -309,7 +309,7 @@ static struct outcome outcome_of(const struct event *event, size_t first, size_t
     }
     if (tries == 0 || outcome.status == ND_NO_MEMORY)
         outcome.status = event->call(&node, event->argument);
-    require_of(outcome.status == ND_DONE, event, "it is done");
+    require_of(outcome.status >= 0, event, "it is done");
     outcome.records = mix(drain(&node, outcome.records), &answer, sizeof answer);
     outcome.tables = tables_of(&node, nd_last_moment(&node));
     outcome.later = later_of(&node);
@@ -325,7 +325,7 @@ static void refuse_each(const struct event *event)
     nd_node node = ND_NODE_INIT;
     open_busy(&node, role);
     requests = heap_requests;
-    require_of(event->call(&node, event->argument) == ND_DONE, event, "it is done");
+    require_of(event->call(&node, event->argument) >= 0, event, "it is done");
     requests = heap_requests - requests;
     nd_close(&node);
     for (size_t i = 1; i <= requests; i++) {
@@ -342,7 +342,7 @@ static void refuse_each(const struct event *event)
 }
 
 /* Requires that an event has a status and the outcome that it has with memory, while each request is refused and none is made. */
-static void do_without(const struct event *event, int32_t wanted)
+static void do_without(const struct event *event, bool is_refused)
 {
     nd_node node = ND_NODE_INIT, other = ND_NODE_INIT;
     size_t requests;
@@ -355,9 +355,9 @@ static void do_without(const struct event *event, int32_t wanted)
     status = event->call(&node, event->argument);
     records = mix(drain(&node, FIRST_HASH), &answer, sizeof answer);
     heap_is_spent = false;
-    require_of(status == wanted, event, "it takes no memory");
+    require_of(is_refused ? nd_refusal_of(status) != 0 : status >= 0, event, "it takes no memory");
     require_of(heap_requests == requests, event, "it requests no memory");
-    require_of(event->call(&other, event->argument) == wanted, event, "it has the same status with memory");
+    require_of(event->call(&other, event->argument) == status, event, "it has the same status with memory");
     others = mix(drain(&other, FIRST_HASH), &answer, sizeof answer);
     require_of(records == others && tables_of(&node, BUSY_AT) == tables_of(&other, BUSY_AT), event, "it has the same records and tables with memory");
     require_of(later_of(&node) == later_of(&other), event, "and the same ones later");
@@ -377,7 +377,7 @@ static void do_all_without(const struct event *events, size_t count)
     for (i = 0; i < count; i++) {
         uint64_t records, others, shown;
         /* What an event has made due at its own moment is done by the next call, and may take memory. */
-        require(nd_turn(&node, BUSY_AT) == ND_DONE && nd_turn(&other, BUSY_AT) == ND_DONE, "nd_turn");
+        require(nd_pass(&node, BUSY_AT) == ND_DONE && nd_pass(&other, BUSY_AT) == ND_DONE, "nd_pass");
         require(drain(&node, FIRST_HASH) == drain(&other, FIRST_HASH), "what is due is the same");
         requests = heap_requests;
         heap_is_spent = true;
@@ -446,17 +446,17 @@ int main(void)
     printf("in all %zu requests, %zu refused with ND_NO_MEMORY, %zu without effect\n", all_requests, all_refused, all_given_up);
     printf("done without memory at a host\n");
     role = ND_ROLE_HOST;
-    EACH(WITHOUT_MEMORY_AT_HOST, do_without(&WITHOUT_MEMORY_AT_HOST[i], ND_DONE));
+    EACH(WITHOUT_MEMORY_AT_HOST, do_without(&WITHOUT_MEMORY_AT_HOST[i], false));
     do_all_without(WITHOUT_MEMORY_AT_HOST, sizeof WITHOUT_MEMORY_AT_HOST / sizeof *WITHOUT_MEMORY_AT_HOST);
     fill_the_queue();
     printf("refused without memory at a host\n");
-    EACH(REFUSED_AT_HOST, do_without(&REFUSED_AT_HOST[i], ND_REFUSED));
+    EACH(REFUSED_AT_HOST, do_without(&REFUSED_AT_HOST[i], true));
     busy_routers = 2;
-    EACH(FULL_AT_HOST, do_without(&FULL_AT_HOST[i], ND_REFUSED));
+    EACH(FULL_AT_HOST, do_without(&FULL_AT_HOST[i], true));
     busy_routers = 0;
     printf("done without memory at a router\n");
     role = ND_ROLE_ROUTER;
-    EACH(WITHOUT_MEMORY_AT_ROUTER, do_without(&WITHOUT_MEMORY_AT_ROUTER[i], ND_DONE));
+    EACH(WITHOUT_MEMORY_AT_ROUTER, do_without(&WITHOUT_MEMORY_AT_ROUTER[i], false));
     do_all_without(WITHOUT_MEMORY_AT_ROUTER, sizeof WITHOUT_MEMORY_AT_ROUTER / sizeof *WITHOUT_MEMORY_AT_ROUTER);
     require(heap_blocks == 0 && heap_now == 0, "all memory is given back");
     free_named();

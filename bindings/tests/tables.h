@@ -4,14 +4,22 @@
 #define TABLES_H
 #include "ranges.h"
 
-/* Mixes in the rows of a table, and how many there are. A row is written whole, and has no padding. */
-#define MIX_ROWS(hash, row_type, ask) \
+enum { MOST_ROWS = 2048 };
+
+/* Mixes in the rows of a table, and how many there are. A row is written whole, and has no padding. Requires that they are the same where they are
+ * asked for one by one, and where there is room for one row less. */
+#define MIX_ROWS(hash, row_type, ask_all, ask) \
     do { \
+        static row_type rows[MOST_ROWS], few[MOST_ROWS]; \
         row_type row; \
-        size_t i = 0; \
-        for (; ask(node, now, i, &row) == ND_DONE; i++) \
-            hash = mix(hash, &row, sizeof row); \
-        hash = mix(hash, &i, sizeof i); \
+        size_t count = SIZE_MAX, less = SIZE_MAX; \
+        require(ask_all(node, now, rows, MOST_ROWS, &count) == ND_DONE && count <= MOST_ROWS, #ask_all); \
+        for (size_t i = 0; i < count; i++) \
+            require(ask(node, now, i, &row) == ND_DONE && memcmp(&row, &rows[i], sizeof row) == 0, #ask " is a row of " #ask_all); \
+        require(ask(node, now, count, &row) == ND_NOTHING, #ask_all " has all rows"); \
+        require(count == 0 || (ask_all(node, now, few, count - 1, &less) == ND_NO_ROOM && less == count - 1), #ask_all " without room for one"); \
+        require(count == 0 || memcmp(few, rows, less * sizeof row) == 0, #ask_all " has the first rows"); \
+        hash = mix(mix(hash, rows, count * sizeof row), &count, sizeof count); \
     } while (0)
 
 /* Returns the hash of what a node shows at a moment, where nothing is due before it, but for the moment up to which its time has passed. */
@@ -22,15 +30,15 @@ static inline uint64_t rows_at(nd_node *node, uint64_t now)
     nd_advertising settings;
     nd_counts_row counts;
     int32_t status;
-    MIX_ROWS(hash, nd_neighbour_row, nd_neighbour_at);
-    MIX_ROWS(hash, nd_router_row, nd_router_at);
-    MIX_ROWS(hash, nd_prefix_row, nd_prefix_at);
-    MIX_ROWS(hash, nd_address_row, nd_address_at);
-    MIX_ROWS(hash, nd_server_row, nd_server_at);
-    MIX_ROWS(hash, nd_name_row, nd_name_at);
-    MIX_ROWS(hash, nd_redirect_row, nd_redirect_at);
-    MIX_ROWS(hash, nd_offer_row, nd_offer_at);
-    MIX_ROWS(hash, nd_route_row, nd_route_at);
+    MIX_ROWS(hash, nd_neighbour_row, nd_neighbours, nd_neighbour_at);
+    MIX_ROWS(hash, nd_router_row, nd_routers, nd_router_at);
+    MIX_ROWS(hash, nd_prefix_row, nd_prefixes, nd_prefix_at);
+    MIX_ROWS(hash, nd_address_row, nd_addresses, nd_address_at);
+    MIX_ROWS(hash, nd_server_row, nd_servers, nd_server_at);
+    MIX_ROWS(hash, nd_name_row, nd_names, nd_name_at);
+    MIX_ROWS(hash, nd_redirect_row, nd_redirects, nd_redirect_at);
+    MIX_ROWS(hash, nd_offer_row, nd_offers, nd_offer_at);
+    MIX_ROWS(hash, nd_route_row, nd_routes, nd_route_at);
     require(nd_parameters_of(node, now, &parameters) == ND_DONE, "nd_parameters_of");
     require(nd_counts_of(node, now, &counts) == ND_DONE, "nd_counts_of");
     hash = mix(mix(hash, &parameters, sizeof parameters), &counts, sizeof counts);

@@ -31,6 +31,12 @@ static inline void require(bool holds, const char *what)
     exit(1);
 }
 
+/* Returns true if a call took place, or its event was refused. */
+static inline bool is_taken(int32_t status)
+{
+    return status >= 0 || nd_refusal_of(status) != 0;
+}
+
 /* Returns how many bytes the digits at the beginning of a text are, and writes them. */
 static inline size_t bytes_of(const char *digits, uint8_t *bytes, size_t room)
 {

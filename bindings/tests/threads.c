@@ -19,7 +19,7 @@ static void *receive(void *argument)
     struct part *part = argument;
     for (size_t i = part->from; i < part->end; i++) {
         part->now += 3;
-        require(nd_receive(&part->node, part->now, frames[i % count].bytes, frames[i % count].length) >= 0, "nd_receive");
+        require(is_taken(nd_receive(&part->node, part->now, frames[i % count].bytes, frames[i % count].length)), "nd_receive");
         part->hash = drain(&part->node, part->hash);
     }
     return NULL;

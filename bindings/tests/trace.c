@@ -3,6 +3,7 @@
  * records. With `--refuse N` the Nth request for memory is refused, none for 0; a call that returns ND_NO_MEMORY is made again, and standard error
  * says how many requests there were. */
 #include "heap.h"
+#include "nd_text.h"
 #include "ranges.h"
 
 #include <inttypes.h>
@@ -20,25 +21,7 @@ static size_t longest = ND_BUFFER_BYTES;
 
 /* ---- words ----------------------------------------------------------------------------------- */
 
-static const char *const LOSSES[] = {"", "unreachable", "replaced", "forgotten", "no-route", "hop-limit"};
-static const char *const REFUSALS[] = {"", "wrong-role", "disabled", "not-ours", "too-long", "full", "", "", "tentative"};
-static const char *const LIMITS[] = {"", "neighbours", "routers", "prefixes", "addresses", "servers", "names", "offers", "routes"};
-static const char *const MESSAGES[] = {"rs", "ra", "ns", "na", "redirect"};
-static const char *const REACHABILITIES[] = {"", "incomplete", "reachable", "stale", "delay", "probe"};
-static const char *const STATES[] = {"", "tentative", "preferred", "deprecated", "duplicate"};
-static const char *const PREFERENCES[] = {"medium", "high", "low"};
 static const char *const CLEARABLES[] = {"", "neighbours", "routers", "prefixes", "redirects", "dns"};
-static const char *const REASONS[] = {"", "FrameShort", "NotIpv6", "HeaderShort", "Version", "PayloadShort", "Code", "Length", "OptionZero",
-                                      "OptionOver", "HopLimit", "Sum", "Source", "Target", "UnspecifiedSlla", "NotSolicitedNode",
-                                      "SolicitedMulticast", "RedirectTarget", "RedirectDestination", "NotForUs", "NotFirstHop"};
-
-#define WORD(words, number) word_of(words, sizeof(words) / sizeof *(words), number)
-
-static const char *word_of(const char *const *words, size_t count, uint32_t number)
-{
-    require(number < count && words[number][0] != 0, "a number has a word");
-    return words[number];
-}
 
 /* Returns the number of a word, or 0 if it is none. */
 static uint32_t number_of(const char *const *words, uint32_t count, const char *word)
@@ -129,16 +112,16 @@ static void print_lost(const nd_out *out)
 {
     require(out->length >= 40 && buffer[0] >> 4 == 6, "what is lost begins with an IPv6 header");
     const nd_addr source = address_at(buffer + 8), destination = address_at(buffer + 24);
-    say("lost %s %a %a", WORD(LOSSES, out->code), &source, &destination);
+    say(" %s %a %a", nd_loss_text(out->code), &source, &destination);
 }
 
-static void print_refused(const nd_out *out)
+static void print_reason(const nd_out *out)
 {
-    say("refused %s", WORD(REFUSALS, out->code));
+    say(" %s", nd_refusal_text(out->code));
     if (out->code == ND_REFUSAL_NOT_OURS)
         say(" %a", &out->address);
     if (out->code == ND_REFUSAL_FULL)
-        say(" %s", WORD(LIMITS, out->limit));
+        say(" %s", nd_limit_text(out->limit));
 }
 
 static void print_resolved(const nd_out *out)
@@ -146,32 +129,26 @@ static void print_resolved(const nd_out *out)
     nd_mac mac;
     require(out->length == sizeof mac, "a link-layer address has 6 bytes");
     memcpy(&mac, buffer, sizeof mac);
-    say("resolved %a %m", &out->address, &mac);
+    say(" %a %m", &out->address, &mac);
 }
 
 static void print_record(const nd_out *out)
 {
-    say("%t ", out->moment);
+    say("%t %s", out->moment, nd_kind_text(out->kind));
     switch (out->kind) {
     case ND_OUT_FRAME:
-    case ND_OUT_UP:
-        say(out->kind == ND_OUT_FRAME ? "tx " : "up ");
-        print_hex(buffer, out->length);
-        break;
-    case ND_OUT_HEARD:
-        require(out->code >= 133 && out->code <= 137, "a message has a type");
-        say("heard %s", MESSAGES[out->code - 133]);
-        break;
-    case ND_OUT_DROPPED: say("drop %u %s", out->code, WORD(REASONS, out->code)); break;
-    case ND_OUT_DUPLICATE: say("duplicate %a", &out->address); break;
-    case ND_OUT_ASSIGNED: say("assigned %a", &out->address); break;
-    case ND_OUT_ENDED_ADDRESS: say("ended address %a", &out->address); break;
-    case ND_OUT_ENDED_ROUTER: say("ended router %a", &out->address); break;
-    case ND_OUT_FAILED: say("failed %a", &out->address); break;
+    case ND_OUT_UP: say(" "), print_hex(buffer, out->length); break;
+    case ND_OUT_HEARD: say(" %s", nd_message_text(out->code)); break;
+    case ND_OUT_DROPPED: say(" %u %s", out->code, nd_why_text(out->code)); break;
+    case ND_OUT_DUPLICATE:
+    case ND_OUT_ASSIGNED:
+    case ND_OUT_ENDED_ADDRESS:
+    case ND_OUT_ENDED_ROUTER:
+    case ND_OUT_FAILED: say(" %a", &out->address); break;
     case ND_OUT_LOST: print_lost(out); break;
-    case ND_OUT_REFUSED: print_refused(out); break;
+    case ND_OUT_REFUSED: print_reason(out); break;
     case ND_OUT_RESOLVED: print_resolved(out); break;
-    case ND_OUT_IGNORED: say("ignored %s", WORD(LIMITS, out->limit)); break;
+    case ND_OUT_IGNORED: say(" %s", nd_limit_text(out->limit)); break;
     default: require(false, "a record has a kind");
     }
     say("\n");
@@ -215,7 +192,7 @@ static size_t show_neighbours(uint64_t now)
     for (; nd_neighbour_at(&node, now, i, &row) == ND_DONE; i++) {
         say("%t neighbour %a ", now, &row.address);
         row.has_mac ? print_mac(&row.mac) : (void)putchar('-');
-        say(" %s %s\n", WORD(REACHABILITIES, row.state), row.is_router ? "router" : "host");
+        say(" %s %s\n", nd_reachability_text(row.state), row.is_router ? "router" : "host");
         require(nd_neighbour_of(&node, now, &row.address, &same) == ND_DONE && memcmp(&row, &same, sizeof row) == 0, "nd_neighbour_of");
     }
     return i;
@@ -226,7 +203,7 @@ static size_t show_routers(uint64_t now)
     nd_router_row row;
     size_t i = 0;
     for (; nd_router_at(&node, now, i, &row) == ND_DONE; i++)
-        say("%t router %a%l %s\n", now, &row.address, row.left, WORD(PREFERENCES, row.preference));
+        say("%t router %a%l %s\n", now, &row.address, row.left, nd_preference_text(row.preference));
     return i;
 }
 
@@ -244,7 +221,7 @@ static size_t show_addresses(uint64_t now)
     nd_address_row row;
     size_t i = 0;
     for (; nd_address_at(&node, now, i, &row) == ND_DONE; i++)
-        say("%t address %a %s%l%l\n", now, &row.address, WORD(STATES, row.state), row.preferred_left, row.valid_left);
+        say("%t address %a %s%l%l\n", now, &row.address, nd_state_text(row.state), row.preferred_left, row.valid_left);
     return i;
 }
 
@@ -433,7 +410,7 @@ static int32_t offer(uint64_t now)
     flags = word();
     row.on_link = strchr(flags, 'l') != NULL;
     row.autonomous = strchr(flags, 'a') != NULL;
-    return nd_offer(&node, now, &row);
+    return nd_advertise_prefix(&node, now, &row);
 }
 
 static int32_t route(uint64_t now)
@@ -445,7 +422,7 @@ static int32_t route(uint64_t now)
     row.hop = strcmp(hop, "direct") == 0 ? ND_HOP_DIRECT : ND_HOP_VIA;
     if (row.hop == ND_HOP_VIA)
         row.router = read_address(hop);
-    return nd_route(&node, now, &row);
+    return nd_add_route(&node, now, &row);
 }
 
 static int32_t send_packet(uint64_t now)
@@ -481,8 +458,10 @@ static void print_path(uint64_t now, int32_t status)
     case ND_DONE: say("path %a %a %m\n", &asked, &path.next_hop, &path.mac); break;
     case ND_WAITING: say("path %a %a -\n", &asked, &path.next_hop); break;
     case ND_NOTHING: say("path %a no-route\n", &asked); break;
-    case ND_REFUSED: print_refused(&(nd_out){.code = path.refusal, .limit = path.limit}), say("\n"); break;
-    default: require(false, "a question for a path has an answer");
+    default:
+        require(nd_refusal_of(status) != 0, "a question for a path has an answer");
+        say("%s", nd_kind_text(ND_OUT_REFUSED));
+        print_reason(&(nd_out){.code = nd_refusal_of(status), .limit = nd_limit_of(status)}), say("\n");
     }
     require(path.until >= now && (path.until == now || (status == ND_DONE && path.until <= nd_next_due(&node))), "the lease of a path");
 }
@@ -502,7 +481,7 @@ static int32_t clear(uint64_t now)
 
 static int32_t turn(uint64_t now)
 {
-    int32_t status = nd_turn(&node, now);
+    int32_t status = nd_pass(&node, now);
     require(status != ND_DONE || nd_next_due(&node) > now, "after a turn nothing is due");
     return status;
 }
@@ -533,7 +512,7 @@ static int32_t event(uint64_t now, const char *verb)
     if (strcmp(verb, "route") == 0)
         return route(now);
     if (strcmp(verb, "stop") == 0)
-        return nd_stop(&node, now);
+        return nd_stop_advertising(&node, now);
     if (strcmp(verb, "at") != 0 && strcmp(verb, "show") != 0)
         malformed();
     return turn(now);
@@ -580,8 +559,8 @@ static void answer(char *line)
         print_path(now, status);
         return;
     }
-    require(status == ND_DONE || status == ND_REFUSED, "an event is done or refused");
-    require((status == ND_REFUSED) == (kind == ND_OUT_REFUSED), "a refusal is the last record of its event");
+    require(status == ND_DONE || status == ND_NOTHING || nd_refusal_of(status) != 0, "an event is done or refused");
+    require((nd_refusal_of(status) != 0) == (kind == ND_OUT_REFUSED), "a refusal is the last record of its event");
     if (strcmp(verb, "show") == 0)
         show(now, word());
 }
