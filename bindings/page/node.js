@@ -11,7 +11,7 @@ const STRUCTURES = {
     router: 'left:u64 address:address preference:u32',
     prefix: 'left:u64 prefix:address bits:u32',
     address: 'preferred_left:u64 valid_left:u64 address:address state:u32 by_hand:u8',
-    path: 'until:u64 version:u64 next_hop:address mac:mac has_mac:u8 reserved:u8 hop:u32 state:u32 refusal:u32 limit:u32',
+    path: 'until:u64 version:u64 next_hop:address mac:mac has_mac:u8 reserved:u8 hop:u32 state:u32',
     own: 'address:address valid_lifetime:u32 preferred_lifetime:u32',
     server: 'left:u64 address:address',
     name: 'left:u64 length:u32 reserved:u32 text:name',
@@ -23,7 +23,7 @@ const STRUCTURES = {
     route: 'prefix:address router:address bits:u32 hop:u32',
 };
 const LAYOUTS = Object.fromEntries(Object.entries(STRUCTURES).map(([name, words]) => [name, layoutOf(words)]));
-const DONE = 0, NOTHING = 1, REFUSED = 2, NO_MEMORY = -1, INVALID = -3, PAST = -4;
+const DONE = 0, NOTHING = 1, WAITING = 2, NO_MEMORY = -1, INVALID = -3, PAST = -4;
 const OPTIONS_BYTES = 64, LONGEST_BYTES = 131072;
 
 // Returns the fields of a structure with their places, as C lays them out.

@@ -33,7 +33,7 @@ async function simulated(starts, delay, areLost) {
             if (!hosts[which] && starts[which] <= now) {
                 hosts[which] = await opened(module, { role: 'host', mac: PAIR_MAC, draws: `seed:${which + 1}`, start: starts[which] });
                 happened.push({ at: starts[which], which, kind: 'starts', text: 'starts' });
-            } else if (hosts[which]) hosts[which].call('nd_turn', now);
+            } else if (hosts[which]) hosts[which].call('nd_pass', now);
             if (hosts[which]) gather(which);
         }
     }

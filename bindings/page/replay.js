@@ -62,14 +62,14 @@ function replayed(node, own, frames, end) {
     const events = [];
     const gather = () => events.push(...node.records().map((it) => ({ at: Number(it.moment), kind: it.kind, text: recordText(it), frame: it.bytes })));
     for (const { at, frame } of frames) {
-        node.call('nd_turn', at);
+        node.call('nd_pass', at);
         gather();
         if (!passes(frame, own)) continue;
         events.push({ at, kind: 0, frame });
         node.receive(at, frame);
         gather();
     }
-    node.call('nd_turn', end);
+    node.call('nd_pass', end);
     gather();
     return events;
 }

@@ -146,8 +146,9 @@ function refusalText(record) {
 }
 
 // The text of a path, which no record has.
-function pathText(destination, status, path) {
-    if (status === REFUSED) return refusalText({ code: path.refusal, limit: path.limit });
+function pathText(node, destination, status, path) {
+    const code = node.nd.nd_refusal_of(status);
+    if (code) return refusalText({ code, limit: node.nd.nd_limit_of(status) });
     if (status === NOTHING) return `path ${addressText(destination)} no-route`;
     return `path ${addressText(destination)} ${addressText(path.next_hop)} ${path.has_mac ? mac(path.mac) : '-'}`;
 }
@@ -191,7 +192,7 @@ const ofAddress = (call) => (node, now, words) => {
 };
 
 const EVENTS = {
-    at: (node, now, words) => (words.end(), node.call('nd_turn', now)),
+    at: (node, now, words) => (words.end(), node.call('nd_pass', now)),
     rx: (node, now, words) => {
         const frame = words.hex();
         words.end();
@@ -206,7 +207,7 @@ const EVENTS = {
         const destination = words.address();
         words.end();
         const status = node.call('nd_resolve', now, node.place(destination), node.at);
-        node.answered = pathText(destination, status, node.read('path'));
+        node.answered = pathText(node, destination, status, node.read('path'));
         return status;
     },
     confirm: ofAddress('nd_confirm'),
@@ -239,15 +240,15 @@ const EVENTS = {
         const flags = words.flags('la');
         words.end();
         node.write('offer', { ...prefix, valid_lifetime, preferred_lifetime, on_link: hasLetter(flags, 'l'), autonomous: hasLetter(flags, 'a') });
-        return node.call('nd_offer', now, node.at);
+        return node.call('nd_advertise_prefix', now, node.at);
     },
     route: (node, now, words) => {
         const prefix = words.prefix(), hop = words.next(`${ADDRESS_EXPECTED}, or direct`);
         words.end();
         node.write('route', { ...prefix, ...(hop === 'direct' ? { hop: 1 } : { hop: 2, router: addressOf(hop) }) });
-        return node.call('nd_route', now, node.at);
+        return node.call('nd_add_route', now, node.at);
     },
-    stop: (node, now, words) => (words.end(), node.call('nd_stop', now)),
+    stop: (node, now, words) => (words.end(), node.call('nd_stop_advertising', now)),
 };
 
 // ---- a run
@@ -275,7 +276,7 @@ function answer(node, line) {
     if (status === INVALID) throw new Malformed('a value outside its range', USAGES[verb]);
     const records = node.records(), lines = records.map((it) => `${it.moment} ${recordText(it)}`);
     if (status === PAST) lines.push(`${now} refused past ${last}`);
-    if (verb === 'resolve' && status >= DONE) lines.push(`${now} ${node.answered}`);
+    if (verb === 'resolve' && status !== PAST) lines.push(`${now} ${node.answered}`);
     if (table && status !== PAST) {
         const rows = TABLES[table](node, now);
         lines.push(...rows.map((it) => `${now} ${it}`), `${now} end ${rows.length}`);

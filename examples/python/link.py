@@ -58,7 +58,7 @@ class Link:
         """Does what is due at a node, if it is still there and nothing else has done it."""
         node = self.nodes.get(mac)
         if node is not None and node.next_due() <= now:
-            node.turn(now)
+            node.pass_time(now)
             self.settle(mac, now)
 
     def settle(self, mac: nd.Mac, now: int) -> None:
@@ -100,8 +100,8 @@ def main(path: str) -> None:
     """Runs the link, and writes the capture."""
     link = Link()
     router = link.add(ROUTER, nd.Role.ROUTER)
-    router.offer(0, nd.Offer(PREFIX))
-    router.route(0, nd.Route(PREFIX))
+    router.advertise_prefix(0, nd.Offer(PREFIX))
+    router.add_route(0, nd.Route(PREFIX))
     router.advertise(0, nd.Advertising(min_interval=200, max_interval=600, lifetime=1800, hop_limit=64))
     for mac in (A, B, C):
         link.add(mac)

@@ -18,8 +18,10 @@ Row = TypeVar("Row")
 
 
 class Outcome(enum.Enum):
-    """What an event did. `REFUSED`: time has passed up to it, and nothing else has changed; the newest record, `Refused`, says why."""
+    """What an event did. `NO_ROUTE`: the packet of `send` has no next hop, and is lost. `REFUSED`: time has passed up to it, and nothing else has
+    changed; the newest record, `Refused`, says why."""
     DONE = 0
+    NO_ROUTE = 1
     REFUSED = 2
 
 
@@ -61,16 +63,16 @@ class Node:
         return library.call("nd_last_moment", self._node)
 
     def next_due(self) -> int:
-        """Returns the earliest moment at which something is due, ms: call `turn` then. 2^64 - 1 if the node is closed."""
+        """Returns the earliest moment at which something is due, ms: call `pass_time` then. 2^64 - 1 if the node is closed."""
         return library.call("nd_next_due", self._node)
 
     def lease_version(self) -> int:
         """Returns the version of all leases: a lease holds while this is the version of its path. 0 if the node is closed."""
         return library.call("nd_lease_version", self._node)
 
-    def turn(self, now: int) -> Outcome:
+    def pass_time(self, now: int) -> Outcome:
         """Does all that is due up to `now` (RFC 4861, 6.2.4, 6.2.6, 6.3.5, 6.3.7, 7.2.2, 7.3.3; RFC 4862, 5.4 and 5.5.4)."""
-        return self._event("nd_turn", now)
+        return self._event("nd_pass", now)
 
     # ---- events
 
@@ -124,12 +126,12 @@ class Node:
         """Returns where packets to `destination` go, for a stack that keeps and sends them itself (RFC 4861, 5.2, 7.2.2 and 7.3.3). It counts as a
         use of the next hop, and one whose link-layer address is not known is solicited: `Resolved` or `Failed` is reported then."""
         path = raw.nd_path()
-        status = checked(library.call("nd_resolve", self._node, moment_of(now), raw_address(destination), path))
-        if status == Status.NOTHING:
-            return NotResolved()
-        if status == Status.REFUSED:
-            return NotResolved(Refusal(path.refusal), Limit(path.limit) if path.limit else None)
-        return Path.of(path)
+        status = library.call("nd_resolve", self._node, moment_of(now), raw_address(destination), path)
+        refusal = library.call("nd_refusal_of", status)
+        if refusal:
+            limit = library.call("nd_limit_of", status)
+            return NotResolved(Refusal(refusal), Limit(limit) if limit else None)
+        return NotResolved() if checked(status) == Status.NOTHING else Path.of(path)
 
     # ---- events at a router; a host refuses them as WRONG_ROLE
 
@@ -137,17 +139,17 @@ class Node:
         """Begins to advertise, or changes what is advertised (RFC 4861, 6.2.4)."""
         return self._event("nd_advertise", now, settings.raw())
 
-    def offer(self, now: int, offer: Offer) -> Outcome:
+    def advertise_prefix(self, now: int, offer: Offer) -> Outcome:
         """Advertises a prefix, from the next advertisement on (RFC 4861, 6.2.1)."""
-        return self._event("nd_offer", now, offer.raw())
+        return self._event("nd_advertise_prefix", now, offer.raw())
 
-    def route(self, now: int, route: Route) -> Outcome:
+    def add_route(self, now: int, route: Route) -> Outcome:
         """Puts a static route (RFC 4861, 5.2)."""
-        return self._event("nd_route", now, route.raw())
+        return self._event("nd_add_route", now, route.raw())
 
-    def stop(self, now: int) -> Outcome:
+    def stop_advertising(self, now: int) -> Outcome:
         """Ends advertising, with a last advertisement of lifetime 0 (RFC 4861, 6.2.5)."""
-        return self._event("nd_stop", now)
+        return self._event("nd_stop_advertising", now)
 
     # ---- what it reports
 
@@ -168,11 +170,11 @@ class Node:
             return self.poll_one()
         return record_of(out, self._buffer.raw[:out.length]) if status == Status.DONE else None
 
-    # ---- what it knows: questions, which change nothing. If an event happens while rows are read, one may be missed or seen twice.
+    # ---- what it knows: questions, which change nothing
 
     def neighbours(self, now: int) -> Iterator[Neighbour]:
         """Returns the neighbours, in the order of their addresses (RFC 4861, 5.1)."""
-        return self._rows("nd_neighbour_at", now, raw.nd_neighbour_row, Neighbour.of)
+        return self._rows("nd_neighbours", now, raw.nd_neighbour_row, Neighbour.of)
 
     def neighbour(self, now: int, address: AddressLike) -> Optional[Neighbour]:
         """Returns the neighbour of an address, or None."""
@@ -181,35 +183,35 @@ class Node:
 
     def routers(self, now: int) -> Iterator[Router]:
         """Returns the default routers, in the order in which they entered the list (RFC 4861, 5.1)."""
-        return self._rows("nd_router_at", now, raw.nd_router_row, Router.of)
+        return self._rows("nd_routers", now, raw.nd_router_row, Router.of)
 
     def prefixes(self, now: int) -> Iterator[Prefix]:
         """Returns the prefixes on the link, in the order in which they entered the table (RFC 4861, 5.1)."""
-        return self._rows("nd_prefix_at", now, raw.nd_prefix_row, Prefix.of)
+        return self._rows("nd_prefixes", now, raw.nd_prefix_row, Prefix.of)
 
     def addresses(self, now: int) -> Iterator[Address]:
         """Returns the node's own addresses, in the order of addresses (RFC 4862, 5.3, 5.4 and 5.5.3)."""
-        return self._rows("nd_address_at", now, raw.nd_address_row, Address.of)
+        return self._rows("nd_addresses", now, raw.nd_address_row, Address.of)
 
     def servers(self, now: int) -> Iterator[Server]:
         """Returns the DNS servers, in the order in which they entered the table (RFC 8106, 5.1 and 6.1)."""
-        return self._rows("nd_server_at", now, raw.nd_server_row, Server.of)
+        return self._rows("nd_servers", now, raw.nd_server_row, Server.of)
 
     def names(self, now: int) -> Iterator[Name]:
         """Returns the DNS search names, in the order in which they entered the table (RFC 8106, 5.2 and 6.1)."""
-        return self._rows("nd_name_at", now, raw.nd_name_row, Name.of)
+        return self._rows("nd_names", now, raw.nd_name_row, Name.of)
 
     def redirects(self, now: int) -> Iterator[Redirect]:
         """Returns the Redirects in force, the newest first (RFC 4861, 8.3)."""
-        return self._rows("nd_redirect_at", now, raw.nd_redirect_row, Redirect.of)
+        return self._rows("nd_redirects", now, raw.nd_redirect_row, Redirect.of)
 
     def offers(self, now: int) -> Iterator[Offer]:
         """Returns the offers of a router, in the order in which each was first put."""
-        return self._rows("nd_offer_at", now, raw.nd_offer_row, Offer.of)
+        return self._rows("nd_offers", now, raw.nd_offer_row, Offer.of)
 
     def routes(self, now: int) -> Iterator[Route]:
         """Returns the static routes of a router, in the order in which each was first put."""
-        return self._rows("nd_route_at", now, raw.nd_route_row, Route.of)
+        return self._rows("nd_routes", now, raw.nd_route_row, Route.of)
 
     def parameters(self, now: int) -> Parameters:
         """Returns the parameters of the link (RFC 4861, 6.3.2)."""
@@ -231,15 +233,22 @@ class Node:
     # ---- calls
 
     def _event(self, name: str, now: int, *arguments: Any) -> Outcome:
-        status = checked(library.call(name, self._node, moment_of(now), *arguments))
-        return Outcome.REFUSED if status == Status.REFUSED else Outcome.DONE
+        status = library.call(name, self._node, moment_of(now), *arguments)
+        if library.call("nd_refusal_of", status):
+            return Outcome.REFUSED
+        return Outcome.NO_ROUTE if checked(status) == Status.NOTHING else Outcome.DONE
 
     def _question(self, name: str, now: int, *arguments: Any) -> bool:
         """Returns true if the row was written."""
         return checked(library.call(name, self._node, moment_of(now), *arguments)) == Status.DONE
 
     def _rows(self, name: str, now: int, kind: Type[ctypes.Structure], row_of: Callable[[Any], Row]) -> Iterator[Row]:
-        index, row = 0, kind()
-        while self._question(name, now, index, row):
-            yield row_of(row)
-            index += 1
+        room, count = 64, ctypes.c_size_t()
+        while True:
+            rows = (kind * room)()
+            try:
+                checked(library.call(name, self._node, moment_of(now), rows, room, count))
+            except NoRoom:
+                room *= 8
+                continue
+            return iter([row_of(row) for row in rows[:count.value]])

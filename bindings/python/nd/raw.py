@@ -29,11 +29,10 @@ class Numbers(IntEnum):
 
 
 class Status(Numbers):
-    """What a call returns. Below 0 it did not take place, and is raised as an exception of errors.py."""
+    """What a call returns, if it is not refused. Below 0 it did not take place, and is raised as an exception of errors.py."""
     DONE = 0
     NOTHING = 1
-    REFUSED = 2
-    WAITING = 3
+    WAITING = 2
     NO_MEMORY = -1
     CLOSED = -2
     INVALID = -3
@@ -175,9 +174,13 @@ class nd_next_hop_row(Structure):
     _fields_ = [("address", nd_addr), ("hop", c_uint32), ("reserved", c_uint32)]
 
 
+class nd_message(Structure):
+    _fields_ = [("source", nd_addr), ("destination", nd_addr), ("hop_limit", c_uint8), ("checksum_good", c_uint8), ("reserved", c_uint16)]
+
+
 class nd_path(Structure):
     _fields_ = [("until", c_uint64), ("version", c_uint64), ("next_hop", nd_addr), ("mac", nd_mac), ("has_mac", c_uint8),
-                ("reserved", c_uint8), ("hop", c_uint32), ("state", c_uint32), ("refusal", c_uint32), ("limit", c_uint32)]
+                ("reserved", c_uint8), ("hop", c_uint32), ("state", c_uint32)]
 
 
 class nd_advertising(Structure):
@@ -329,8 +332,11 @@ FUNCTIONS = {
     "nd_close": (None, [_NODE]),
     "nd_last_moment": (c_uint64, [_NODE]),
     "nd_next_due": (c_uint64, [_NODE]),
-    "nd_turn": (c_int32, [*_EVENT]),
+    "nd_refusal_of": (c_uint32, [c_int32]),
+    "nd_limit_of": (c_uint32, [c_int32]),
+    "nd_pass": (c_int32, [*_EVENT]),
     "nd_receive": (c_int32, [*_EVENT, c_char_p, c_size_t]),
+    "nd_receive_message": (c_int32, [*_EVENT, POINTER(nd_message), c_char_p, c_size_t]),
     "nd_send": (c_int32, [*_EVENT, _ADDRESS, _ADDRESS, c_uint8, c_char_p, c_size_t]),
     "nd_confirm": (c_int32, [*_EVENT, _ADDRESS]),
     "nd_confirm_to": (c_int32, [*_EVENT, _ADDRESS, c_uint64]),
@@ -342,10 +348,19 @@ FUNCTIONS = {
     "nd_resolve": (c_int32, [*_EVENT, _ADDRESS, POINTER(nd_path)]),
     "nd_lease_version": (c_uint64, [_NODE]),
     "nd_advertise": (c_int32, [*_EVENT, POINTER(nd_advertising)]),
-    "nd_offer": (c_int32, [*_EVENT, POINTER(nd_offer_row)]),
-    "nd_route": (c_int32, [*_EVENT, POINTER(nd_route_row)]),
-    "nd_stop": (c_int32, [*_EVENT]),
+    "nd_advertise_prefix": (c_int32, [*_EVENT, POINTER(nd_offer_row)]),
+    "nd_add_route": (c_int32, [*_EVENT, POINTER(nd_route_row)]),
+    "nd_stop_advertising": (c_int32, [*_EVENT]),
     "nd_poll": (c_int32, [_NODE, POINTER(nd_out), c_char_p, c_size_t]),
+    "nd_neighbours": (c_int32, [*_EVENT, POINTER(nd_neighbour_row), c_size_t, POINTER(c_size_t)]),
+    "nd_routers": (c_int32, [*_EVENT, POINTER(nd_router_row), c_size_t, POINTER(c_size_t)]),
+    "nd_prefixes": (c_int32, [*_EVENT, POINTER(nd_prefix_row), c_size_t, POINTER(c_size_t)]),
+    "nd_addresses": (c_int32, [*_EVENT, POINTER(nd_address_row), c_size_t, POINTER(c_size_t)]),
+    "nd_servers": (c_int32, [*_EVENT, POINTER(nd_server_row), c_size_t, POINTER(c_size_t)]),
+    "nd_names": (c_int32, [*_EVENT, POINTER(nd_name_row), c_size_t, POINTER(c_size_t)]),
+    "nd_redirects": (c_int32, [*_EVENT, POINTER(nd_redirect_row), c_size_t, POINTER(c_size_t)]),
+    "nd_offers": (c_int32, [*_EVENT, POINTER(nd_offer_row), c_size_t, POINTER(c_size_t)]),
+    "nd_routes": (c_int32, [*_EVENT, POINTER(nd_route_row), c_size_t, POINTER(c_size_t)]),
     "nd_neighbour_at": (c_int32, [*_ROW, POINTER(nd_neighbour_row)]),
     "nd_neighbour_of": (c_int32, [*_EVENT, _ADDRESS, POINTER(nd_neighbour_row)]),
     "nd_router_at": (c_int32, [*_ROW, POINTER(nd_router_row)]),

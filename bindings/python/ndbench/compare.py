@@ -151,7 +151,7 @@ def first_moment(setup: Setup, purpose: Purpose) -> int:
     """Returns when a node that hears nothing sends its first message for this purpose, in milliseconds since its start."""
     with setup.opened() as node:
         while node.next_due() < SETTLED:
-            node.turn(node.next_due())
+            node.pass_time(node.next_due())
             for record in node.poll():
                 message = message_of(record.moment, record.frame, 0) if isinstance(record, nd.Frame) else None
                 if message is not None and message.purpose is purpose:
@@ -188,9 +188,9 @@ class Comparison:
     def pass_time(self, now: int) -> None:
         """Lets time pass, one due moment after another, so that a neighbour is confirmed before it fails."""
         while self.node.next_due() < now:
-            self.node.turn(self.node.next_due())
+            self.node.pass_time(self.node.next_due())
             self.take_sent()
-        self.node.turn(now)
+        self.node.pass_time(now)
         self.take_sent()
 
     def finish(self) -> None:

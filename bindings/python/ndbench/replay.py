@@ -87,9 +87,9 @@ class Replay:
     def pass_time(self, moment: int) -> Iterator[Event]:
         """Lets time pass. What is due comes one moment after another, so that a caller may look at the tables between."""
         while self.node.next_due() < moment:
-            self.node.turn(self.node.next_due())
+            self.node.pass_time(self.node.next_due())
             yield from self.node.poll()
-        self.node.turn(moment)
+        self.node.pass_time(moment)
         yield from self.node.poll()
 
     def rows(self) -> Iterator[str]:

@@ -29,8 +29,8 @@ class Setup:
         """Returns the node, open at its start. A router with offers advertises them, and has a route to each on the link."""
         node = nd.Node(self.options)
         for prefix in self.offers:
-            node.offer(self.options.start, nd.Offer(prefix))
-            node.route(self.options.start, nd.Route(prefix))
+            node.advertise_prefix(self.options.start, nd.Offer(prefix))
+            node.add_route(self.options.start, nd.Route(prefix))
         if self.offers:
             node.advertise(self.options.start, USUAL)
         return node

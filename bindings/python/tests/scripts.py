@@ -63,10 +63,10 @@ class Runner:
     # ---- events
 
     def do_at(self, now: int) -> None:
-        self.node.turn(now)
+        self.node.pass_time(now)
 
     def do_show(self, now: int, _table: str) -> None:
-        self.node.turn(now)
+        self.node.pass_time(now)
 
     def do_rx(self, now: int, digits: str) -> None:
         self.node.receive(now, payload_of(digits))
@@ -101,14 +101,14 @@ class Runner:
 
     def do_prefix(self, now: int, prefix: str, valid: str, preferred: str, flags: str) -> None:
         network = IPv6Network(prefix, strict=False)
-        self.node.offer(now, nd.Offer(network, number_or(valid, 2592000), number_or(preferred, 604800), "l" in flags, "a" in flags))
+        self.node.advertise_prefix(now, nd.Offer(network, number_or(valid, 2592000), number_or(preferred, 604800), "l" in flags, "a" in flags))
 
     def do_route(self, now: int, prefix: str, hop: str) -> None:
         router = None if hop == "direct" else IPv6Address(hop)
-        self.node.route(now, nd.Route(IPv6Network(prefix, strict=False), router))
+        self.node.add_route(now, nd.Route(IPv6Network(prefix, strict=False), router))
 
     def do_stop(self, now: int) -> None:
-        self.node.stop(now)
+        self.node.stop_advertising(now)
 
     def path_text(self, destination: str, path: object) -> str:
         """Returns what a line says of the answer to `resolve`."""

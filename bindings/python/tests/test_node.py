@@ -47,7 +47,7 @@ def host_line(record: nd.Record) -> str:
 def host_lines(node: nd.Node, name: str) -> Iterator[str]:
     """Passes the events of an example to a node, and returns the lines of its records."""
     for moment, frame in example_events(name):
-        node.turn(moment) if frame is None else node.receive(moment, frame)
+        node.pass_time(moment) if frame is None else node.receive(moment, frame)
         yield from map(host_line, node.poll())
 
 
@@ -71,15 +71,15 @@ class Examples(unittest.TestCase):
     def test_a_router(self) -> None:
         """The events before the frames are those of examples/c/router.c."""
         with opened(nd.Role.ROUTER, ROUTER_MAC) as node:
-            node.offer(0, nd.Offer(IPv6Network("2001:db8::/64")))
-            node.route(0, nd.Route(IPv6Network("2001:db8::/64")))
-            node.route(0, nd.Route(IPv6Network("2001:db8:1::/64"), IPv6Address("fe80::2")))
+            node.advertise_prefix(0, nd.Offer(IPv6Network("2001:db8::/64")))
+            node.add_route(0, nd.Route(IPv6Network("2001:db8::/64")))
+            node.add_route(0, nd.Route(IPv6Network("2001:db8:1::/64"), IPv6Address("fe80::2")))
             node.advertise(0, nd.Advertising(200, 600, 1800, hop_limit=64))
             records: List[nd.Record] = list(node.poll())
             for moment, frame in example_events("router.hex"):
-                node.turn(moment) if frame is None else node.receive(moment, frame)
+                node.pass_time(moment) if frame is None else node.receive(moment, frame)
                 records += node.poll()
-            node.stop(node.last_moment())
+            node.stop_advertising(node.last_moment())
             records += node.poll()
         self.assertEqual([host_line(record) for record in records if isinstance(record, nd.Frame)], example("router.txt").splitlines())
 
@@ -102,7 +102,7 @@ class Frames(unittest.TestCase):
         packet = bytes.fromhex("6000000000001140") + IPv6Address("fe80::9").packed + IPv6Address("ff02::1").packed + bytes(4000)
         packet = packet[:4] + (4000).to_bytes(2, "big") + packet[6:]
         with opened(nd.Role.HOST, HOST_MAC) as node:
-            node.turn(1000)
+            node.pass_time(1000)
             list(node.poll())
             node.receive(1000, bytes.fromhex("333300000001" "020000000009" "86dd") + packet)
             self.assertEqual(list(node.poll()), [nd.Up(1000, packet)])
@@ -128,13 +128,13 @@ class Errors(unittest.TestCase):
     def test_a_moment_before_the_last_one(self) -> None:
         with opened(nd.Role.HOST, HOST_MAC, start=500) as node:
             self.assertEqual(node.last_moment(), 500)
-            for call in (node.turn, node.parameters):
+            for call in (node.pass_time, node.parameters):
                 with self.assertRaises(nd.Past):
                     call(499)
 
     def test_numbers_out_of_range_are_not_cut(self) -> None:
         with opened(nd.Role.HOST, HOST_MAC) as node:
-            wrong = [lambda: node.turn(-1), lambda: node.turn(1 << 62), lambda: node.turn((1 << 64) + 5), lambda: node.clear(0, (1 << 32) + 1),
+            wrong = [lambda: node.pass_time(-1), lambda: node.pass_time(1 << 62), lambda: node.pass_time((1 << 64) + 5), lambda: node.clear(0, (1 << 32) + 1),
                      lambda: node.send(0, "::1", "::2", 256), lambda: node.confirm_to(0, "::1", 1 << 64), lambda: node.add_address(0, "::5", 1 << 32),
                      lambda: nd.hear(b"", 1 << 32), lambda: node.resolve(0, "1.2.3.4"), lambda: nd.Mac("02:00:00:00:00"),
                      lambda: nd.Mac(b"12345"), lambda: nd.Node(nd.Options(nd.Role.HOST, HOST_MAC, transmits=256)),
@@ -150,7 +150,7 @@ class Errors(unittest.TestCase):
         node.close()
         node.close()
         with self.assertRaises(nd.Closed):
-            node.turn(0)
+            node.pass_time(0)
         with self.assertRaises(nd.Closed):
             list(node.poll())
         self.assertEqual(node.last_moment(), FOREVER)
@@ -172,7 +172,7 @@ class Errors(unittest.TestCase):
 
     def test_a_host_refuses_what_a_router_does(self) -> None:
         with opened(nd.Role.HOST, HOST_MAC) as node:
-            self.assertIs(node.stop(5), nd.Outcome.REFUSED)
+            self.assertIs(node.stop_advertising(5), nd.Outcome.REFUSED)
             self.assertEqual(list(node.poll())[-1], nd.Refused(5, nd.Refusal.WRONG_ROLE))
             self.assertIs(node.send(5, "2001:db8::1", "fe80::9", 17), nd.Outcome.REFUSED)
             self.assertEqual(list(node.poll()), [nd.Refused(5, nd.Refusal.NOT_OURS, source=IPv6Address("2001:db8::1"))])
@@ -180,7 +180,7 @@ class Errors(unittest.TestCase):
 
     def test_a_full_table_is_named(self) -> None:
         with opened(nd.Role.HOST, HOST_MAC, limits=nd.Limits(addresses=1)) as node:
-            node.turn(1000)
+            node.pass_time(1000)
             self.assertIs(node.add_address(1000, "2001:db8::5"), nd.Outcome.REFUSED)
             self.assertEqual(list(node.poll())[-1], nd.Refused(1000, nd.Refusal.FULL, limit=nd.Limit.ADDRESSES))
             self.assertEqual(node.counts(1000).limits.addresses, 1)
@@ -194,7 +194,7 @@ class Paths(unittest.TestCase):
         answer = bytes.fromhex("3456789abcde02000000000186dd6000000000203afffe80000000000000000000fffe000001fe80000000000000365678fffe9abcde"
                                "88002f4ee0000000fe80000000000000000000fffe0000010201020000000001")
         with opened(nd.Role.HOST, HOST_MAC) as node:
-            node.turn(1000)
+            node.pass_time(1000)
             list(node.poll())
             waiting = node.resolve(1000, neighbour)
             self.assertIsInstance(waiting, nd.Path)

@@ -44,12 +44,13 @@ def numbers_of(values: Dict[str, int]) -> Dict[str, int]:
 
 
 def prototypes_of(code: str) -> Dict[str, Tuple[str, List[str]]]:
-    """Returns the type of the result, and those of the arguments, of each function of the library."""
+    """Returns the type of the result, and those of the arguments, of each function of the library. The memory functions are the program's."""
     found = {}
     for result, name, arguments in re.findall(r"^(\w+) (nd_\w+)\(([^)]*)\);", re.sub(r"\bsize_t\b", SIZE_T, code), re.M | re.S):
         words = [re.sub(r"\bconst ", "", " ".join(argument.split())) for argument in arguments.split(",")]
         types = [re.sub(r"\w+$", "", word).strip() for word in words]
-        found[name] = (result, [] if arguments.strip() == "void" else types)
+        if name != "nd_free":
+            found[name] = (result, [] if arguments.strip() == "void" else types)
     return found
 
 
@@ -57,7 +58,8 @@ def c_name(kind: object) -> str:
     """Returns the name in C of a type of ctypes."""
     if kind in C_NAMES:
         return C_NAMES[kind]  # type: ignore[index]
-    return f"{kind._type_.__name__} *"  # type: ignore[attr-defined]
+    pointed = kind._type_  # type: ignore[attr-defined]
+    return f"{C_NAMES.get(pointed, pointed.__name__)} *"
 
 
 class Numbers(unittest.TestCase):

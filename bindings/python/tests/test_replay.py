@@ -197,6 +197,6 @@ class Interfaces(unittest.TestCase):
         """The router of examples/router.hex, but for its second route: its first advertisement is due when its address is assigned."""
         setup = Setup(nd.Options(nd.Role.ROUTER, "02:00:00:00:00:01", draws=nd.Word(0)), (IPv6Network("2001:db8::/64"),))
         with setup.opened() as node:
-            node.turn(1000)
+            node.pass_time(1000)
             sent = [record.frame.hex() for record in node.poll() if isinstance(record, nd.Frame)]
         self.assertEqual(sent, [line.split(" ")[2] for line in example("router.txt").splitlines()[:2]])
