@@ -1,255 +1,150 @@
-//! IPv6 Neighbor Discovery for one Ethernet interface, as a host or as a router, over the library `libnd_c.a`. `nd.h` says what each call does; this
-//! crate gives them Rust's types. It has no dependencies.
+//! IPv6 Neighbor Discovery for one Ethernet interface, as a host or as a router (RFC 4861; RFC 4862, section 5; RFC 8106; RFC 4191 without its route
+//! option), over the library `libnd_c.a`. It has no dependencies.
 //!
-//! The program passes frames and moments in, and takes reports out:
+//! A [`Node`] keeps the tables of Neighbor Discovery, decides what is sent and when, and says why a frame was dropped. It has no clock, no socket, no
+//! thread and no callback. The program passes frames and moments in, and takes reports out: frames to send, packets for the upper layer, and what
+//! happened. [`hear`] says what a frame is, without a node.
 //!
 //! ```no_run
-//! use nd::{Node, Options, Output};
+//! use nd::{Draws, Error, Node, Options, Output};
+//! use std::time::Duration;
 //!
+//! # fn clock_ms() -> u64 { 0 }
+//! # fn random_u64() -> u64 { 1 }
 //! # fn transmit(frame: &[u8]) {}
-//! # fn example(frame: &[u8]) -> Result<(), nd::Error> {
-//! let mut node = Node::open(&Options::host([0x34, 0x56, 0x78, 0x9a, 0xbc, 0xde], 0, 1))?;
-//! node.receive(3000, frame)?;
-//! for report in node.poll() {
-//!     match report.output {
-//!         Output::Frame(frame) => transmit(&frame),
-//!         other => println!("{} {other:?}", report.moment),
+//! # fn deliver(packet: &[u8]) {}
+//! # fn wait_for_frame(longest: Duration) -> Option<Vec<u8>> { None }
+//! # fn example() -> Result<(), Error> {
+//! let mac = [0x34, 0x56, 0x78, 0x9a, 0xbc, 0xde];
+//! let mut node = Node::open(Options::host(mac, clock_ms(), Draws::Seed(random_u64())))?;
+//! loop {
+//!     for report in node.poll() {
+//!         match report.output {
+//!             Output::Frame(frame) => transmit(&frame),
+//!             Output::Up(packet) => deliver(&packet),
+//!             other => println!("{} {other:?}", report.moment),
+//!         }
+//!     }
+//!     let wait = Duration::from_millis(node.next_due().saturating_sub(clock_ms()));
+//!     let event = match wait_for_frame(wait) {
+//!         Some(frame) => node.receive(clock_ms(), &frame),
+//!         None => node.pass(clock_ms()),
+//!     };
+//!     match event {
+//!         Ok(()) => {}
+//!         Err(Error::Refused(refusal)) => eprintln!("refused: {refusal}"),
+//!         Err(Error::NoMemory) => {} // the frame is as if the link had lost it
+//!         Err(error) => return Err(error),
 //!     }
 //! }
-//! for address in node.addresses(3000)? {
-//!     println!("{} {:?}", address.address, address.state);
-//! }
-//! let due = node.next_due();
-//! # Ok(())
 //! # }
 //! ```
 //!
-//! What the caller owes: moments never decrease; only frames to the interface's own address and to multicast addresses are passed, and none that the
-//! interface itself sent; and to a router, of the frames to multicast addresses only those with ICMPv6 of types 133 to 137.
+//! # Time
+//!
+//! A moment is a number of milliseconds from a beginning of the caller's choice, a `u64` below [`MOMENT_LIMIT`]. Moments of one node never decrease.
+//! Use a clock that is never set back, not the time of day. A length of time is a [`Duration`](std::time::Duration). Lengths that a node returns are
+//! whole milliseconds or whole seconds. One that a node is passed is a whole number of its unit, else [`Error::Invalid`] is returned; only `least` of
+//! [`Node::confirm_to`] is rounded up. `None` stands for a lifetime without an end, and for a field of an advertisement that is unspecified.
+//!
+//! A call with a moment `now` first does all that is due up to `now`, in the order of its moments, and reports it with the moment at which it was
+//! due. A jump costs what is due in it: a caller that passes nanoseconds seems to hang.
+//!
+//! # Frames
+//!
+//! Frames are passed from the Ethernet destination on, without a VLAN tag and without a frame check sequence. The node does not look at Ethernet
+//! addresses, but for [`Policies::unicast`]. The caller passes frames to the interface's own address and to multicast addresses, and no others, and
+//! never one that the interface itself sent (RFC 4862, 5.4.3). To a router it passes a frame to a multicast address only if that carries ICMPv6 of
+//! types 133 to 137. The ICMPv6 checksum is in the bytes. The interface has to receive 33:33:00:00:00:01, a router also 33:33:00:00:00:02, and for
+//! each address of [`Node::addresses`] 33:33:ff and its last three bytes (RFC 2464, 7), before detection begins (RFC 4862, 5.4.2); or all multicast.
+//!
+//! # Memory
+//!
+//! With the feature `memory`, the default, the crate defines the library's memory functions `nd_alloc`, `nd_realloc` and `nd_free` over
+//! [`std::alloc`]. Without it the program defines them, as `nd.h` says. A call that is refused memory returns [`Error::NoMemory`].
+//!
+//! # Versions
+//!
+//! Types to which a later minor version of the library may add are `#[non_exhaustive]`. A number that this version does not know is a value `Other`.
+//! `nd.h` says more of each call, and what is proved of the library.
 #![deny(unsafe_op_in_unsafe_fn)]
+#![warn(missing_docs)]
 
+mod error;
+mod header;
+mod hear;
 #[cfg(feature = "memory")]
 mod memory;
 mod node;
 mod numbers;
+mod options;
 mod output;
-pub mod raw;
+mod raw;
+mod router;
 mod rows;
+mod time;
 
-pub use node::{Node, Reports, Rows};
-pub use numbers::{Clearable, Limit, Loss, Preference, Reachability, State, Why};
-pub use output::{Output, Refusal, Report};
-pub use raw::nd_advertising as Advertising;
-pub use raw::nd_counts_row as Counts;
-pub use raw::nd_heard as Heard;
-pub use raw::nd_limits as Limits;
-pub use raw::nd_offer_row as Offer;
-pub use raw::nd_parameters_row as Parameters;
-pub use rows::{Address, Hop, Name, Neighbour, OwnAddress, Path, Prefix, Redirect, Resolution, Route, Router, Server};
+pub use error::{Error, Refusal};
+pub use header::Header;
+pub use hear::{hear, Heard, Hearing, Message, Packet, RouterAdvertisement};
+pub use node::{Node, Reports};
+pub use numbers::{Clearable, Limit, Loss, MessageType, Preference, Reachability, State, Why};
+pub use options::{Draws, Limits, Options, Policies, Role};
+pub use output::{Output, Report};
+pub use router::{Advertising, Offer, Route};
+pub use rows::{Address, Counts, Hop, Name, Neighbour, OwnAddress, Parameters, Path, Prefix, Redirect, Router, Rows, Server};
 
 /// Moments are below it.
-pub const MOMENT_LIMIT: u64 = 1 << 62;
+///
+/// ```
+/// # let mut node = nd::Node::open(nd::Options::host([2, 0, 0, 0, 0, 1], 0, nd::Draws::Seed(1)))?;
+/// assert_eq!(node.pass(nd::MOMENT_LIMIT), Err(nd::Error::Invalid));
+/// # Ok::<(), nd::Error>(())
+/// ```
+pub const MOMENT_LIMIT: u64 = raw::ND_MOMENT_LIMIT;
 
-/// What a node is.
-#[derive(Clone, Copy, Debug, PartialEq, Eq)]
-pub enum Role {
-    Host,
-    Router,
-}
-
-impl Role {
-    fn number(self) -> u32 {
-        match self {
-            Role::Host => 0,
-            Role::Router => 1,
-        }
-    }
-}
-
-/// Where a node's random words are from.
-#[derive(Clone, Copy, Debug, PartialEq, Eq)]
-pub enum Draws {
-    /// PCG32 with this seed. Take it from the system's entropy, so that machines that start together do not send together.
-    Seed(u64),
-    /// Each word is this one: for tests.
-    Word(u32),
-}
-
-/// What a node does on a link that isn't trusted, each where it is asked for.
-#[derive(Clone, Copy, Debug, Default, PartialEq, Eq)]
-pub struct Policies {
-    /// A message is taken in part where a table has no room for all of it, and none is refused for a limit (RFC 8106, 5.3.1). Of a Router Advertisement what
-    /// has room is taken, in order, and what has none is passed over: the router, a prefix on the link, an address that would form, a server, a search name.
-    /// A refresh or a removal never is. A link-layer address that would need a new neighbour where the cache is full makes no entry. A solicitation whose
-    /// asker gets no entry is answered to the link-layer address that it gives, unless that is a group's, and isn't answered otherwise.
-    /// `Output::Ignored` reports each limit of which a part was passed over.
-    pub parts: bool,
-    /// Where a message gives the link-layer address of a new neighbour, the cache is full, and none is STALE, the INCOMPLETE neighbour that was asked for
-    /// longest fails instead of a refusal, and the answer to a solicitation is no use of the asker's entry (RFC 6583, 7).
-    pub speakers: bool,
-    /// Of a Router Advertisement, a Cur Hop Limit below 32, a Reachable Time outside 1,000 to 3,600,000 ms and a Retrans Timer outside 100 to 30,000 ms are
-    /// read as 0, unspecified (RFC 4861, 4.2).
-    pub timers: bool,
-    /// `self`: a message whose source is one of the node's assigned addresses is dropped, and so is a packet in transit whose source is an address of its
-    /// own. A Source or Target Link-Layer Address that is a group's, zeros or the node's own is passed over, as if the option weren't there.
-    pub own: bool,
-    /// A router sends on only packets whose frame has its own address as the Ethernet destination, and drops others that aren't for it. At a host it has no
-    /// effect.
-    pub unicast: bool,
-}
-
-impl Policies {
-    /// Returns all policies, for a link that isn't trusted.
-    pub fn robust() -> Policies {
-        Policies { parts: true, speakers: true, timers: true, own: true, unicast: true }
-    }
-
-    fn bits(self) -> u32 {
-        let [parts, speakers, timers, own, unicast] = [self.parts, self.speakers, self.timers, self.own, self.unicast].map(u32::from);
-        parts | speakers << 1 | timers << 2 | own << 3 | unicast << 4
-    }
-}
-
-/// How a node is opened.
-#[derive(Clone, Debug, PartialEq, Eq)]
-pub struct Options {
-    pub role: Role,
-    /// The interface's own address.
-    pub mac: [u8; 6],
-    /// The moment of the start, in milliseconds.
-    pub start: u64,
-    pub draws: Draws,
-    /// DupAddrDetectTransmits (RFC 4862, 5.1), 1 to 8.
-    pub transmits: u8,
-    /// How many rows the tables have at most. `Limits::default()` are the usual numbers.
-    pub limits: Limits,
-    pub policies: Policies,
-}
-
-impl Options {
-    /// Returns the options of a host with the usual limits and no policy.
-    pub fn host(mac: [u8; 6], start: u64, seed: u64) -> Options {
-        Options { role: Role::Host, mac, start, draws: Draws::Seed(seed), transmits: 1, limits: Limits::default(), policies: Policies::default() }
-    }
-
-    /// Returns the options of a router with the usual limits and no policy.
-    pub fn router(mac: [u8; 6], start: u64, seed: u64) -> Options {
-        Options { role: Role::Router, ..Options::host(mac, start, seed) }
-    }
-
-    fn raw(&self) -> raw::nd_options {
-        let (draws, seed) = match self.draws {
-            Draws::Seed(seed) => (0, seed),
-            Draws::Word(word) => (1, u64::from(word)),
-        };
-        raw::nd_options {
-            role: self.role.number(),
-            mac: self.mac,
-            transmits: self.transmits,
-            draws,
-            policies: self.policies.bits(),
-            start: self.start,
-            seed,
-            limits: self.limits,
-        }
-    }
-}
-
-/// What an event did.
-#[derive(Clone, Copy, Debug, PartialEq, Eq)]
-pub enum Outcome {
-    Done,
-    /// Time has passed up to the event, and nothing else has changed. The newest report says why.
-    Refused,
-}
-
-/// Why a call did not take place.
-#[derive(Clone, Copy, Debug, PartialEq, Eq)]
-pub enum Error {
-    /// Memory was refused. Take all reports, and make the same call again: for `turn` that ends, whatever memory there is. Another event may be
-    /// refused for what it adds itself, and is given up then.
-    NoMemory,
-    /// The node is not open.
-    Closed,
-    /// An argument that the call does not take.
-    Invalid,
-    /// The moment is before the last one.
-    Past,
-    /// The buffer is too short for this many bytes.
-    NoRoom(usize),
-    /// A status of a later version.
-    Other(i32),
-}
-
-impl Error {
-    fn from_status(status: i32) -> Error {
-        match status {
-            -1 => Error::NoMemory,
-            -2 => Error::Closed,
-            -3 => Error::Invalid,
-            -4 => Error::Past,
-            status => Error::Other(status),
-        }
-    }
-}
-
-impl std::fmt::Display for Error {
-    fn fmt(&self, f: &mut std::fmt::Formatter<'_>) -> std::fmt::Result {
-        match self {
-            Error::NoMemory => f.write_str("out of memory"),
-            Error::Closed => f.write_str("the node is not open"),
-            Error::Invalid => f.write_str("an argument that the call does not take"),
-            Error::Past => f.write_str("the moment is before the last one"),
-            Error::NoRoom(length) => write!(f, "the buffer is too short for {length} bytes"),
-            Error::Other(status) => write!(f, "status {status}"),
-        }
-    }
-}
-
-impl std::error::Error for Error {}
+/// How many bytes [`Node::poll_into`] needs on a link with an MTU of 1,500, if no longer frame is passed to [`Node::receive`].
+///
+/// ```
+/// let buffer = [0; nd::BUFFER_BYTES];
+/// ```
+pub const BUFFER_BYTES: usize = raw::ND_BUFFER_BYTES;
 
 /// Returns the version of the library that is linked: major, minor and patch.
+///
+/// ```
+/// let (major, minor, _) = nd::version();
+/// assert!(major == 0 && minor >= 1);
+/// ```
 pub fn version() -> (u32, u32, u32) {
     let version = unsafe { raw::nd_version() };
     (version >> 16, version >> 8 & 0xff, version & 0xff)
 }
 
-/// Returns how many bytes the tables of a node take at most with these limits, or `None` if a limit is out of its range.
+/// Returns how many bytes the tables of an open node take at most with these limits, or `None` if a limit is out of its range. Not counted are what
+/// the memory functions add to a block, the reports that were not taken, the packets that wait, and the frames of the call that runs.
 ///
-/// ```no_run
-/// let small = nd::Limits { neighbours: 8, routers: 2, ..Default::default() };
-/// assert!(nd::node_bytes(&small) < nd::node_bytes(&nd::Limits::default()));
+/// ```
+/// let mut limits = nd::Limits::default();
+/// limits.neighbours = 8;
+/// assert!(nd::node_bytes(&limits) < nd::node_bytes(&nd::Limits::default()));
+/// limits.neighbours = 2049;
+/// assert_eq!(nd::node_bytes(&limits), None);
 /// ```
 pub fn node_bytes(limits: &Limits) -> Option<usize> {
-    let bytes = unsafe { raw::nd_node_bytes(limits) };
+    let bytes = unsafe { raw::nd_node_bytes(&limits.to_raw()) };
     (bytes > 0).then_some(bytes)
 }
 
-/// Returns how many bytes a pool of `bindings/c/pool.c` needs for one node with these limits, if no frame is longer than `longest` bytes, all records
-/// are polled after each call, and no call's moment passes what is due by more than a millisecond. `None` if a limit is out of its range.
+/// Returns how many bytes a pool of `bindings/c/pool.c` needs for one node with these limits, so that no call returns [`Error::NoMemory`]: if all
+/// reports are taken after each call, no frame that is received is longer than `longest` bytes, no payload of [`Node::send`] than `longest` - 54, and
+/// no call's moment passes what is due by more than a millisecond. `None` if a limit is out of its range. It is measured and tested, not proved.
+///
+/// ```
+/// let limits = nd::Limits::default();
+/// assert!(nd::pool_bytes(&limits, 1514) > nd::node_bytes(&limits));
+/// ```
 pub fn pool_bytes(limits: &Limits, longest: usize) -> Option<usize> {
-    let bytes = unsafe { raw::nd_pool_bytes(limits, longest) };
+    let bytes = unsafe { raw::nd_pool_bytes(&limits.to_raw(), longest) };
     (bytes > 0).then_some(bytes)
-}
-
-/// What a frame is to a host or to a router that knows nothing else.
-#[derive(Clone, Copy, Debug)]
-pub enum Hearing {
-    /// A valid message of Neighbor Discovery.
-    Valid(Heard),
-    /// Another IPv6 packet.
-    Other(Heard),
-    /// A frame that is dropped.
-    Drop(Why),
-}
-
-/// Returns what a frame is to a role.
-pub fn hear(frame: &[u8], role: Role) -> Hearing {
-    let mut heard = Heard::default();
-    unsafe { raw::nd_hear(frame.as_ptr(), frame.len(), role.number(), &mut heard) };
-    match heard.hearing {
-        1 => Hearing::Valid(heard),
-        2 => Hearing::Other(heard),
-        _ => Hearing::Drop(Why::from(heard.why)),
-    }
 }

@@ -1,79 +1,106 @@
 //! What a node reports.
 
-use crate::numbers::{Limit, Loss, Why};
+use crate::error::Refusal;
+use crate::numbers::{Limit, Loss, MessageType, Why};
 use crate::raw::nd_out;
 use std::net::Ipv6Addr;
 
-/// Why an event was refused: `enum nd_refusal`. Time has passed up to it, and nothing else has changed.
-#[derive(Clone, Copy, Debug, PartialEq, Eq)]
-pub enum Refusal {
-    /// A host was asked for an event of a router.
-    WrongRole,
-    /// The link-local address is a duplicate (RFC 4862, 5.4.5).
-    Disabled,
-    /// The source of a packet is no assigned address.
-    NotOurs(Ipv6Addr),
-    /// The packet is longer than the MTU.
-    TooLong,
-    /// The table would pass its limit.
-    Full(Limit),
-    /// The link-local address is not assigned yet (RFC 4862, 5.4).
-    Tentative,
-    /// A number of a later version.
-    Other(u32),
-}
-
 /// What happened at a node. `Bytes` is the type of its bytes: a `Vec<u8>`, or a slice of the caller's buffer.
-#[derive(Clone, Copy, Debug, PartialEq, Eq)]
-pub enum Output<Bytes> {
-    /// Send this frame.
+///
+/// Ignore what you do not know: a later version of the library may report more.
+///
+/// ```no_run
+/// # fn transmit(frame: &[u8]) {}
+/// # fn deliver(packet: &[u8]) {}
+/// # fn example(node: &mut nd::Node) {
+/// use nd::Output;
+///
+/// for report in node.poll() {
+///     match report.output {
+///         Output::Frame(frame) => transmit(&frame),
+///         Output::Up(packet) => deliver(&packet),
+///         Output::Duplicate(address) => eprintln!("{address} is another node's too"),
+///         _ => {}
+///     }
+/// }
+/// # }
+/// ```
+#[derive(Clone, Copy, Debug, PartialEq, Eq, Hash)]
+#[non_exhaustive]
+pub enum Output<Bytes = Vec<u8>> {
+    /// Send these bytes, a whole Ethernet frame without padding and frame check sequence.
     Frame(Bytes),
-    /// A valid message of this ICMPv6 type was received.
-    Heard { source: Ipv6Addr, message_type: u32 },
+    /// A valid message was received. [`hear`](crate::hear) says what is in it.
+    Heard {
+        /// The source of its packet.
+        source: Ipv6Addr,
+        /// Its ICMPv6 type.
+        message_type: MessageType,
+    },
     /// A frame was dropped.
     Dropped(Why),
-    /// A packet for the upper layer, from its IPv6 header on.
+    /// A packet for an assigned address. The bytes begin with its IPv6 header.
     Up(Bytes),
-    /// The node's address is another node's too.
+    /// This address of the node is another node's too, and is not used. If it is the link-local one, the node is disabled: close it (RFC 4862,
+    /// 5.4.5).
     Duplicate(Ipv6Addr),
-    /// The node's address may be used.
+    /// This address of the node may be used (RFC 4862, 5.4).
     Assigned(Ipv6Addr),
-    /// The node's address is gone: its valid lifetime has ended, or it was removed.
+    /// This address of the node is gone: its valid lifetime has ended (RFC 4862, 5.5.4), or
+    /// [`Node::remove_address`](crate::Node::remove_address) removed it.
     EndedAddress(Ipv6Addr),
-    /// The router left the default router list.
+    /// This router left the default router list (RFC 4861, 6.3.5).
     EndedRouter(Ipv6Addr),
-    /// The neighbour was not resolved or not reached.
+    /// This neighbour was not resolved or not reached, and is removed (RFC 4861, 7.2.2 and 7.3.3). Its packets follow as [`Lost`](Output::Lost).
     Failed(Ipv6Addr),
-    /// A packet is not sent. Its bytes begin with its IPv6 header.
+    /// A packet is not sent. The bytes begin with its IPv6 header. ICMPv6 errors are the caller's (RFC 4443, 3.1 and 3.3).
     Lost(Loss, Bytes),
-    /// An event was refused.
-    Refused(Refusal),
-    /// The link-layer address of a neighbour is known, for which `Node::resolve` had none. What `Node::send` left waiting was sent before.
-    Resolved { neighbour: Ipv6Addr, mac: [u8; 6] },
-    /// Parts of a message were passed over, for which the table has no room.
+    /// An event was refused. Its call returned [`Error::Refused`](crate::Error::Refused).
+    Refused {
+        /// Why it was refused.
+        refusal: Refusal,
+        /// The source of the packet, of [`Refusal::NotOurs`].
+        source: Option<Ipv6Addr>,
+    },
+    /// The link-layer address of a neighbour is known for which [`Node::resolve`](crate::Node::resolve) had none (RFC 4861, 7.2.2). It follows what
+    /// [`Node::send`](crate::Node::send) had left waiting.
+    Resolved {
+        /// The neighbour: the next hop of a path.
+        neighbour: Ipv6Addr,
+        /// Its link-layer address.
+        mac: [u8; 6],
+    },
+    /// Parts of a message were passed over, by [`Policies::parts`](crate::Policies::parts). This table has no room for them.
     Ignored(Limit),
-    /// A kind of a later version.
-    Other { kind: u32, code: u32 },
+    /// A kind of a later version of the library.
+    Other {
+        /// The number of the kind.
+        kind: u32,
+        /// What the kind says.
+        code: u32,
+    },
 }
 
-/// A report, with the moment at which it was due, in milliseconds.
-#[derive(Clone, Copy, Debug, PartialEq, Eq)]
-pub struct Report<Bytes> {
+/// What happened at a node, and when.
+///
+/// ```
+/// use nd::{Draws, Node, Options, Output};
+///
+/// let mut node = Node::open(Options::host([2, 0, 0, 0, 0, 1], 0, Draws::Word(0)))?;
+/// node.pass(2000)?;
+/// let mut reports = node.poll();
+/// assert!(matches!(reports.next().unwrap().output, Output::Frame(_)));
+/// let report = reports.next().unwrap();
+/// assert_eq!((report.moment, report.output), (1000, Output::Assigned("fe80::ff:fe00:1".parse().unwrap())));
+/// # Ok::<(), nd::Error>(())
+/// ```
+#[derive(Clone, Copy, Debug, PartialEq, Eq, Hash)]
+#[non_exhaustive]
+pub struct Report<Bytes = Vec<u8>> {
+    /// The moment at which it was due or at which its event arrived, in milliseconds.
     pub moment: u64,
+    /// What happened.
     pub output: Output<Bytes>,
-}
-
-/// Returns the refusal with this number, of this source or this limit.
-pub(crate) fn refusal_of(code: u32, source: Ipv6Addr, limit: u32) -> Refusal {
-    match code {
-        1 => Refusal::WrongRole,
-        2 => Refusal::Disabled,
-        3 => Refusal::NotOurs(source),
-        4 => Refusal::TooLong,
-        5 => Refusal::Full(Limit::from(limit)),
-        8 => Refusal::Tentative,
-        code => Refusal::Other(code),
-    }
 }
 
 /// Returns the link-layer address that a record has as its bytes.
@@ -84,21 +111,33 @@ fn mac_in(bytes: &[u8]) -> [u8; 6] {
 /// Returns the report of a record with its bytes.
 pub(crate) fn report_of<Bytes: AsRef<[u8]>>(out: &nd_out, bytes: Bytes) -> Report<Bytes> {
     let address = Ipv6Addr::from(out.address);
+    let refusal = Refusal::of_numbers(out.code, out.limit);
     let output = match out.kind {
         1 => Output::Frame(bytes),
-        2 => Output::Heard { source: address, message_type: out.code },
-        3 => Output::Dropped(Why::from(out.code)),
+        2 => Output::Heard { source: address, message_type: out.code.into() },
+        3 => Output::Dropped(out.code.into()),
         4 => Output::Up(bytes),
         5 => Output::Duplicate(address),
         6 => Output::Assigned(address),
         7 => Output::EndedAddress(address),
         8 => Output::EndedRouter(address),
         9 => Output::Failed(address),
-        10 => Output::Lost(Loss::from(out.code), bytes),
-        11 => Output::Refused(refusal_of(out.code, address, out.limit)),
+        10 => Output::Lost(out.code.into(), bytes),
+        11 => Output::Refused { refusal, source: (refusal == Refusal::NotOurs).then_some(address) },
         13 => Output::Resolved { neighbour: address, mac: mac_in(bytes.as_ref()) },
-        14 => Output::Ignored(Limit::from(out.limit)),
+        14 => Output::Ignored(out.limit.into()),
         kind => Output::Other { kind, code: out.code },
     };
     Report { moment: out.moment, output }
+}
+
+#[cfg(test)]
+mod tests {
+    use super::*;
+
+    #[test]
+    fn what_a_later_version_reports_is_kept() {
+        let out = nd_out { moment: 7, kind: 12, code: 3, ..Default::default() };
+        assert_eq!(report_of(&out, Vec::new()), Report { moment: 7, output: Output::Other { kind: 12, code: 3 } });
+    }
 }

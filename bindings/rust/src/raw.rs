@@ -1,6 +1,33 @@
-//! The declarations of `nd.h` and `nd_hear.h`, under their names there. `bindings/check` has gcc compare them with the headers, as it compares the
-//! headers with the library's source. `nd.h` documents each field and function.
-#![allow(non_camel_case_types)]
+//! The declarations of `nd.h` and `nd_hear.h` that the crate needs, under their names there. `bindings/check` has gcc compare them with the headers, as
+//! it compares the headers with the library's source. `nd.h` documents each field and function.
+#![allow(non_camel_case_types, dead_code)]
+
+pub const ND_DONE: i32 = 0;
+pub const ND_NOTHING: i32 = 1;
+pub const ND_NO_MEMORY: i32 = -1;
+pub const ND_INVALID: i32 = -3;
+pub const ND_PAST: i32 = -4;
+pub const ND_NO_ROOM: i32 = -5;
+
+pub const ND_MOMENT_LIMIT: u64 = 1 << 62;
+pub const ND_FOREVER: u64 = u64::MAX;
+pub const ND_LIFETIME_INFINITE: u32 = u32::MAX;
+pub const ND_BUFFER_BYTES: usize = 1514;
+
+pub const ND_DRAWS_SEED: u8 = 0;
+pub const ND_DRAWS_WORD: u8 = 1;
+
+pub const ND_POLICY_PARTS: u32 = 1;
+pub const ND_POLICY_SPEAKERS: u32 = 2;
+pub const ND_POLICY_TIMERS: u32 = 4;
+pub const ND_POLICY_SELF: u32 = 8;
+pub const ND_POLICY_UNICAST: u32 = 16;
+
+pub const ND_HOP_DIRECT: u32 = 1;
+pub const ND_HOP_VIA: u32 = 2;
+
+pub const ND_HEARING_VALID: u32 = 1;
+pub const ND_HEARING_OTHER: u32 = 2;
 
 pub type nd_addr = [u8; 16];
 pub type nd_mac = [u8; 6];
@@ -11,34 +38,20 @@ pub struct nd_node {
     pub at: *mut u8,
 }
 
-/// How many rows each table of a node has at most, and how many packets wait for one neighbour. 0 is the usual number. A limit on a table that the
-/// role does not have is accepted.
 #[repr(C)]
-#[derive(Clone, Copy, Debug, Default, PartialEq, Eq)]
+#[derive(Clone, Copy, Debug, Default)]
 pub struct nd_limits {
-    /// Neighbours (RFC 4861, 5.1), 1 to 2048; 0: 512.
     pub neighbours: u16,
-    /// Default routers (RFC 4861, 6.3.4), 1 to 64; 0: 16.
     pub routers: u16,
-    /// Prefixes on the link (RFC 4861, 5.1), 1 to 64; 0: 64.
     pub prefixes: u16,
-    /// The node's own addresses, the link-local one included, 1 to 64; 0: 64.
     pub addresses: u16,
-    /// DNS servers (RFC 8106, 5.3.1), 1 to 32; 0: 32.
     pub servers: u16,
-    /// DNS search names (RFC 8106, 5.3.1), 1 to 32; 0: 32.
     pub names: u16,
-    /// Destinations whose Redirects are kept, 1 to 64; 0: 64.
     pub redirects: u16,
-    /// Destinations whose next hops are remembered, which no call shows, 1 to 256; 0: 256.
     pub destinations: u16,
-    /// Prefixes that a router advertises, 1 to 16; 0: 16.
     pub offers: u16,
-    /// Static routes of a router, 1 to 64; 0: 64.
     pub routes: u16,
-    /// Packets that wait for the link-layer address of one neighbour (RFC 4861, 7.2.2), 1 to 8; 0: 3.
     pub waiting: u16,
-    /// 0.
     pub reserved: [u16; 5],
 }
 
@@ -85,6 +98,16 @@ pub struct nd_next_hop_row {
 
 #[repr(C)]
 #[derive(Clone, Copy, Debug, Default)]
+pub struct nd_message {
+    pub source: nd_addr,
+    pub destination: nd_addr,
+    pub hop_limit: u8,
+    pub checksum_good: u8,
+    pub reserved: u16,
+}
+
+#[repr(C)]
+#[derive(Clone, Copy, Debug, Default)]
 pub struct nd_path {
     pub until: u64,
     pub version: u64,
@@ -94,12 +117,10 @@ pub struct nd_path {
     pub reserved: u8,
     pub hop: u32,
     pub state: u32,
-    pub refusal: u32,
-    pub limit: u32,
 }
 
 #[repr(C)]
-#[derive(Clone, Copy, Debug, Default, PartialEq, Eq)]
+#[derive(Clone, Copy, Debug, Default)]
 pub struct nd_advertising {
     pub min_interval: u32,
     pub max_interval: u32,
@@ -115,7 +136,7 @@ pub struct nd_advertising {
 }
 
 #[repr(C)]
-#[derive(Clone, Copy, Debug, Default, PartialEq, Eq)]
+#[derive(Clone, Copy, Debug, Default)]
 pub struct nd_offer_row {
     pub prefix: nd_addr,
     pub bits: u32,
@@ -206,7 +227,7 @@ pub struct nd_redirect_row {
 }
 
 #[repr(C)]
-#[derive(Clone, Copy, Debug, Default, PartialEq, Eq)]
+#[derive(Clone, Copy, Debug, Default)]
 pub struct nd_parameters_row {
     pub reachable_time: u64,
     pub base_reachable_time: u32,
@@ -219,7 +240,7 @@ pub struct nd_parameters_row {
 }
 
 #[repr(C)]
-#[derive(Clone, Copy, Debug, Default, PartialEq, Eq)]
+#[derive(Clone, Copy, Debug, Default)]
 pub struct nd_counts_row {
     pub neighbours: u32,
     pub routers: u32,
@@ -263,6 +284,8 @@ pub struct nd_heard {
 #[rustfmt::skip]
 extern "C" {
     pub fn nd_version() -> u32;
+    pub fn nd_refusal_of(status: i32) -> u32;
+    pub fn nd_limit_of(status: i32) -> u32;
     pub fn nd_node_bytes(limits: *const nd_limits) -> usize;
     pub fn nd_pool_bytes(limits: *const nd_limits, longest: usize) -> usize;
     pub fn nd_open(node: *mut nd_node, options: *const nd_options, size: usize) -> i32;
@@ -270,8 +293,9 @@ extern "C" {
     pub fn nd_last_moment(node: *mut nd_node) -> u64;
     pub fn nd_next_due(node: *mut nd_node) -> u64;
     pub fn nd_lease_version(node: *mut nd_node) -> u64;
-    pub fn nd_turn(node: *mut nd_node, now: u64) -> i32;
+    pub fn nd_pass(node: *mut nd_node, now: u64) -> i32;
     pub fn nd_receive(node: *mut nd_node, now: u64, frame: *const u8, length: usize) -> i32;
+    pub fn nd_receive_message(node: *mut nd_node, now: u64, message: *const nd_message, bytes: *const u8, length: usize) -> i32;
     pub fn nd_send(node: *mut nd_node, now: u64, source: *const nd_addr, destination: *const nd_addr, next_header: u8, payload: *const u8, length: usize) -> i32;
     pub fn nd_confirm(node: *mut nd_node, now: u64, neighbour: *const nd_addr) -> i32;
     pub fn nd_confirm_to(node: *mut nd_node, now: u64, destination: *const nd_addr, least: u64) -> i32;
@@ -282,10 +306,19 @@ extern "C" {
     pub fn nd_next_hop(node: *mut nd_node, now: u64, destination: *const nd_addr, row: *mut nd_next_hop_row) -> i32;
     pub fn nd_resolve(node: *mut nd_node, now: u64, destination: *const nd_addr, path: *mut nd_path) -> i32;
     pub fn nd_advertise(node: *mut nd_node, now: u64, settings: *const nd_advertising) -> i32;
-    pub fn nd_offer(node: *mut nd_node, now: u64, offer: *const nd_offer_row) -> i32;
-    pub fn nd_route(node: *mut nd_node, now: u64, route: *const nd_route_row) -> i32;
-    pub fn nd_stop(node: *mut nd_node, now: u64) -> i32;
+    pub fn nd_advertise_prefix(node: *mut nd_node, now: u64, offer: *const nd_offer_row) -> i32;
+    pub fn nd_add_route(node: *mut nd_node, now: u64, route: *const nd_route_row) -> i32;
+    pub fn nd_stop_advertising(node: *mut nd_node, now: u64) -> i32;
     pub fn nd_poll(node: *mut nd_node, out: *mut nd_out, buffer: *mut u8, size: usize) -> i32;
+    pub fn nd_neighbours(node: *mut nd_node, now: u64, rows: *mut nd_neighbour_row, room: usize, count: *mut usize) -> i32;
+    pub fn nd_routers(node: *mut nd_node, now: u64, rows: *mut nd_router_row, room: usize, count: *mut usize) -> i32;
+    pub fn nd_prefixes(node: *mut nd_node, now: u64, rows: *mut nd_prefix_row, room: usize, count: *mut usize) -> i32;
+    pub fn nd_addresses(node: *mut nd_node, now: u64, rows: *mut nd_address_row, room: usize, count: *mut usize) -> i32;
+    pub fn nd_servers(node: *mut nd_node, now: u64, rows: *mut nd_server_row, room: usize, count: *mut usize) -> i32;
+    pub fn nd_names(node: *mut nd_node, now: u64, rows: *mut nd_name_row, room: usize, count: *mut usize) -> i32;
+    pub fn nd_redirects(node: *mut nd_node, now: u64, rows: *mut nd_redirect_row, room: usize, count: *mut usize) -> i32;
+    pub fn nd_offers(node: *mut nd_node, now: u64, rows: *mut nd_offer_row, room: usize, count: *mut usize) -> i32;
+    pub fn nd_routes(node: *mut nd_node, now: u64, rows: *mut nd_route_row, room: usize, count: *mut usize) -> i32;
     pub fn nd_neighbour_at(node: *mut nd_node, now: u64, index: usize, row: *mut nd_neighbour_row) -> i32;
     pub fn nd_neighbour_of(node: *mut nd_node, now: u64, address: *const nd_addr, row: *mut nd_neighbour_row) -> i32;
     pub fn nd_router_at(node: *mut nd_node, now: u64, index: usize, row: *mut nd_router_row) -> i32;
