@@ -8,7 +8,7 @@
 #include <stdio.h>
 #include <stdlib.h>
 #include <string.h>
-#include "nd.h"
+#include "nd_text.h"
 
 static uint8_t frame[65536], buffer[65536];
 static char line[2 * sizeof frame + 32];
@@ -49,7 +49,7 @@ static int configure(nd_node *node) /* returns 0 if all was done */
     nd_route_row on_link = {.bits = 64, .hop = ND_HOP_DIRECT};
     inet_pton(AF_INET6, "2001:db8::", &offer.prefix);
     on_link.prefix = offer.prefix;
-    return nd_offer(node, 0, &offer) != ND_DONE || nd_route(node, 0, &on_link) != ND_DONE || nd_advertise(node, 0, &settings) != ND_DONE;
+    return nd_advertise_prefix(node, 0, &offer) != ND_DONE || nd_add_route(node, 0, &on_link) != ND_DONE || nd_advertise(node, 0, &settings) != ND_DONE;
 }
 
 static void add_global(nd_node *node, uint64_t now)
@@ -58,16 +58,15 @@ static void add_global(nd_node *node, uint64_t now)
     inet_pton(AF_INET6, "2001:db8::1", &own.address);
     if (nd_add_address(node, now, &own) != ND_DONE)
         fprintf(stderr, "global: no address at %" PRIu64 "\n", now);
-    nd_turn(node, now); /* its solicitation is due now: join 33:33:ff:00:00:01 before it is sent (RFC 4862, 5.4.2) */
+    nd_pass(node, now); /* its solicitation is due now: join 33:33:ff:00:00:01 before it is sent (RFC 4862, 5.4.2) */
     drain(node);
 }
 
 static void show_addresses(nd_node *node, uint64_t now)
 {
-    static const char *const states[] = {"", "tentative", "preferred", "deprecated", "duplicate"};
     nd_address_row row;
     for (size_t i = 0; nd_address_at(node, now, i, &row) == ND_DONE; i++)
-        printf("%" PRIu64 " address %s %s %s\n", now, text_of(&row.address), states[row.state % 5], row.by_hand ? "by hand" : "formed");
+        printf("%" PRIu64 " address %s %s %s\n", now, text_of(&row.address), nd_state_text(row.state), row.by_hand ? "by hand" : "formed");
 }
 
 int main(int argc, char **argv)
@@ -90,7 +89,7 @@ int main(int argc, char **argv)
         digits += *digits == ' ';
         for (; length < sizeof frame && isxdigit((unsigned char)digits[0]) && isxdigit((unsigned char)digits[1]); digits += 2)
             sscanf(digits, "%2hhx", &frame[length++]);
-        if ((length > 0 ? nd_receive(&node, now, frame, length) : nd_turn(&node, now)) < 0)
+        if ((length > 0 ? nd_receive(&node, now, frame, length) : nd_pass(&node, now)) < 0)
             fprintf(stderr, "global: no event at %" PRIu64 "\n", now);
         if (drain(&node))
             add_global(&node, now);

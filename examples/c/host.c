@@ -6,18 +6,16 @@
 #include <stdio.h>
 #include <stdlib.h>
 #include <string.h>
-#include "nd.h"
+#include "nd_text.h"
 
 static uint8_t frame[65536], buffer[65536];
 static char text[INET6_ADDRSTRLEN], line[2 * sizeof frame + 32];
 
 static void drain(nd_node *node) /* prints all records, the oldest first */
 {
-    static const char *const kinds[] = {"",         "tx ",           "heard",        "drop",   "up ",  "duplicate",
-                                        "assigned", "ended address", "ended router", "failed", "lost", "refused"};
     nd_out out;
     while (nd_poll(node, &out, buffer, sizeof buffer) == ND_DONE) {
-        printf("%" PRIu64 " %s", out.moment, out.kind <= ND_OUT_REFUSED ? kinds[out.kind] : "of a later version");
+        printf("%" PRIu64 " %s%s", out.moment, nd_kind_text(out.kind), out.kind == ND_OUT_FRAME || out.kind == ND_OUT_UP ? " " : "");
         for (size_t i = 0; i < out.length && out.kind != ND_OUT_LOST; i++)
             printf("%02x", buffer[i]);
         if (out.code > 0)
@@ -46,17 +44,21 @@ int main(int argc, char **argv)
         digits += *digits == ' ';
         for (; length < sizeof frame && isxdigit((unsigned char)digits[0]) && isxdigit((unsigned char)digits[1]); digits += 2)
             sscanf(digits, "%2hhx", &frame[length++]);
-        if ((length > 0 ? nd_receive(&node, now, frame, length) : nd_turn(&node, now)) < 0)
+        if ((length > 0 ? nd_receive(&node, now, frame, length) : nd_pass(&node, now)) < 0)
             fprintf(stderr, "host: no event at %" PRIu64 "\n", now);
         drain(&node);
     }
-    nd_address_row own;
-    for (size_t i = 0; nd_address_at(&node, nd_last_moment(&node), i, &own) == ND_DONE; i++)
-        printf("address %s %" PRIu32 " %" PRIu64 " %" PRIu64 "\n", inet_ntop(AF_INET6, &own.address, text, sizeof text), own.state,
-               own.preferred_left, own.valid_left);
-    nd_router_row router;
-    for (size_t i = 0; nd_router_at(&node, nd_last_moment(&node), i, &router) == ND_DONE; i++)
-        printf("router %s %" PRIu64 " %" PRIu32 "\n", inet_ntop(AF_INET6, &router.address, text, sizeof text), router.left, router.preference);
+    nd_address_row own[64]; /* the usual limits are 64 addresses and 16 routers */
+    nd_router_row routers[16];
+    size_t count;
+    nd_addresses(&node, nd_last_moment(&node), own, 64, &count);
+    for (size_t i = 0; i < count; i++)
+        printf("address %s %" PRIu32 " %" PRIu64 " %" PRIu64 "\n", inet_ntop(AF_INET6, &own[i].address, text, sizeof text), own[i].state,
+               own[i].preferred_left, own[i].valid_left);
+    nd_routers(&node, nd_last_moment(&node), routers, 16, &count);
+    for (size_t i = 0; i < count; i++)
+        printf("router %s %" PRIu64 " %" PRIu32 "\n", inet_ntop(AF_INET6, &routers[i].address, text, sizeof text), routers[i].left,
+               routers[i].preference);
     nd_close(&node);
     return 0;
 }

@@ -86,7 +86,7 @@ static bool receive(nd_node *node, int tap, const nd_mac *mac)
     while ((length = read(tap, frame, sizeof frame)) > 0) {
         if (length > LONGEST_FRAME || !is_ours(mac, frame, (size_t)length))
             continue;
-        /* ND_NO_MEMORY: the frame is given up, as if the link had lost it. ND_REFUSED: a record says why. */
+        /* ND_NO_MEMORY: the frame is given up, as if the link had lost it. If it is refused, a record says why. */
         nd_receive(node, clock_ms(), frame, (size_t)length);
         drain(node, tap);
     }
@@ -107,7 +107,7 @@ static int wait_of(nd_node *node, int32_t status)
 static void run(nd_node *node, int tap, const nd_mac *mac)
 {
     while (receive(node, tap, mac)) {
-        int32_t status = nd_turn(node, clock_ms());
+        int32_t status = nd_pass(node, clock_ms());
         struct pollfd readable = {tap, POLLIN, 0};
         drain(node, tap);
         if (status < 0 && status != ND_NO_MEMORY)

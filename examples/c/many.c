@@ -248,7 +248,7 @@ static int32_t act(struct link *link, size_t number, uint64_t now)
     struct node *node = &link->nodes[number];
     bool is_router = number < link->routers;
     if (now < node->acts)
-        return nd_turn(&node->node, now);
+        return nd_pass(&node->node, now);
     nd_own_address own = {address_of(link, BEHIND + number, number), ND_LIFETIME_INFINITE, ND_LIFETIME_INFINITE};
     node->acts = is_router ? UINT64_MAX : next_packet(link, now);
     return is_router ? nd_add_address(&node->node, now, &own) : send_packet(link, number, now);
@@ -261,14 +261,14 @@ static void configure(struct link *link, size_t number) /* a router: what it adv
     nd_offer_row offer = {address_of(link, number, 0), 64, .valid_lifetime = 86400, .preferred_lifetime = 14400, .on_link = 1, .autonomous = 1};
     nd_route_row on_link = {address_of(link, 0, 0), .bits = 56, .hop = ND_HOP_DIRECT};
     static const char what[] = "a router was not configured";
-    require_done(nd_offer(node, 0, &offer), what);
-    require_done(nd_route(node, 0, &on_link), what);
+    require_done(nd_advertise_prefix(node, 0, &offer), what);
+    require_done(nd_add_route(node, 0, &on_link), what);
     require_done(nd_advertise(node, 0, &settings), what);
     for (size_t i = 0; i < link->routers; i++) {
         nd_route_row route = {address_of(link, BEHIND + i, 0), address_of(link, 0, i), .bits = 64, .hop = ND_HOP_VIA};
         memcpy(route.router.bytes, (uint8_t[8]){0xfe, 0x80}, 8); /* by its link-local address */
         if (i != number)
-            require_done(nd_route(node, 0, &route), what);
+            require_done(nd_add_route(node, 0, &route), what);
     }
 }
 

@@ -34,7 +34,7 @@ static int configure(nd_node *node) /* returns 0 if all was done */
     inet_pton(AF_INET6, "2001:db8::", &on_link.prefix);
     inet_pton(AF_INET6, "2001:db8:1::", &behind.prefix);
     inet_pton(AF_INET6, "fe80::2", &behind.router);
-    return nd_offer(node, 0, &offer) != ND_DONE || nd_route(node, 0, &on_link) != ND_DONE || nd_route(node, 0, &behind) != ND_DONE ||
+    return nd_advertise_prefix(node, 0, &offer) != ND_DONE || nd_add_route(node, 0, &on_link) != ND_DONE || nd_add_route(node, 0, &behind) != ND_DONE ||
            nd_advertise(node, 0, &settings) != ND_DONE;
 }
 
@@ -58,11 +58,11 @@ int main(int argc, char **argv)
         digits += *digits == ' ';
         for (; length < sizeof frame && isxdigit((unsigned char)digits[0]) && isxdigit((unsigned char)digits[1]); digits += 2)
             sscanf(digits, "%2hhx", &frame[length++]);
-        if ((length > 0 ? nd_receive(&node, now, frame, length) : nd_turn(&node, now)) < 0)
+        if ((length > 0 ? nd_receive(&node, now, frame, length) : nd_pass(&node, now)) < 0)
             fprintf(stderr, "router: no event at %" PRIu64 "\n", now);
         drain(&node);
     }
-    nd_stop(&node, now); /* the last advertisement, of lifetime 0 (RFC 4861, 6.2.5) */
+    nd_stop_advertising(&node, now); /* the last advertisement, of lifetime 0 (RFC 4861, 6.2.5) */
     drain(&node);
     nd_close(&node);
     return 0;

@@ -109,7 +109,7 @@ int main(int argc, char **argv)
             sscanf(digits, "%2hhx", &given.frame[given.length++]);
         if (is_packet && given.length >= SHORTEST)
             send_packet(now, &given);
-        else if (is_packet || (given.length > 0 ? nd_receive(&node, now, given.frame, given.length) : nd_turn(&node, now)) < 0)
+        else if (is_packet || (given.length > 0 ? nd_receive(&node, now, given.frame, given.length) : nd_pass(&node, now)) < 0)
             fprintf(stderr, "stack: no event at %" PRIu64 "\n", now);
         version = nd_lease_version(&node);
         drain(now);
