@@ -26,7 +26,7 @@
  *         if (length > 0 && length <= sizeof buffer)
  *             nd_receive(&node, clock_ms(), frame, length);
  *         else // a longer frame is dropped: its record might not fit into the buffer
- *             nd_turn(&node, clock_ms());
+ *             nd_pass(&node, clock_ms());
  *     }
  *     nd_close(&node);
  *
@@ -55,7 +55,7 @@
  *     moments, and reports it with the moment at which it was due. So a late call loses nothing.
  *     But a frame counts as received at the moment that you pass: if a conflicting advertisement
  *     waited in your ring while a detection ended, the address is assigned. Pass the frames that
- *     wait before you call nd_turn, with the moments at which they arrived, if you have them and
+ *     wait before you call nd_pass, with the moments at which they arrived, if you have them and
  *     they do not decrease.
  *   - A jump costs what is due in it, at least one redraw of ReachableTime every two hours: an idle
  *     host takes seconds to a moment of 2^46, and a day or more to 2^62. A caller that passes
@@ -67,13 +67,16 @@
  *   - An event can make something due at its own moment; it is done by the next call. So
  *     nd_next_due may equal the moment of the last call, and the loop above then turns at once.
  *
- * STATUS. Functions that return int32_t return an `enum nd_status`. 0 and above: the call took
- * place. Below 0: it did not, and it has changed nothing, but for ND_NO_MEMORY. If several hold,
- * the first in this order is returned: ND_INVALID, ND_CLOSED, ND_PAST, ND_NO_MEMORY.
+ * STATUS. Functions that return int32_t return an `enum nd_status` or a refusal. 0 and above: the
+ * call took place. Below 0: it did not, and it has changed nothing, but for ND_NO_MEMORY and a
+ * refusal. If several hold, the first in this order is returned: ND_INVALID, ND_CLOSED, ND_PAST,
+ * ND_NO_MEMORY, a refusal.
+ *   A refusal is ND_REFUSED(refusal, limit), -16 or below: time has passed up to the event, what
+ *   was due is done, and nothing else has changed. nd_refusal_of and nd_limit_of say why.
  *   ND_NO_MEMORY: the event has added nothing. A part of what was due may have been done, and is
  *   reported. Poll until ND_NOTHING, and make the same call again: if memory is not refused then,
  *   the node is as if it had not been refused before. Time passes whatever memory there is: if
- *   nothing was left to poll, nd_turn has done at least the first thing that was due, so polling
+ *   nothing was left to poll, nd_pass has done at least the first thing that was due, so polling
  *   and calling it again ends. Another event may be refused memory for what it adds itself, however
  *   often it is called; then give it up: a frame is as if the link had lost it.
  *
@@ -89,10 +92,10 @@
  * sequence; of at most ND_FRAME_BYTES bytes (65,536 unless that is set), else ND_INVALID is
  * returned; padding is ignored.
  *   - The node does not look at Ethernet addresses, but for a router with ND_POLICY_UNICAST, which
- *     looks at the destination of what it would forward. The caller passes frames to the interface's own
- *     address and to multicast addresses, and no others. A router would forward others once more.
- *     To a router it passes a frame to a multicast address only if that carries ICMPv6 of types 133
- *     to 137: each router of the link would forward the packet in any other.
+ *     looks at the destination of what it would forward. The caller passes frames to the
+ *     interface's own address and to multicast addresses, and no others. A router would forward
+ *     others once more. To a router it passes a frame to a multicast address only if that carries
+ *     ICMPv6 of types 133 to 137: each router of the link would forward the packet in any other.
  *   - Never pass a frame that the interface itself sent (on Linux, sll_pkttype PACKET_OUTGOING): a
  *     node that hears its own solicitation takes its address for a duplicate (RFC 4862, 5.4.3).
  *   - The ICMPv6 checksum must be in the bytes. Frames of a virtual device with checksum offload
@@ -131,8 +134,8 @@
  * PROVED. Every call returns, reads no byte outside what it is passed, and writes none outside.
  * Every function has a clause that says when it returns each status, and what the node is then and
  * what is written; docs/PROVED.md lists them. ND_NO_MEMORY is allowed at any time where a call has
- * it. For each event, ND_DONE and ND_REFUSED mean: from every history that the node represents it
- * goes to one that the RFCs' conceptual host or router has after the event, and the queue gains
+ * it. For each event, 0 and above and a refusal mean: from every history that the node represents
+ * it goes to one that the RFCs' conceptual host or router has after the event, and the queue gains
  * exactly what is reported of the difference.
  *
  * TESTED, and not proved:
@@ -143,15 +146,15 @@
  *     options reports the same on the same frames.
  *   - nd_close, and an nd_open that returned ND_NO_MEMORY, give all memory of the node back, and
  *     nd_poll that of the record that it takes.
- *   - nd_poll, the questions (nd_.._at, nd_.._of), nd_last_moment, nd_next_due and
- *     nd_lease_version ask for no memory.
+ *   - nd_poll, the questions (nd_.._at, nd_.._of, nd_neighbours and so on), nd_last_moment,
+ *     nd_next_due and nd_lease_version ask for no memory.
  *   - ND_BUFFER_BYTES, nd_node_bytes and nd_pool_bytes are enough, and a row costs what its index
  *     is.
  * TRUSTED: the duties above, enough stack, the toolchain, and what nd.c is made by, which the
  * README.md beside it names. bindings/check compares this header with the library's source.
  */
-#ifndef ND_H
-#define ND_H
+#ifndef JONDASIK_ND_H
+#define JONDASIK_ND_H
 
 #include <stdbool.h>
 #include <stddef.h>
@@ -183,25 +186,71 @@ typedef struct nd_mac {
     uint8_t bytes[6];
 } nd_mac;
 
+/* ---- refusals -------------------------------------------------------------------------------- */
+
+/* Why an event is refused. */
+enum nd_refusal {
+    ND_REFUSAL_WRONG_ROLE = 1, /* an event of a router at a host */
+    ND_REFUSAL_DISABLED = 2,   /* the link-local address is a duplicate (RFC 4862, 5.4.5) */
+    ND_REFUSAL_NOT_OURS = 3,   /* the source is no assigned address */
+    ND_REFUSAL_TOO_LONG = 4,   /* the packet is longer than the MTU (RFC 8200, 5) */
+    ND_REFUSAL_FULL = 5,       /* a table would pass its limit */
+    ND_REFUSAL_TENTATIVE = 8   /* the link-local address is not assigned yet (RFC 4862, 5.4) */
+};
+
+/* The table that would pass its limit. */
+enum nd_limit {
+    ND_LIMIT_NEIGHBOURS = 1,
+    ND_LIMIT_ROUTERS = 2,
+    ND_LIMIT_PREFIXES = 3,
+    ND_LIMIT_ADDRESSES = 4,
+    ND_LIMIT_SERVERS = 5,
+    ND_LIMIT_NAMES = 6,
+    ND_LIMIT_OFFERS = 7,
+    ND_LIMIT_STATIC_ROUTES = 8
+};
+
+/* The status of a refusal, by an `enum nd_refusal`, and an `enum nd_limit` or 0. */
+#define ND_REFUSED(refusal, limit) (-16 * (refusal) - (limit))
+
+/* Returns why an event was refused, by the status of its call: an `enum nd_refusal`, or 0 where it
+ * was not refused. */
+uint32_t nd_refusal_of(int32_t status);
+
+/* Returns the table that would pass its limit, by the status of a call: an `enum nd_limit` where
+ * the refusal is ND_REFUSAL_FULL, else 0. */
+uint32_t nd_limit_of(int32_t status);
+
 /* ---- memory ---------------------------------------------------------------------------------- */
 
-/* nd.c does not call these three functions, and the program need not define them: the memory of
- * nd.c is a static array of ND_MEMORY_BYTES bytes. An archive for one processor calls them.
- *   rattle_alloc: a block of `size` bytes (it may be 0), aligned to `align` and to each power of
- *     two up to 16 that divides `size`. Multiples of 16 always are.
- *   rattle_realloc: the block at `p` with the new size; its first `kept` bytes are kept. If it is
- *     refused, the block at `p` stays as it is.
- *   rattle_dealloc: gives a block back.
- * A refused request returns ok = false; `p` is not null then, too. They do not call the library.
- * They return, and neither throw nor longjmp. All three are of one allocator: they take its blocks
- * from any thread that calls the library. */
+/* A block of memory, or a request that is refused. `p` is not null then, either. */
 struct nd_block {
     bool ok;
     void *p;
 };
-struct nd_block rattle_alloc(size_t size, size_t align);
-struct nd_block rattle_realloc(void *p, size_t kept, size_t size, size_t align);
-void rattle_dealloc(void *p);
+
+/* Returns the block at `p`, or a request that is refused if `p` is null. */
+static inline struct nd_block nd_block_at(void *p)
+{
+    static char none;
+    struct nd_block block;
+    block.ok = p != 0;
+    block.p = p != 0 ? p : &none;
+    return block;
+}
+
+/* nd.c does not call these three functions, and the program need not define them: the memory of
+ * nd.c is a static array of ND_MEMORY_BYTES bytes. An archive for one processor calls them.
+ *   nd_alloc: a block of `size` bytes (it may be 0), aligned to `align` and to each power of two up
+ *     to 16 that divides `size`. Multiples of 16 always are.
+ *   nd_realloc: the block at `p` with the new size; its first `kept` bytes are kept. If it is
+ *     refused, the block at `p` stays as it is.
+ *   nd_free: gives a block back.
+ * They do not call the library. They return, and neither throw nor longjmp. All three are of one
+ * allocator: they take its blocks from any thread that calls the library. */
+struct nd_block nd_alloc(size_t size, size_t align);
+struct nd_block nd_realloc(void *p, size_t kept, size_t size, size_t align);
+void nd_free(void *p);
 
 /* How many rows each table of a node has at most, and how many packets wait for one neighbour. 0 is
  * the usual number. A limit on a table that the role does not have is accepted. */
@@ -236,8 +285,9 @@ size_t nd_node_bytes(const nd_limits *limits);
  * of nd_send than `longest` - 54; and no call's moment passes what is due by more than a
  * millisecond, since a jump of time reports all of that time. A `longest` below 86 counts as 86,
  * and one above 65,589 as that: what a longer frame has besides is padding, which is not kept.
- * Returns 0 if a limit is out of its range. It is measured and tested, not proved. Several nodes in
- * one pool need the sum. */
+ * nd_receive_message takes a frame more, for the time of its call: `longest` + 32 bytes. Returns 0
+ * if a limit is out of its range. It is measured and tested, not proved. Several nodes in one pool
+ * need the sum. */
 size_t nd_pool_bytes(const nd_limits *limits, size_t longest);
 
 /* ---- a node ---------------------------------------------------------------------------------- */
@@ -276,10 +326,10 @@ enum nd_policy {
      * 3,600,000 ms and a Retrans Timer outside 100 to 30,000 ms are read as 0, unspecified. */
     ND_POLICY_TIMERS = 4,
 
-    /* A message whose source is one of the node's assigned addresses is dropped (ND_WHY_NOT_FOR_US),
-     * and so is a packet in transit whose source is an address of its own. A source or target
-     * link-layer address that is a group's (the lowest bit of its first byte is set), zeros or
-     * the node's own is passed over, as if the option were not there. */
+    /* A message whose source is one of the node's assigned addresses is dropped
+     * (ND_WHY_NOT_FOR_US), and so is a packet in transit whose source is an address of its own. A
+     * source or target link-layer address that is a group's (the lowest bit of its first byte is
+     * set), zeros or the node's own is passed over, as if the option were not there. */
     ND_POLICY_SELF = 8,
 
     /* A router sends on only packets whose frame has its own address as the Ethernet destination,
@@ -310,6 +360,13 @@ typedef struct nd_options {
     { 0, { { 0, 0, 0, 0, 0, 0 } }, 0, 0, 0, 0, 0, \
       { 0, 0, 0, 0, 0, 0, 0, 0, 0, 0, 0, { 0, 0, 0, 0, 0 } } }
 
+/* Makes them those of a host with the usual limits. */
+static inline void nd_options_init(nd_options *options)
+{
+    const nd_options usual = ND_OPTIONS_INIT;
+    *options = usual;
+}
+
 /* Opens a node: it draws its ReachableTime, forms its link-local address and will detect whether
  * that is a duplicate (RFC 4861, 6.3.2; RFC 4862, 5.3 and 5.4). `size` is sizeof(nd_options) as the
  * caller knows it: as many bytes are read, and what the caller's structure does not have yet is 0,
@@ -320,8 +377,8 @@ typedef struct nd_options {
  *   ND_NO_MEMORY   It is closed. The same call again is as if it were the first. */
 int32_t nd_open(nd_node *node, const nd_options *options, size_t size);
 
-/* Closes a node. Nothing is sent (a router calls nd_stop and polls first), and records that were
- * not polled are lost. A closed node may be closed again, and opened anew. */
+/* Closes a node. Nothing is sent (a router calls nd_stop_advertising and polls first), and records
+ * that were not polled are lost. A closed node may be closed again, and opened anew. */
 void nd_close(nd_node *node);
 
 /* ---- time ------------------------------------------------------------------------------------ */
@@ -332,7 +389,7 @@ void nd_close(nd_node *node);
 uint64_t nd_last_moment(nd_node *node);
 
 /* Returns the earliest moment at which something is due; it is never before nd_last_moment. Call
- * nd_turn then, or any other event. UINT64_MAX if the node is closed: an open node always has
+ * nd_pass then, or any other event. UINT64_MAX if the node is closed: an open node always has
  * something to do, at least every 7,200,000 ms (RFC 4861, 6.3.4). It changes nothing. */
 uint64_t nd_next_due(nd_node *node);
 
@@ -342,11 +399,11 @@ uint64_t nd_next_due(nd_node *node);
  *   ND_NO_MEMORY   A part of what is due may have been done, and at least the first thing if the
  *                  queue was empty. Poll until ND_NOTHING, and call again.
  *   ND_INVALID (a moment of ND_MOMENT_LIMIT or above), ND_CLOSED, ND_PAST   Nothing has changed. */
-int32_t nd_turn(nd_node *node, uint64_t now);
+int32_t nd_pass(nd_node *node, uint64_t now);
 
 /* ---- events ---------------------------------------------------------------------------------- */
 
-/* Each event first does what nd_turn does, and then what it says. All of them return
+/* Each event first does what nd_pass does, and then what it says. All of them return
  *   ND_NO_MEMORY   The event has added nothing; a part of what is due may have been done. Poll
  *                  until ND_NOTHING, and call again, or give the event up.
  *   ND_INVALID (a moment of ND_MOMENT_LIMIT or above), ND_CLOSED, ND_PAST   Nothing has changed. */
@@ -357,7 +414,7 @@ int32_t nd_turn(nd_node *node, uint64_t now);
  *                  follows from a message is reported after ND_OUT_HEARD. A packet in transit has
  *                  no such record: a router forwards it, which is ND_OUT_FRAME or ND_OUT_LOST, now
  *                  or once the link-layer address of its next hop is known (RFC 8200, 3).
- *   ND_REFUSED     ND_REFUSAL_FULL, but not of a message with ND_POLICY_PARTS: a part of it would
+ *   refused        ND_REFUSAL_FULL, but not of a message with ND_POLICY_PARTS: a part of it would
  *                  pass a limit. No part of it was taken. So once as many DNS servers without end
  *                  are known as the limit says, an advertisement of another server is refused
  *                  whole, with its router and its prefixes. Where the neighbours are at their
@@ -365,14 +422,30 @@ int32_t nd_turn(nd_node *node, uint64_t now);
  *                  STALE, a message of a new neighbour is refused. */
 int32_t nd_receive(nd_node *node, uint64_t now, const uint8_t *frame, size_t length);
 
+typedef struct nd_message { /* what a stack has read of the IPv6 header (RFC 8200, 3) */
+    nd_addr source;
+    nd_addr destination;
+    uint8_t hop_limit;
+    uint8_t checksum_good; /* 1: the ICMPv6 checksum was seen to be good; 0: the node looks */
+    uint16_t reserved;
+} nd_message;
+
+/* Receives a message of a stack that has taken it out of its packet: `bytes` are those of ICMPv6,
+ * from the type on. It is what nd_receive does with the frame that has these fields and these
+ * bytes, and the right checksum in it if `checksum_good` is 1. A message that came in fragments is
+ * the caller's to drop (RFC 6980, 5), as are those with other types than 133 to 137.
+ *   As nd_receive; ND_INVALID also if a field is outside its range, or `length` is above 65535. */
+int32_t nd_receive_message(nd_node *node, uint64_t now, const nd_message *message,
+                           const uint8_t *bytes, size_t length);
+
 /* Sends a packet of an upper layer (RFC 4861, 5.2, 7.2.2 and 7.3.3). `source` is an assigned
  * address of the node; the caller chooses it. `payload` is what follows the IPv6 header, with its
  * own checksum. The node writes the Ethernet and IPv6 headers: traffic class and flow label 0, the
  * hop limit of nd_parameters_of. The payload is copied.
  *   ND_DONE        It is in a record ND_OUT_FRAME; or it waits for the link-layer address of its
- *                  next hop, as one of `waiting` (one more replaces the oldest: ND_OUT_LOST);
- *                  or there is no next hop: ND_OUT_LOST with ND_LOSS_NO_ROUTE.
- *   ND_REFUSED     ND_REFUSAL_DISABLED, _NOT_OURS, _TOO_LONG (40 + `length` is above the MTU), or
+ *                  next hop, as one of `waiting` (one more replaces the oldest: ND_OUT_LOST).
+ *   ND_NOTHING     There is no next hop: ND_OUT_LOST with ND_LOSS_NO_ROUTE.
+ *   refused        ND_REFUSAL_DISABLED, _NOT_OURS, _TOO_LONG (40 + `length` is above the MTU), or
  *                  _FULL. */
 int32_t nd_send(nd_node *node, uint64_t now, const nd_addr *source, const nd_addr *destination,
                 uint8_t next_header, const uint8_t *payload, size_t length);
@@ -392,7 +465,8 @@ int32_t nd_confirm(nd_node *node, uint64_t now, const nd_addr *neighbour);
  * and a call that returns ND_NOTHING where nothing is due leaves all leases.
  *   ND_DONE        The neighbour is REACHABLE for ReachableTime from now.
  *   ND_NOTHING     Nothing has changed but what was due: there is no next hop, its link-layer
- *                  address is not known, it was confirmed lately, or the destination is multicast. */
+ *                  address is not known, it was confirmed lately, or the destination is
+ *                  multicast. */
 int32_t nd_confirm_to(nd_node *node, uint64_t now, const nd_addr *destination, uint64_t least);
 
 /* Removes a neighbour. It does not count as a failure: Redirects to it stay.
@@ -427,7 +501,7 @@ typedef struct nd_own_address {
  * 4862, 5.5.3 e). A duplicate is not tried again by that: call nd_remove_address first. The node's
  * link-local address stays as it is.
  *   ND_DONE        The node has it, with these lifetimes.
- *   ND_REFUSED     ND_REFUSAL_DISABLED; ND_REFUSAL_TENTATIVE: the link-local address is not
+ *   refused        ND_REFUSAL_DISABLED; ND_REFUSAL_TENTATIVE: the link-local address is not
  *                  assigned yet, call again after its ND_OUT_ASSIGNED; or ND_REFUSAL_FULL: there
  *                  are `limits.addresses` others.
  *   ND_INVALID     Also if a field is outside its range. */
@@ -471,8 +545,6 @@ typedef struct nd_path { /* a field is 0 where the status does not have it, but 
     uint32_t hop;        /* DONE, WAITING: enum nd_hop */
     uint32_t state;      /* DONE, WAITING: enum nd_reachability of the next hop; 0 where it is
                             multicast, or where the call left something due at `now` */
-    uint32_t refusal;    /* REFUSED: enum nd_refusal */
-    uint32_t limit;      /* enum nd_limit, of ND_REFUSAL_FULL; else 0 */
 } nd_path;
 
 /* Asks where packets to `destination` go, for a stack that keeps and sends its packets itself (RFC
@@ -489,32 +561,32 @@ typedef struct nd_path { /* a field is 0 where the status does not have it, but 
  *                  no further use of the neighbour.
  *   ND_NOTHING     There is no next hop, as for the node's own addresses. `path` has zeros, but for
  *                  `until`.
- *   ND_REFUSED     ND_REFUSAL_DISABLED, _TENTATIVE (the link-local address is not assigned yet), or
- *                  _FULL. `path->refusal` and `path->limit` say it; there is no ND_OUT_REFUSED. Ask
- *                  again when a record says ND_OUT_ASSIGNED, or for the next packet.
+ *   refused        ND_REFUSAL_DISABLED, _TENTATIVE (the link-local address is not assigned yet), or
+ *                  _FULL. There is no ND_OUT_REFUSED, and `path` is as for ND_NOTHING. Ask again
+ *                  when a record says ND_OUT_ASSIGNED, or for the next packet.
  * With any other status `path` is unchanged. The caller writes the whole frame, its link-layer
  * addresses included, and keeps to the MTU; it may ask between two calls of nd_poll.
  * The lease: after ND_DONE packets to `destination` may be sent to `path->mac` without a call while
  *     now < path->until && path->version == version
- * where `version` is nd_lease_version after the last call. Such a packet leaves the node as it would
- * be with a call: its neighbour is used, and not STALE (RFC 4861, 7.3.3). Once the lease is over,
- * ask again. Where `until` is `now` there is none: ask for each packet.
+ * where `version` is nd_lease_version after the last call. Such a packet leaves the node as it
+ * would be with a call: its neighbour is used, and not STALE (RFC 4861, 7.3.3). Once the lease is
+ * over, ask again. Where `until` is `now` there is none: ask for each packet.
  * Asked again in its lease, a destination costs little, however many neighbours there are: a node
  * keeps such answers, one for each of limits.destinations, rounded down to a power of two. */
 int32_t nd_resolve(nd_node *node, uint64_t now, const nd_addr *destination, nd_path *path);
 
 /* Returns the version of all leases. It never falls, and it grows with each call after which a
- * lease may hold no longer: not with nd_poll, a question, nd_resolve in a lease, a call that returns
- * ND_PAST, ND_INVALID or ND_CLOSED; nor, where nothing is due but solicitations for neighbours, with
- * nd_turn, nd_next_hop, nd_receive of a frame that is dropped or whose packet is for the node (what
- * it reports is ND_OUT_DROPPED or ND_OUT_UP), and nd_confirm and nd_confirm_to, unless ReachableTime
- * has become so short that the neighbour is REACHABLE for a shorter time. 0 if the node is closed.
- * It changes nothing. */
+ * lease may hold no longer: not with nd_poll, a question, nd_resolve in a lease, a call that
+ * returns ND_PAST, ND_INVALID or ND_CLOSED; nor, where nothing is due but solicitations for
+ * neighbours, with nd_pass, nd_next_hop, nd_receive of a frame that is dropped or whose packet is
+ * for the node (what it reports is ND_OUT_DROPPED or ND_OUT_UP), and nd_confirm and nd_confirm_to,
+ * unless ReachableTime has become so short that the neighbour is REACHABLE for a shorter time. 0 if
+ * the node is closed. It changes nothing. */
 uint64_t nd_lease_version(nd_node *node);
 
 /* ---- events at a router ---------------------------------------------------------------------- */
 
-/* At a host all four return ND_REFUSED with ND_REFUSAL_WRONG_ROLE, if their arguments are good. */
+/* At a host all four are refused, ND_REFUSAL_WRONG_ROLE, if their arguments are good. */
 
 typedef struct nd_advertising { /* RFC 4861, 6.2.1 */
     uint32_t min_interval;      /* MinRtrAdvInterval, s: 3 to 3/4 max_interval */
@@ -552,9 +624,9 @@ typedef struct nd_offer_row {    /* an advertised prefix (RFC 4861, 6.2.1, AdvPr
  * replaced in its place. None can be removed: offer lifetimes of 0 to withdraw a prefix (RFC 4861,
  * 6.2.1; RFC 4862, 5.5.3).
  *   ND_DONE        It is offered.
- *   ND_REFUSED     ND_REFUSAL_FULL: there are `limits.offers` others.
+ *   refused        ND_REFUSAL_FULL: there are `limits.offers` others.
  *   ND_INVALID     Also if a field is outside its range. */
-int32_t nd_offer(nd_node *node, uint64_t now, const nd_offer_row *offer);
+int32_t nd_advertise_prefix(nd_node *node, uint64_t now, const nd_offer_row *offer);
 
 typedef struct nd_route_row {
     nd_addr prefix; /* bits past its length are zeroed */
@@ -568,13 +640,13 @@ typedef struct nd_route_row {
  * router's address is not checked: a multicast address, :: and ::1 are taken too, and resolved as
  * any other.
  *   ND_DONE        It is there.
- *   ND_REFUSED     ND_REFUSAL_FULL: there are `limits.routes` others.
+ *   refused        ND_REFUSAL_FULL: there are `limits.routes` others.
  *   ND_INVALID     Also if `bits` or `hop` is outside its range. */
-int32_t nd_route(nd_node *node, uint64_t now, const nd_route_row *route);
+int32_t nd_add_route(nd_node *node, uint64_t now, const nd_route_row *route);
 
 /* Ends advertising (RFC 4861, 6.2.5). If an advertisement was sent since it began, a last one with
  * a router lifetime of 0 is reported. ND_DONE also if it does not advertise. */
-int32_t nd_stop(nd_node *node, uint64_t now);
+int32_t nd_stop_advertising(nd_node *node, uint64_t now);
 
 /* ---- what a node reports --------------------------------------------------------------------- */
 
@@ -596,7 +668,8 @@ enum nd_kind {
                                  (RFC 4861, 7.2.2 and 7.3.3). Its packets follow as ND_OUT_LOST */
     ND_OUT_LOST = 10,         /* a packet is not sent; `code`: enum nd_loss; the bytes begin with
                                  its IPv6 header. ICMPv6 errors are yours (RFC 4443, 3.1 and 3.3) */
-    ND_OUT_REFUSED = 11,      /* an event was refused; `code`: enum nd_refusal */
+    ND_OUT_REFUSED = 11,      /* an event was refused; `code`: enum nd_refusal; `address`: the
+                                 source, of ND_REFUSAL_NOT_OURS */
     ND_OUT_RESOLVED = 13,     /* the link-layer address of neighbour `address` is known, for which
                                  nd_resolve returned ND_WAITING (RFC 4861, 7.2.2); the bytes are
                                  that address, 6 bytes. It follows what nd_send had left waiting */
@@ -610,26 +683,6 @@ enum nd_loss {
     ND_LOSS_FORGOTTEN = 3,   /* nd_forget or nd_clear removed its neighbour */
     ND_LOSS_NO_ROUTE = 4,    /* it has no next hop (RFC 4861, 5.2) */
     ND_LOSS_HOP_LIMIT = 5    /* to be forwarded with a hop limit below 2 (RFC 8200, 3) */
-};
-
-enum nd_refusal {
-    ND_REFUSAL_WRONG_ROLE = 1, /* an event of a router at a host */
-    ND_REFUSAL_DISABLED = 2,   /* the link-local address is a duplicate (RFC 4862, 5.4.5) */
-    ND_REFUSAL_NOT_OURS = 3,   /* the source `address` is no assigned address */
-    ND_REFUSAL_TOO_LONG = 4,   /* the packet is longer than the MTU (RFC 8200, 5) */
-    ND_REFUSAL_FULL = 5,       /* the table `limit` would pass its limit */
-    ND_REFUSAL_TENTATIVE = 8   /* the link-local address is not assigned yet (RFC 4862, 5.4) */
-};
-
-enum nd_limit {
-    ND_LIMIT_NEIGHBOURS = 1,
-    ND_LIMIT_ROUTERS = 2,
-    ND_LIMIT_PREFIXES = 3,
-    ND_LIMIT_ADDRESSES = 4,
-    ND_LIMIT_SERVERS = 5,
-    ND_LIMIT_NAMES = 6,
-    ND_LIMIT_OFFERS = 7,
-    ND_LIMIT_STATIC_ROUTES = 8
 };
 
 typedef struct nd_out {
@@ -654,19 +707,27 @@ int32_t nd_poll(nd_node *node, nd_out *out, uint8_t *buffer, size_t size);
 
 /* ---- what a node knows ----------------------------------------------------------------------- */
 
-/* Questions change nothing. `now` is not before nd_last_moment, and may be after
- * it: a row then says what holds at `now` if nothing is due before; call nd_turn first to be exact.
- * Where there are many rows, one is asked for by its index, from 0, in the order that the function
- * names:
+/* Questions change nothing. `now` is not before nd_last_moment, and may be after it: a row then
+ * says what holds at `now` if nothing is due before; call nd_pass first to be exact. Neighbours,
+ * prefixes, servers, names and parameters change without a record: read servers and names again
+ * after each ND_OUT_HEARD of type 134, and when the shortest `left` has passed.
  *
- *     for (size_t i = 0; nd_neighbour_at(&node, now, i, &row) == ND_DONE; i++) ...
+ * All rows of a table at once, in the order that the function names:
  *
- * An index names a row until the next event or a later `now`. If one comes between, a loop may miss
- * a row or see one twice, and nothing worse. A call costs what the index is: n rows cost n * n / 2
- * steps. Neighbours, prefixes, servers, names and parameters change without a record: read servers
- * and names again after each ND_OUT_HEARD of type 134, and when the shortest `left` has passed.
+ *     nd_address_row rows[64];
+ *     size_t count;
+ *     nd_addresses(&node, now, rows, 64, &count);
+ *
+ *   ND_DONE        All rows are written, from rows[0] on; `count` is their number.
+ *   ND_NO_ROOM     There are more than `room`: the first ones are written, and `count` is `room`.
+ *
+ * Or one row, by its index from 0 on in the same order. An index names a row until the next event
+ * or a later `now`. If one comes between, a loop may miss a row or see one twice, and nothing
+ * worse. A call costs what the index is.
  *   ND_DONE        The row is written.
  *   ND_NOTHING     There is no such row; nothing is written.
+ *
+ * All of them:
  *   ND_INVALID (a moment of ND_MOMENT_LIMIT or above), ND_CLOSED, ND_PAST   Nothing is written. */
 
 enum nd_reachability { /* RFC 4861, 7.3.2 */
@@ -688,6 +749,8 @@ typedef struct nd_neighbour_row {
 } nd_neighbour_row;
 
 /* The neighbours, in the order of their addresses (RFC 4861, 5.1). */
+int32_t nd_neighbours(nd_node *node, uint64_t now, nd_neighbour_row *rows, size_t room,
+                      size_t *count);
 int32_t nd_neighbour_at(nd_node *node, uint64_t now, size_t index, nd_neighbour_row *row);
 
 /* The neighbour of an address. */
@@ -702,6 +765,7 @@ typedef struct nd_router_row {
 
 /* The default routers, in the order in which they entered the list (RFC 4861, 5.1). Which one is
  * used for a destination is nd_next_hop's answer, not the first row. */
+int32_t nd_routers(nd_node *node, uint64_t now, nd_router_row *rows, size_t room, size_t *count);
 int32_t nd_router_at(nd_node *node, uint64_t now, size_t index, nd_router_row *row);
 
 typedef struct nd_prefix_row {
@@ -713,6 +777,7 @@ typedef struct nd_prefix_row {
 
 /* The prefixes on the link, in the order in which they entered the table (RFC 4861, 5.1); fe80::/64
  * is not shown. */
+int32_t nd_prefixes(nd_node *node, uint64_t now, nd_prefix_row *rows, size_t room, size_t *count);
 int32_t nd_prefix_at(nd_node *node, uint64_t now, size_t index, nd_prefix_row *row);
 
 enum nd_state { /* of an address of the node (RFC 4862, 2) */
@@ -733,6 +798,7 @@ typedef struct nd_address_row {
 
 /* The own addresses, the link-local one too, in the order of addresses (RFC 4862, 5.3, 5.4 and
  * 5.5.3). */
+int32_t nd_addresses(nd_node *node, uint64_t now, nd_address_row *rows, size_t room, size_t *count);
 int32_t nd_address_at(nd_node *node, uint64_t now, size_t index, nd_address_row *row);
 
 typedef struct nd_server_row {
@@ -741,6 +807,7 @@ typedef struct nd_server_row {
 } nd_server_row;
 
 /* The DNS servers, in the order in which they entered the table (RFC 8106, 5.1 and 6.1). */
+int32_t nd_servers(nd_node *node, uint64_t now, nd_server_row *rows, size_t room, size_t *count);
 int32_t nd_server_at(nd_node *node, uint64_t now, size_t index, nd_server_row *row);
 
 typedef struct nd_name_row {
@@ -754,6 +821,7 @@ typedef struct nd_name_row {
 } nd_name_row;
 
 /* The DNS search names, in the order in which they entered the table (RFC 8106, 5.2 and 6.1). */
+int32_t nd_names(nd_node *node, uint64_t now, nd_name_row *rows, size_t room, size_t *count);
 int32_t nd_name_at(nd_node *node, uint64_t now, size_t index, nd_name_row *row);
 
 typedef struct nd_redirect_row {
@@ -762,6 +830,8 @@ typedef struct nd_redirect_row {
 } nd_redirect_row;
 
 /* The Redirects in force, the newest first (RFC 4861, 8.3). */
+int32_t nd_redirects(nd_node *node, uint64_t now, nd_redirect_row *rows, size_t room,
+                     size_t *count);
 int32_t nd_redirect_at(nd_node *node, uint64_t now, size_t index, nd_redirect_row *row);
 
 typedef struct nd_parameters_row {
@@ -779,9 +849,11 @@ typedef struct nd_parameters_row {
 int32_t nd_parameters_of(nd_node *node, uint64_t now, nd_parameters_row *row);
 
 /* The offers of a router, in the order in which each was first put. A host has none. */
+int32_t nd_offers(nd_node *node, uint64_t now, nd_offer_row *rows, size_t room, size_t *count);
 int32_t nd_offer_at(nd_node *node, uint64_t now, size_t index, nd_offer_row *row);
 
 /* The static routes of a router, in the order in which each was first put. A host has none. */
+int32_t nd_routes(nd_node *node, uint64_t now, nd_route_row *rows, size_t room, size_t *count);
 int32_t nd_route_at(nd_node *node, uint64_t now, size_t index, nd_route_row *row);
 
 /* What a router advertises; ND_NOTHING where it does not advertise, and at a host. */
