@@ -107,9 +107,12 @@ int main(int argc, char **argv)
         given = (struct packet){.length = is_packet ? ETHERNET : 0, .frame = {0, 0, 0, 0, 0, 0, m[0], m[1], m[2], m[3], m[4], m[5], 0x86, 0xdd}};
         for (digits += is_packet; given.length < LONGEST && isxdigit((unsigned char)digits[0]) && isxdigit((unsigned char)digits[1]); digits += 2)
             sscanf(digits, "%2hhx", &given.frame[given.length++]);
-        if (is_packet && given.length >= SHORTEST)
+        if (is_packet && given.length >= SHORTEST) {
+            nd_pass(&node, now); /* a failure that is due is of packets that were kept before this one */
+            version = nd_lease_version(&node);
+            drain(now);
             send_packet(now, &given);
-        else if (is_packet || (given.length > 0 ? nd_receive(&node, now, given.frame, given.length) : nd_pass(&node, now)) < 0)
+        } else if (is_packet || (given.length > 0 ? nd_receive(&node, now, given.frame, given.length) : nd_pass(&node, now)) < 0)
             fprintf(stderr, "stack: no event at %" PRIu64 "\n", now);
         version = nd_lease_version(&node);
         drain(now);
