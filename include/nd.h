@@ -285,9 +285,10 @@ size_t nd_node_bytes(const nd_limits *limits);
  * no payload of nd_send than `longest` - 54; and no call's moment passes what is due by more than a
  * millisecond, since a jump of time reports all of that time. A `longest` below 86 counts as 86,
  * and one above 65,589 as that: what a longer frame has besides is padding, which is not kept.
- * nd_receive_message takes a frame more, for the time of its call: `longest` + 32 bytes. Returns 0
- * if a limit is out of its range. It is measured and tested, not proved. Several nodes in one pool
- * need the sum. */
+ * nd_receive_message takes a frame more, for the time of its call: `longest` + 32 bytes. With the
+ * usual limits, and frames of 1,514 bytes, it is 7 MB: packets that wait for 512 neighbours.
+ * Returns 0 if a limit is out of its range. It is measured and tested, not proved. Several nodes in
+ * one pool need the sum. */
 size_t nd_pool_bytes(const nd_limits *limits, size_t longest);
 
 /* ---- a node ---------------------------------------------------------------------------------- */
@@ -367,10 +368,10 @@ static inline void nd_options_init(nd_options *options)
     *options = usual;
 }
 
-/* Opens a node: it draws its ReachableTime, forms its link-local address and will detect whether
- * that is a duplicate (RFC 4861, 6.3.2; RFC 4862, 5.3 and 5.4). `size` is sizeof(nd_options) as the
- * caller knows it: as many bytes are read, and what the caller's structure does not have yet is 0,
- * the default.
+/* Opens a node: it draws its ReachableTime, forms its link-local address, which is fe80:: with the
+ * interface identifier of its MAC (RFC 2464, 4 and 5), and will detect whether that is a duplicate
+ * (RFC 4861, 6.3.2; RFC 4862, 5.3 and 5.4). `size` is sizeof(nd_options) as the caller knows it: as
+ * many bytes are read, and what the caller's structure does not have yet is 0, the default.
  *   ND_DONE        It is open at the moment `start`; nothing is reported yet.
  *   ND_INVALID     It is open already; or a field is outside its range; or a byte is not 0 behind
  *                  the fields that the library knows. Nothing has changed.
@@ -432,8 +433,9 @@ typedef struct nd_message { /* what a stack has read of the IPv6 header (RFC 820
 
 /* Receives a message of a stack that has taken it out of its packet: `bytes` are those of ICMPv6,
  * from the type on. It is what nd_receive does with the frame that has these fields and these
- * bytes, and the right checksum in it if `checksum_good` is 1. A message that came in fragments is
- * the caller's to drop (RFC 6980, 5), as are those with other types than 133 to 137.
+ * bytes, and the right checksum in it if `checksum_good` is 1. `length` is the payload length of
+ * the packet less its extension headers, without padding of the frame. A message that came in
+ * fragments is the caller's to drop (RFC 6980, 5), as are those with other types than 133 to 137.
  *   As nd_receive; ND_INVALID also if a field is outside its range, or `length` is above 65535. */
 int32_t nd_receive_message(nd_node *node, uint64_t now, const nd_message *message,
                            const uint8_t *bytes, size_t length);
@@ -471,7 +473,8 @@ int32_t nd_confirm_to(nd_node *node, uint64_t now, const nd_addr *destination, u
 
 /* Removes a neighbour. It does not count as a failure: Redirects to it stay.
  *   ND_DONE        There is no entry for it. Packets that waited for it are reported, oldest first,
- *                  as ND_OUT_LOST with ND_LOSS_FORGOTTEN. */
+ *                  as ND_OUT_LOST with ND_LOSS_FORGOTTEN; those that the caller keeps have no
+ *                  record. */
 int32_t nd_forget(nd_node *node, uint64_t now, const nd_addr *neighbour);
 
 enum nd_clearable {
@@ -558,12 +561,15 @@ typedef struct nd_path { /* a field is 0 where the status does not have it, but 
  *                  `address` the next hop, and ask again after ND_OUT_RESOLVED; after ND_OUT_FAILED
  *                  drop them, each with an ICMPv6 error of your own (RFC 4861, 7.2.2). One of them
  *                  comes unless nd_forget or nd_clear removes the neighbour. To ask again before is
- *                  no further use of the neighbour.
+ *                  no further use of the neighbour. But what is due is done first, and an
+ *                  ND_OUT_FAILED of it, or one that was not polled yet, is of packets that were
+ *                  kept before the call: call nd_pass, and nd_poll until ND_NOTHING, before it.
  *   ND_NOTHING     There is no next hop, as for the node's own addresses. `path` has zeros, but for
  *                  `until`.
  *   refused        ND_REFUSAL_DISABLED, _TENTATIVE (the link-local address is not assigned yet), or
  *                  _FULL. There is no ND_OUT_REFUSED, and `path` is as for ND_NOTHING. Ask again
- *                  when a record says ND_OUT_ASSIGNED, or for the next packet.
+ *                  when a record says ND_OUT_ASSIGNED, or for the next packet; after an
+ *                  ND_OUT_DUPLICATE of the link-local address drop what you keep.
  * With any other status `path` is unchanged. The caller writes the whole frame, its link-layer
  * addresses included, and keeps to the MTU; it may ask between two calls of nd_poll.
  * The lease: after ND_DONE packets to `destination` may be sent to `path->mac` without a call while
@@ -595,7 +601,8 @@ typedef struct nd_advertising { /* RFC 4861, 6.2.1 */
                                    default router) */
     uint32_t reachable_time;    /* AdvReachableTime, ms: 0 (unspecified) to 3600000 */
     uint32_t retrans_timer;     /* AdvRetransTimer, ms; 0: unspecified */
-    uint32_t mtu;               /* AdvLinkMTU, bytes: 0 (none), or 1280 to 1500 */
+    uint32_t mtu;               /* AdvLinkMTU, bytes: 0 (none), or 1280 to 1500; the router's own
+                                   MTU stays 1500 */
     uint8_t hop_limit;          /* AdvCurHopLimit; 0: unspecified */
     uint8_t managed;            /* AdvManagedFlag, 0 or 1 */
     uint8_t other;              /* AdvOtherConfigFlag, 0 or 1 */
@@ -620,9 +627,10 @@ typedef struct nd_offer_row {    /* an advertised prefix (RFC 4861, 6.2.1, AdvPr
     uint8_t reserved[2];
 } nd_offer_row;
 
-/* Advertises a prefix, from the next advertisement on. An offer of the same prefix and length is
- * replaced in its place. None can be removed: offer lifetimes of 0 to withdraw a prefix (RFC 4861,
- * 6.2.1; RFC 4862, 5.5.3).
+/* Advertises a prefix, from the next advertisement on. It is not on the link for the router itself,
+ * as long as no static route says so (nd_add_route, ND_HOP_DIRECT). An offer of the same prefix and
+ * length is replaced in its place. None can be removed: offer lifetimes of 0 to withdraw a prefix
+ * (RFC 4861, 6.2.1; RFC 4862, 5.5.3).
  *   ND_DONE        It is offered.
  *   refused        ND_REFUSAL_FULL: there are `limits.offers` others.
  *   ND_INVALID     Also if a field is outside its range. */

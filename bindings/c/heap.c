@@ -5,7 +5,9 @@
 
 enum { MOST_ALIGNED = 16 };
 
+#if defined(__STDC_VERSION__) && __STDC_VERSION__ >= 201112L
 _Static_assert(_Alignof(max_align_t) >= MOST_ALIGNED, "malloc aligns blocks of 16 bytes and more to 16");
+#endif
 
 /* A block of no bytes has an address too. */
 static size_t room(size_t size)
