@@ -1,9 +1,10 @@
 -- Bytes as numbers: masked bytes, equal bytes, the order of bytes.
-use Rattle.std.proofs.Common.{◌≡◌, ℕ, suc, ◌+◌, ◌*◌, ◌-◌, ◌/◌, ◌%◌, ◌^◌, ◌<◌, ◌≤◌, ◌↔◌, List, [], ◌∷◌, length, slice_index, eqb, ltb, true, false, min, refl, sym, ap, subst, ◌∙◌, arith, inl, inr}
+use Rattle.std.proofs.Common.{◌≡◌, ◌≢◌, ◌⊎◌, ℕ, suc, ◌+◌, ◌*◌, ◌-◌, ◌/◌, ◌%◌, ◌^◌, ◌<◌, ◌≤◌, ◌↔◌, List, [], ◌∷◌, length, slice_index, eqb, ltb, true, false, min, refl, sym, ap, subst, ◌∙◌, arith, inl, inr}
 use Rattle.std.proofs.lemmas.Bool.{cases_lt, eqb-true, eq-eqb, ne_eqb, lt-ltb, le-ltb, false≢true}
 use Rattle.std.proofs.lemmas.Nat.{shl-shr, shr-shr, pow-add, pow_pos, shr_split, div-mul-add, mul-add-lt, same_from_place}
 use Rattle.std.proofs.Math.Nat.{mul_assoc, mul_comm, add-mul, mul-add-div_right, mul-le-mul_right}
-use Rattle.std.specs.Prelude.{IsTrue, Bool}
+use Rattle.std.specs.Prelude.{IsTrue, Bool, bytes_eq}
+use Rattle.nd_addr.specs.Same.{bytes_tell}
 use Rattle.std.specs.Ordering.{nat_cmp, ordering_then}
 use Rattle.std.specs.declared.cmp.Ordering.TheVariants.{Less, Equal, Greater}
 use Rattle.std.specs.Cmp.Lexicographic.{slice_cmp}
@@ -82,6 +83,14 @@ number_injective (x ∷ xs) (y ∷ ys) l small_a small_b e =
     let parts = same_from_place x (number_of xs) y (number_of ys) (2 ^ (8 * length xs)) (number_below xs (λ i. small_a (suc i))) below turned in
     let tail = number_injective xs ys len (λ i. small_a (suc i)) (λ i. small_b (suc i)) parts.1 in
     let head = parts.0 in cc
+
+-- two addresses are compared as numbers
+pub numbers_tell : (a b : List ℕ) → AreBytes 16 a → AreBytes 16 b → eqb (number_of a) (number_of b) ≡ bytes_eq a b
+numbers_tell a b p q = by (bytes_tell a b)
+  where
+    by : ((bytes_eq a b ≡ true) × (a ≡ b)) ⊎ ((bytes_eq a b ≡ false) × (a ≢ b)) → eqb (number_of a) (number_of b) ≡ bytes_eq a b
+    by (inl same) = eq-eqb (number_of a) (number_of b) (ap number_of same.1) ∙ sym same.0
+    by (inr differ) = ne_eqb (number_of a) (number_of b) (λ e. differ.1 (number_injective a b (p.len_is ∙ sym q.len_is) p.each q.each e)) ∙ sym differ.0
 
 -- two lists of 16 bytes have the same masked bytes exactly where their first bits are alike
 masked_alike : (bits : ℕ) (a b : List ℕ) → bits ≤ 128 → length a ≡ 16 → length b ≡ 16 → IsBytes a → IsBytes b

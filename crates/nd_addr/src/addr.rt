@@ -1,4 +1,6 @@
-ghost use Rattle.std.specs.Prelude.{◌≡◌, ◌≤◌, ◌+◌, length, slice_range};
+ghost use Rattle.std.specs.Prelude.{◌≡◌, ◌≤◌, ◌+◌, bytes_eq, length, slice_range};
+ghost use Rattle.std.proofs.Common.{rules};
+ghost use Rattle.std.specs.Cmp.Rules.{comparing};
 ghost use Rattle.nd_addr.specs.Bytes.{AreBytes};
 ghost use Rattle.nd_addr.specs.Number.{addr_at, number_of};
 
@@ -8,7 +10,7 @@ use byteorder::{BigEndian, ByteOrder};
 /// An IPv6 address, by its 16 bytes in network order (RFC 4291, section 2).
 ///
 /// The order of addresses is the order of their bytes, which is that of the 128-bit numbers.
-#[derive(Clone, Copy, Debug, PartialEq, Eq, PartialOrd, Ord, Hash)]
+#[derive(Clone, Copy, Debug, Eq, PartialOrd, Ord, Hash)]
 pub struct Addr(pub [u8; 16]);
 
 impl Addr {
@@ -45,5 +47,19 @@ impl Addr {
         let mut bytes = [0; 16];
         BigEndian::write_u128(&mut bytes, bits);
         Addr(bytes)
+    }
+}
+
+/// Two addresses are equal if their bytes are, which are compared as two numbers.
+impl PartialEq for Addr {
+    ghost eq = { λ a b. bytes_eq a.0 b.0 };
+
+    ghost laws = { Prim.search (comparing, rules) };
+
+    #[tactic(auto, using(crate::proofs::Numbers::numbers_tell))]
+    fn eq(&self, other: &Addr) -> bool {
+        let _own = self.as_bytes();
+        let _other = other.as_bytes();
+        self.to_bits() == other.to_bits()
     }
 }

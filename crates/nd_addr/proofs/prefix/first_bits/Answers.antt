@@ -1,4 +1,4 @@
-use Rattle.std.proofs.Common.{rules, ◌≡◌, ◌*◌, ◌-◌, ◌/◌, ◌^◌, ℕ, ◌∙◌, sym, ap, arith}
+use Rattle.std.proofs.Common.{rules, ◌*◌, ◌-◌, ◌/◌, ◌^◌, ℕ, ◌∙◌, sym, ap}
 use Rattle.nd_addr.proofs.Numbers.{masked_by_number}
 use Rattle.nd_addr.proofs.Numbered.{sixteen}
 use Rattle.nd_addr.proofs.prefix.first_bits.Goals as goal
