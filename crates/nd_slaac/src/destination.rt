@@ -12,7 +12,7 @@ use crate::addresses::Addresses;
 use crate::entry::Entry;
 use crate::stage::Stage;
 use nd_addr::Addr;
-use nd_table::find;
+use nd_table::{Addressed, find};
 use std::alloc::Allocator;
 
 /// Which of the node's own addresses count for a received packet.
@@ -47,8 +47,20 @@ impl<A: Allocator> Addresses<A> {
     }
 }
 
-/// Returns true if an address has an entry that counts.
+/// Returns true if an address has an entry that counts. The last entry is looked at first: the link-local address is asked for most, and no other unicast
+/// address in use has a greater number.
 fn entry_counts(entries: &[Entry], counted: Counted, addr: Addr) -> bool
+    requires { Rises key_of entries.now }
+    ensures { result ≡ counted_in counted (address_in (number_of addr.0) entries.now) }
+{
+    match entries.last() {
+        Some(last) if last.addr() == addr => last.counts(counted),
+        _ => any_entry_counts(entries, counted, addr),
+    }
+}
+
+/// Returns the same by a search.
+fn any_entry_counts(entries: &[Entry], counted: Counted, addr: Addr) -> bool
     requires { Rises key_of entries.now }
     ensures { result ≡ counted_in counted (address_in (number_of addr.0) entries.now) }
 {
