@@ -18,10 +18,28 @@ fn word(high: u8, low: u8) -> u64
     256 * high as u64 + low as u64
 }
 
+/// What the upper two of four words are multiplied by in the number that the four make.
+const TWO_WORDS: u64 = 1 << 32;
+
 /// The most bytes that are added before the carries of their sum are added, so that no sum overflows (our choice).
 const PIECE: usize = 65536;
 
-/// Returns a sum plus the words of some bytes, two words a step. The carries are left in it.
+/// Returns a sum plus the words of at most three bytes.
+fn add_end(so_far: u64, bytes: &[u8]) -> u64
+    requires sum { so_far < 2 ^ 63 }
+    requires short { length bytes.now < 4 }
+    ensures exact { result ≡ so_far + word_sum bytes.now }
+    ensures small { result ≤ so_far + 2 ^ 30 * length bytes.now }
+{
+    match bytes {
+        [a, b, c] => so_far + word(*a, *b) + word(*c, 0),
+        [a, b] => so_far + word(*a, *b),
+        [a] => so_far + word(*a, 0),
+        _ => so_far,
+    }
+}
+
+/// Returns a sum plus the words of some bytes, four words a step. The carries are left in it.
 fn add_piece(start: u64, bytes: &[u8]) -> u64
     requires start { start < 2 ^ 62 }
     requires piece { length bytes.now ≤ 2 ^ 16 }
@@ -30,15 +48,14 @@ fn add_piece(start: u64, bytes: &[u8]) -> u64
 {
     let mut so_far = start;
     let mut rest = bytes;
-    while let [a, b, c, d, after @ ..] = rest {
-        so_far += word(*a, *b) * 65536 + word(*c, *d);
+    while let [a, b, c, d, e, f, g, h, after @ ..] = rest {
+        let four = u64::from_be_bytes([*a, *b, *c, *d, *e, *f, *g, *h]);
+        so_far += four / TWO_WORDS + four % TWO_WORDS;
         rest = after;
     }
     match rest {
-        [a, b, c] => so_far + word(*a, *b) + word(*c, 0),
-        [a, b] => so_far + word(*a, *b),
-        [a] => so_far + word(*a, 0),
-        _ => so_far,
+        [a, b, c, d, after @ ..] => { add_end(so_far + word(*a, *b) * 65536 + word(*c, *d), after) }
+        _ => add_end(so_far, rest),
     }
 }
 
