@@ -4,6 +4,7 @@ pub mod Masking
 pub mod Numbers
 pub mod Numbered
 pub mod Written
+pub mod Filled
 pub mod GroupBytes
 pub mod MacTexts
 pub mod PrefixTexts

@@ -4,7 +4,7 @@ ghost use Rattle.nd_addr.specs.Frame.{frame_of, headers_length, written_headers,
 ghost use Rattle.nd_addr.specs.FrameKept.{frame_parts};
 ghost use Rattle.nd_addr.specs.Room.{HasRoom, Puts};
 
-use crate::ip6::{IPV6_HEADER_LENGTH, Ip6, put_header};
+use crate::ip6::{IPV6_HEADER_LENGTH, Ip6, header_bytes};
 use crate::mac::Mac;
 use crate::room::put_bytes;
 use crate::why::Why;
@@ -65,6 +65,18 @@ impl Frame {
     }
 }
 
+/// Returns what precedes a payload of this length: the three Ethernet fields, and the header.
+fn headers(destination: Mac, source: Mac, header: &Ip6, length: u16) -> [u8; HEADERS_LENGTH]
+    ensures { result ≡ written_headers destination source header.now length }
+{
+    let mut bytes = [0; HEADERS_LENGTH];
+    bytes[..SOURCE_AT].copy_from_slice(&destination.0);
+    bytes[SOURCE_AT..TYPE_AT].copy_from_slice(&source.0);
+    bytes[TYPE_AT..ETHERNET_HEADER_LENGTH].copy_from_slice(&ETHERNET_IPV6.to_be_bytes());
+    bytes[ETHERNET_HEADER_LENGTH..].copy_from_slice(&header_bytes(header, length));
+    bytes
+}
+
 /// Appends what precedes a payload of this length: the three Ethernet fields, and the header. There is room for `HEADERS_LENGTH` bytes more. It
 /// takes no memory.
 pub fn put_headers<A: Allocator>(
@@ -77,10 +89,7 @@ pub fn put_headers<A: Allocator>(
     requires { HasRoom out.old headers_length }
     ensures { Puts out.old out.new (written_headers destination source header.now length) }
 {
-    put_bytes(out, &destination.0);
-    put_bytes(out, &source.0);
-    put_bytes(out, &ETHERNET_IPV6.to_be_bytes());
-    put_header(out, header, length);
+    put_bytes(out, &headers(destination, source, header, length));
 }
 
 /// Returns the frame of a packet: the three Ethernet fields, the header with the payload's length, the payload. Returns an error if out of memory.

@@ -1,12 +1,10 @@
+ghost use Rattle.std.specs.Prelude.{◌≡◌};
 ghost use Rattle.nd_addr.specs.Given.{Gives};
-ghost use Rattle.nd_addr.specs.Ip6.{ipv6_header_length, packet_of, packet_parts, written_header};
-ghost use Rattle.nd_addr.specs.Room.{HasRoom, Puts};
+ghost use Rattle.nd_addr.specs.Ip6.{packet_of, packet_parts, written_header};
 
 use crate::addr::Addr;
-use crate::room::put_bytes;
 use crate::why::Why;
 use byteorder::{BigEndian, ByteOrder};
-use std::alloc::Allocator;
 
 /// The next header of ICMPv6 (RFC 4443, section 1), which is also the last byte of its pseudo-header (RFC 8200, section 8.1).
 pub const NEXT_HEADER_ICMPV6: u8 = 58;
@@ -92,19 +90,26 @@ impl Ip6 {
     }
 }
 
-/// Appends the header of a packet with a payload of this length.
-pub(crate) fn put_header<A: Allocator>(out: &mut Vec<u8, A>, header: &Ip6, length: u16)
-    requires { HasRoom out.old ipv6_header_length }
-    ensures { Puts out.old out.new (written_header header.now length) }
+/// Returns the bytes of the header of a packet with a payload of this length.
+pub(crate) fn header_bytes(header: &Ip6, length: u16) -> [u8; IPV6_HEADER_LENGTH]
+    ensures { result ≡ written_header header.now length }
 {
     let class = header.traffic_class as u32;
     let first = VERSION * (1 << 28) + class * (1 << 20) + header.flow_label % (1 << 20);
     let [a, b, c, d] = first.to_be_bytes();
     let [e, f] = length.to_be_bytes();
-    put_bytes(
-        out,
-        &[a, b, c, d, e, f, header.next_header, header.hop_limit],
-    );
-    put_bytes(out, header.source.as_bytes());
-    put_bytes(out, header.destination.as_bytes());
+    let mut bytes = [0; IPV6_HEADER_LENGTH];
+    bytes[..IPV6_SOURCE_AT].copy_from_slice(&[
+        a,
+        b,
+        c,
+        d,
+        e,
+        f,
+        header.next_header,
+        header.hop_limit,
+    ]);
+    bytes[IPV6_SOURCE_AT..IPV6_DESTINATION_AT].copy_from_slice(&header.source.0);
+    bytes[IPV6_DESTINATION_AT..].copy_from_slice(&header.destination.0);
+    bytes
 }
