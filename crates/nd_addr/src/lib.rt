@@ -23,7 +23,7 @@ mod why;
 pub use addr::Addr;
 pub use checksum::{SUM_AT, sum_for, sum_is_good};
 pub use frame::{
-    ETHERNET_HEADER_LENGTH, ETHERNET_IPV6, ETHERNET_MTU, Frame, FrameRef, HEADERS_LENGTH,
+    ETHERNET_HEADER_LENGTH, ETHERNET_IPV6, ETHERNET_MTU, Frame, FrameRef, HEADERS_LENGTH, headers,
     put_headers, write_frame,
 };
 pub use ip6::{

@@ -49,7 +49,3 @@ solicitation_short mac target m h = omega (arith, h.len_is, m.len_is, length-app
 pub router_solicitation_short : (mac : Mac) → AreBytes 6 mac.0 → written_length (record { body = bodies.Rs; options = slla mac ∷ [] }) ≤ longest_message
 unfolding spelling
 router_solicitation_short mac m = omega (arith, m.len_is, length-append mac.0 [])
-
-pub advertisement_short : (router solicited : Bool) (mac : Mac) (target : Addr) → AreBytes 6 mac.0 → AreBytes 16 target.0 → written_length (advertisement router solicited mac target) ≤ longest_message
-unfolding spelling
-advertisement_short router solicited mac target m h = omega (arith, h.len_is, m.len_is, length-append mac.0 [], length-append target.0 (2 ∷ 1 ∷ mac.0 ++ []))

@@ -1,3 +1,4 @@
 pub mod Formed
 pub mod Meant
 pub mod Redirects
+pub mod ShortFrames

@@ -1,15 +1,20 @@
 //! The Neighbor Advertisements that a node sends (RFC 4861, sections 4.4 and 7.2.4).
 
-ghost use Rattle.std.specs.Prelude.{◌≡◌};
+ghost use Rattle.std.specs.Prelude.{◌≡◌, true};
 ghost use Rattle.nd_message.specs.Frame.{message_frame};
+ghost use Rattle.nd_message.specs.Spelling.{spelling, three_flags_of};
 ghost use Rattle.nd_compose.specs.Frames.{advertisement, defence_frame, answer_frame};
 
-use crate::frame_room::{FrameRoom, are_bytes};
+use crate::frame_room::{FrameRoom, LONGEST_MESSAGE};
 use crate::open_mac::OPEN_MAC;
+use crate::short_frame::short_frame;
 use nd_addr::{Addr, Mac};
-use nd_message::{Body, NeighborAdvertisement, Opt};
+use nd_decode::{
+    ICMPV6_NEIGHBOR_ADVERTISEMENT, LINK_LAYER_ADDRESS_UNITS, NeighborAdvertisement,
+    OPTION_TARGET_LINK_LAYER_ADDRESS,
+};
 use nd_packet::Packet;
-use std::alloc::{Allocator, Global};
+use std::alloc::Allocator;
 
 impl<A: Allocator> FrameRoom<A> {
     /// Returns the answer to a solicitation from `::` for one of the node's own addresses: an advertisement to all nodes says that this node has
@@ -36,7 +41,6 @@ impl<A: Allocator> FrameRoom<A> {
     }
 
     /// Returns a Neighbor Advertisement from its target, with the target's link-layer address and the Override flag (RFC 4861, section 4.4).
-    #[tactic(auto, using(crate::proofs::Formed::advertisement_formed, crate::proofs::Formed::advertisement_short))]
     fn advertise(
         self,
         to: Mac,
@@ -48,14 +52,63 @@ impl<A: Allocator> FrameRoom<A> {
     ) -> Packet<A>
         ensures { result ≡ message_frame to mac target destination (advertisement router solicited mac target) }
     {
-        are_bytes(&mac, &target);
-        let body = Body::Na(NeighborAdvertisement {
-            router,
-            solicited,
-            override_flag: true,
-            target,
-        });
-        let options: [Opt<Global>; 1] = [Opt::Tlla(mac)];
-        self.write(to, mac, target, destination, &body, &options)
+        let message = advertisement_bytes(router, solicited, mac, target);
+        self.put(&short_frame(to, mac, target, destination, message))
     }
+}
+
+/// Returns the flags of an advertisement that is to override what is known (RFC 4861, section 4.4).
+fn flags(router: bool, solicited: bool) -> u8
+    ensures { result ≡ three_flags_of router solicited true }
+{
+    let router = if router {
+        NeighborAdvertisement::FLAG_ROUTER
+    } else {
+        0
+    };
+    let solicited = if solicited {
+        NeighborAdvertisement::FLAG_SOLICITED
+    } else {
+        0
+    };
+    router | solicited | NeighborAdvertisement::FLAG_OVERRIDE
+}
+
+/// Returns the bytes of an advertisement with its target's link-layer address (RFC 4861, sections 4.4 and 4.6.1), with a checksum of 0.
+fn advertisement_bytes(
+    router: bool,
+    solicited: bool,
+    mac: Mac,
+    target: Addr,
+) -> [u8; LONGEST_MESSAGE]
+    ensures { result ≡ spelling 0 (advertisement router solicited mac target) }
+{
+    let [a, b, c, d, e, f] = mac.0;
+    let kind = OPTION_TARGET_LINK_LAYER_ADDRESS;
+    let flags = flags(router, solicited);
+    let mut bytes = [0; LONGEST_MESSAGE];
+    bytes[..NeighborAdvertisement::TARGET_AT].copy_from_slice(&[
+        ICMPV6_NEIGHBOR_ADVERTISEMENT,
+        0,
+        0,
+        0,
+        flags,
+        0,
+        0,
+        0,
+    ]);
+    bytes[NeighborAdvertisement::TARGET_AT..NeighborAdvertisement::LENGTH].copy_from_slice(
+        &target.0,
+    );
+    bytes[NeighborAdvertisement::LENGTH..].copy_from_slice(&[
+        kind,
+        LINK_LAYER_ADDRESS_UNITS,
+        a,
+        b,
+        c,
+        d,
+        e,
+        f,
+    ]);
+    bytes
 }

@@ -1,15 +1,15 @@
 //! Room for one short frame, reserved before it is sent.
 
-ghost use Rattle.std.specs.Prelude.{◌≡◌, ◌≤◌, ◌+◌, ◌↔◌, [], IfOk, IfSome, IsSome, IsTrue, max, vec_capacity};
+ghost use Rattle.std.specs.Prelude.{◌≡◌, ◌≤◌, ◌+◌, ◌↔◌, [], IfOk, IfSome, IsSome, IsTrue, length, max, vec_capacity};
 ghost use Rattle.nd_addr.specs.Bytes.{AreBytes};
-ghost use Rattle.nd_addr.specs.Frame.{headers_length};
+ghost use Rattle.nd_addr.specs.Frame.{ethernet_header_length, headers_length};
 ghost use Rattle.nd_message.specs.Frame.{message_frame};
 ghost use Rattle.nd_message.specs.Owned.{whole_of};
 ghost use Rattle.nd_message.specs.Spelling.{written_length};
 ghost use Rattle.nd_message.specs.WellFormed.{IsWellFormed};
 ghost use Rattle.nd_compose.specs.Frames.{longest_message};
 
-use nd_addr::{Addr, HEADERS_LENGTH, Mac};
+use nd_addr::{Addr, HEADERS_LENGTH, Mac, put_bytes};
 use nd_message::{Body, Opt, put_frame};
 use nd_packet::Packet;
 use std::alloc::{AllocError, Allocator};
@@ -64,6 +64,20 @@ impl<A: Allocator> FrameRoom<A> {
         ensures { IsTrue result ↔ HasRoomFor self.now length }
     {
         HEADERS_LENGTH + length <= self.bytes.capacity()
+    }
+
+    /// Puts the whole frame of a short message into the room.
+    pub(crate) fn put(self, frame: &[u8]) -> Packet<A>
+        requires whole { ethernet_header_length ≤ length frame.now }
+        requires short { length frame.now ≤ headers_length + longest_message }
+        ensures { result ≡ frame.now }
+    {
+        let mut out = self.bytes;
+        put_bytes(&mut out, frame);
+        match Packet::new(out) {
+            Some(packet) => packet,
+            None => unreachable!(),
+        }
     }
 
     /// Writes the frame of a message into the room, from one Ethernet address to another, and from a source to a destination.

@@ -10,6 +10,7 @@ mod open_mac;
 mod redirect;
 mod router_advertisement;
 mod router_solicitation;
+mod short_frame;
 mod solicitation;
 
 pub use frame_room::{FrameRoom, LONGEST_MESSAGE};
