@@ -47,7 +47,7 @@ word_sum-length n =
 
 -- the sum of a pseudo-header, part by part
 pub header_rest : (source destination : List ℕ) (len a b : ℕ) → length source ≡ 16 → length destination ≡ 16
-    → HasRestOf a (len % 2 ^ 32 + 58 + word_sum source) → HasRestOf b (a + word_sum destination) → HasRestOf b (word_sum (pseudo_header source destination len))
+    → HasRestOf a (word_sum source) → HasRestOf b (word_sum destination) → HasRestOf (len % 2 ^ 32 + 58 + a + b) (word_sum (pseudo_header source destination len))
 header_rest source destination len a b s d ha hb =
     omega (arith, word_sum-pseudo_header source destination len s d, word_sum-length len, ha, hb)
 

@@ -74,13 +74,30 @@ fn add_words(start: u64, bytes: &[u8]) -> u64
     add_piece(so_far, rest)
 }
 
+/// Returns the sum of two words, the upper one shifted: the rest by 65535 is the same.
+fn two_words(a: u8, b: u8, c: u8, d: u8) -> u64
+    ensures rest { HasRestOf result (256 * a + b + (256 * c + d)) }
+    ensures small { result < 2 ^ 32 }
+{
+    u32::from_be_bytes([a, b, c, d]) as u64
+}
+
+/// Returns the sum of the words of an address. The carries are left in it.
+fn address_sum(address: Addr) -> u64
+    ensures rest { HasRestOf result (word_sum address.0) }
+    ensures small { result < 2 ^ 34 }
+{
+    let [a, b, c, d, e, f, g, h, i, j, k, l, m, n, o, p] = address.0;
+    two_words(a, b, c, d) + two_words(e, f, g, h) + two_words(i, j, k, l) + two_words(m, n, o, p)
+}
+
 /// Returns the sum of the pseudo-header of a message of this length.
 fn header_sum(source: Addr, destination: Addr, length: usize) -> u64
     ensures rest { HasRestOf result (word_sum (pseudo_header source.0 destination.0 length)) }
     ensures small { result < 2 ^ 36 }
 {
     let start = (length % (1 << 32)) as u64 + NEXT_HEADER_ICMPV6 as u64;
-    add_piece(add_piece(start, &source.0), &destination.0)
+    start + address_sum(source) + address_sum(destination)
 }
 
 /// Returns true if the checksum of a message, which includes its field, is good (RFC 4443, section 2.3). Both spellings of zero in the field are
