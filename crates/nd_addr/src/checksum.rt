@@ -75,6 +75,7 @@ fn add_words(start: u64, bytes: &[u8]) -> u64
 }
 
 /// Returns the sum of two words, the upper one shifted: the rest by 65535 is the same.
+#[inline(always)]
 fn two_words(a: u8, b: u8, c: u8, d: u8) -> u64
     ensures rest { HasRestOf result (256 * a + b + (256 * c + d)) }
     ensures small { result < 2 ^ 32 }
@@ -83,6 +84,7 @@ fn two_words(a: u8, b: u8, c: u8, d: u8) -> u64
 }
 
 /// Returns the sum of the words of an address. The carries are left in it.
+#[inline(always)]
 fn address_sum(address: Addr) -> u64
     ensures rest { HasRestOf result (word_sum address.0) }
     ensures small { result < 2 ^ 34 }
@@ -92,6 +94,7 @@ fn address_sum(address: Addr) -> u64
 }
 
 /// Returns the sum of the pseudo-header of a message of this length.
+#[inline(always)]
 fn header_sum(source: Addr, destination: Addr, length: usize) -> u64
     ensures rest { HasRestOf result (word_sum (pseudo_header source.0 destination.0 length)) }
     ensures small { result < 2 ^ 36 }

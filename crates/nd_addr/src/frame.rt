@@ -66,6 +66,7 @@ impl Frame {
 }
 
 /// Returns what precedes a payload of this length: the three Ethernet fields, and the header.
+#[inline(always)]
 pub fn headers(destination: Mac, source: Mac, header: &Ip6, length: u16) -> [u8; HEADERS_LENGTH]
     ensures { result ≡ written_headers destination source header.now length }
 {

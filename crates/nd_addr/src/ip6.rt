@@ -91,6 +91,7 @@ impl Ip6 {
 }
 
 /// Returns the bytes of the header of a packet with a payload of this length.
+#[inline(always)]
 pub(crate) fn header_bytes(header: &Ip6, length: u16) -> [u8; IPV6_HEADER_LENGTH]
     ensures { result ≡ written_header header.now length }
 {

@@ -31,6 +31,7 @@ pub extern "C" fn nd_poll(
 }
 
 /// Takes the oldest record of a session.
+#[inline(always)]
 fn poll(session: &mut Session, out: &mut Record, buffer: &mut [u8]) -> i32
     ensures { Polls session.old session.new result out.old out.new buffer.old buffer.new }
 {

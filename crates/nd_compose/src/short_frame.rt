@@ -17,6 +17,7 @@ const SUM_END: usize = SUM_AT + 2;
 const FRAME_LENGTH: usize = HEADERS_LENGTH + LONGEST_MESSAGE;
 
 /// Returns the message with its checksum (RFC 4443, section 2.3). So far its checksum is 0.
+#[inline(always)]
 fn summed(source: Addr, destination: Addr, message: [u8; LONGEST_MESSAGE]) -> [u8; LONGEST_MESSAGE]
     ensures { result ≡ with_sum (big_bytes 2 (sum_to_write source.0 destination.0 message)) message }
 {
@@ -27,6 +28,7 @@ fn summed(source: Addr, destination: Addr, message: [u8; LONGEST_MESSAGE]) -> [u
 }
 
 /// Returns the frame of a message whose checksum is still 0, from one Ethernet address to another, and from a source to a destination.
+#[inline(always)]
 pub(crate) fn short_frame(
     to: Mac,
     from: Mac,

@@ -23,6 +23,7 @@ impl<A: Allocator> Cache<A> {
 
     /// Returns true if there is room for a neighbour, which may be new, and after a use of it for a second one: neither would be refused as `Full`.
     /// If so, there is room for the second one after `used` of the first.
+    #[inline(always)]
     pub fn room(&self, now: u64, addr: Addr, then: Option<Addr>) -> bool
         ensures value { result ≡ has_room self.now.limit now (number_of addr.0) (option_map (λ next. number_of next.0) then) self.now.entries }
         ensures history { (history : List Row) → Stands self.now.entries history → result ≡ true ↔ HasRoom self.now.limit now (number_of addr.0) (option_map (λ next. number_of next.0) then) history }

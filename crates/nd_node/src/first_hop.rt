@@ -60,6 +60,7 @@ impl<R: Rng + Drop, A: Allocator + Clone> Node<R, A> {
 
     /// Returns the next hop of this node's packet to `destination` at `now`, in milliseconds, up to which nothing is due: a host chooses from its
     /// tables, a router takes its longest route (RFC 4861, section 5.2).
+    #[inline(always)]
     pub(crate) fn hop_of_packet(&mut self, now: u64, destination: Addr) -> Hop
         requires settled { now < next_of self.old }
         ensures next { (start : Start) (c : Chronicle) → Stands R.stream start self.old c → last_moment start.at c ≤ now → IsHopOf start start.role c now destination (hop_of result) }

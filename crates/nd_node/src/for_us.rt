@@ -35,6 +35,7 @@ impl<R: Rng + Drop, A: Allocator + Clone> Node<R, A> {
 
     /// Returns true if `destination` is the all-nodes address, at a router the all-routers address, one of the node's own addresses of the kind
     /// `counted`, or the solicited-node address of one of these (RFC 4291, section 2.8).
+    #[inline(always)]
     fn is_ours(&self, counted: Counted, destination: Addr) -> bool
         ensures { (start : Start) (c : Chronicle) → Stands R.stream start self.now c → result ≡ true ↔ IsOurs start (counting counted c) destination }
     {

@@ -102,6 +102,7 @@ impl<R: Rng + Drop, A: Allocator + Clone> Node<R, A> {
     }
 
     /// Handles a valid message, as the policies read it, if it is for this node.
+    #[inline(always)]
     fn judge_message(
         &mut self,
         now: u64,

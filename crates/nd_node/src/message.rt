@@ -93,6 +93,7 @@ impl<R: Rng + Drop, A: Allocator + Clone> Node<R, A> {
 
     /// Handles a valid message for this node at `now`, in milliseconds (RFC 4861, sections 6.2.6, 6.3.4, 7.2.3, 7.2.5 and 8.3). Returns an error if
     /// out of memory; nothing has happened then.
+    #[inline(always)]
     pub(crate) fn hear_message(
         &mut self,
         now: u64,

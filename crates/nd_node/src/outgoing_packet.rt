@@ -38,6 +38,7 @@ impl<R: Rng + Drop, A: Allocator + Clone> Node<R, A> {
 
     /// Returns why a packet is refused, the first reason that holds: the link-local address is a duplicate (RFC 4862, section 5.4.5), the source
     /// isn't assigned, or the packet is too long. It takes no memory.
+    #[inline(always)]
     fn refusal_of(&self, source: Addr, payload: &[u8]) -> Option<Refusal>
         ensures says { (start : Start) (now : ℕ) (c : Chronicle) → Stands R.stream start self.now c → option_map refusal_of result ≡ refusal_of_packet start now source payload.now c }
         ensures short { result ≡ None → length payload.now ≤ 65535 }
@@ -134,6 +135,7 @@ impl<R: Rng + Drop, A: Allocator + Clone> Node<R, A> {
 
     /// Sends a packet of the upper layer to a neighbour, or refuses it if there is no room for the neighbour, before a frame is made. Returns an
     /// error if out of memory; nothing has changed then.
+    #[inline(always)]
     fn send_to_neighbour(
         &mut self,
         now: u64,

@@ -286,6 +286,7 @@ impl Session {
     /// Removes the oldest report from the queue, once the caller has copied what it needs of it. If the room in reserve is missing, the block of a frame
     /// becomes it. It takes no memory. Returns false if the report was a frame whose block is too short for that; the frame that took the room along
     /// has a block that is long enough.
+    #[inline(always)]
     pub fn remove_oldest(&mut self) -> bool
         ensures rest { self.new.queue ≡ drop 1 self.old.queue }
         ensures node { self.new.node ≡ self.old.node }

@@ -49,6 +49,7 @@ impl<A: Allocator> Addresses<A> {
 
 /// Returns true if an address has an entry that counts. The last entry is looked at first: the link-local address is asked for most, and no other unicast
 /// address in use has a greater number.
+#[inline(always)]
 fn entry_counts(entries: &[Entry], counted: Counted, addr: Addr) -> bool
     requires { Rises key_of entries.now }
     ensures { result ≡ counted_in counted (address_in (number_of addr.0) entries.now) }

@@ -117,6 +117,7 @@ pub fn tell_left<A: Allocator>(
 /// Removes a neighbour that is no longer a router from the list of default routers at `now`, in milliseconds, if `ends` and the neighbour is in the
 /// list. The redirects to it end, and that is reported (RFC 4861, section 7.2.5). Returns true if it left the list. It takes no memory: the caller
 /// has made room.
+#[inline(always)]
 pub fn end_router<A: Allocator>(
     routers: &mut Routers<A>,
     choice: &mut Choice<A>,

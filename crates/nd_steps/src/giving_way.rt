@@ -89,6 +89,7 @@ fn make_way<A: Allocator>(
 
 /// Takes what a message says of a neighbour at `now`, in milliseconds, if it says anything, as `hear_of_neighbour` does, where another one may give way to it,
 /// as `make_way` says. Returns the one that gave way. It takes no memory: the caller has made room.
+#[inline(always)]
 pub fn hear_giver<A: Allocator>(
     neighbours: &mut Cache<A>,
     choice: &mut Choice<A>,

@@ -46,6 +46,7 @@ fn has_place_with<A: Allocator>(neighbours: &Cache<A>, now: u64, news: &News) ->
 
 /// Returns true if there is room at `now`, in milliseconds, for the neighbour of these news, in case there are news and they add it, or if `speakers` are let
 /// in and another one gives way to it.
+#[inline(always)]
 pub fn has_place<A: Allocator>(
     neighbours: &Cache<A>,
     now: u64,

@@ -106,6 +106,7 @@ fn given_by_redirect(redirect: &Redirect, mac: Option<Mac>) -> Option<News>
 
 /// Returns what a message says of a neighbour, if it says anything (RFC 4861, sections 6.2.6, 6.3.4, 7.2.3, 7.2.5 and 8.3). With `own`, the node's own
 /// link-layer address, its options that give this address or one that no node has are passed over.
+#[inline(always)]
 pub fn news_of(source: Addr, body: &Body, options: Options<'_>, own: Option<Mac>) -> Option<News>
     ensures { (times : Times) → option_map (said_by times) result ≡ said_of_neighbour source body.now (without own (options_left options.entry)) times.reachable }
 {

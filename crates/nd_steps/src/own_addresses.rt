@@ -176,6 +176,7 @@ pub fn hear_prefix_options<R: Rng, A: Allocator>(
 
 /// Makes a tentative address a duplicate, since another node has it or tries it (RFC 4862, sections 5.4.3 and 5.4.4), and forgets remembered next
 /// hops then. Returns true if the address was tentative. It takes no memory.
+#[inline(always)]
 pub fn hear_conflict<A: Allocator>(
     addresses: &mut Addresses<A>,
     choice: &mut Choice<A>,
