@@ -1,5 +1,6 @@
 pub mod Address
 pub mod Advertising
+pub mod Changes
 pub mod Dns
 pub mod Limits
 pub mod Message

@@ -8,9 +8,10 @@ use Rattle.nd_out.specs.declared.out.Loss.{Loss}
 use Rattle.nd_out.specs.declared.out.Loss.TheVariants as losses
 use Rattle.nd_out.specs.declared.out.Refusal.{Refusal}
 use Rattle.nd_out.specs.declared.out.Refusal.TheVariants as refusals
-use Rattle.nd_out.specs.Out.{limit_of, refusal_of}
+use Rattle.nd_out.specs.Out.{happening, limit_of, refusal_of}
 use Rattle.nd_out.specs.declared.out.Out.{Out}
 use Rattle.nd_out.specs.declared.out.Out.TheVariants as outs
+use Rattle.nd_c_types.specs.Changes.{changes_number}
 use Rattle.nd_c_types.specs.Numbers.{no_address}
 use Rattle.nd_c_types.specs.Refusal.{full_number, limit_number, refusal_number}
 use Rattle.nd_c_types.specs.declared.«record».Record.{Record}
@@ -33,7 +34,7 @@ loss_number losses.HopLimit = 5
 
 -- no field
 abbrev pub nothing : Record
-nothing = record { moment = 0; length = 0; kind = 0; code = 0; limit = 0; reserved = 0; address = no_address }
+nothing = record { moment = 0; length = 0; kind = 0; code = 0; limit = 0; changes = 0; address = no_address }
 
 -- the source that is no assigned address
 abbrev pub source_of : Refusal → List ℕ
@@ -44,7 +45,7 @@ source_of _ = no_address
 abbrev pub of_refusal : Refusal → Record
 of_refusal why = record nothing { kind = 11; code = refusal_number (refusal_of why); limit = full_number (refusal_of why); address = source_of why }
 
--- the kind, and what it has besides a moment and bytes: enum nd_kind
+-- the kind, and what it has besides a moment, bytes and what it changes: enum nd_kind
 abbrev pub contents_of : {A : Type 0} → Out A → Record
 contents_of (outs.Frame packet) = record nothing { kind = 1 }
 contents_of (outs.Heard source destination body) = record nothing { kind = 2; code = type_of body; address = source.0 }
@@ -84,4 +85,4 @@ bytes_in (outs.Past last) = []
 
 -- the whole record
 abbrev pub record_of : {A : Type 0} → ℕ → Out A → Record
-record_of moment out = record (contents_of out) { moment = moment; length = length (bytes_in out) }
+record_of moment out = record (contents_of out) { moment = moment; length = length (bytes_in out); changes = changes_number (happening out) }

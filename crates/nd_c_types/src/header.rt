@@ -68,6 +68,21 @@ pub const OUT_RESOLVED: u32 = 13;
 
 pub const OUT_IGNORED: u32 = 14;
 
+// The tables that a report may have changed: `enum nd_change`.
+pub const CHANGE_ROUTERS: u32 = 1;
+
+pub const CHANGE_PREFIXES: u32 = 2;
+
+pub const CHANGE_ADDRESSES: u32 = 4;
+
+pub const CHANGE_SERVERS: u32 = 8;
+
+pub const CHANGE_NAMES: u32 = 16;
+
+pub const CHANGE_REDIRECTS: u32 = 32;
+
+pub const CHANGE_PARAMETERS: u32 = 64;
+
 // Why a packet is not sent: `enum nd_loss`.
 pub const LOSS_UNREACHABLE: u32 = 1;
 

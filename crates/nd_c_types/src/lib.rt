@@ -8,10 +8,12 @@
 mod address;
 mod advertising;
 mod bytes;
+mod changes;
 mod clearable;
 mod counts;
 mod dns;
 pub mod header;
+pub mod laws;
 mod limits;
 mod message;
 mod name_text;

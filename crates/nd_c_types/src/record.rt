@@ -3,6 +3,7 @@
 ghost use Rattle.std.specs.Prelude.{◌≡◌};
 ghost use Rattle.nd_c_types.specs.Record.{bytes_in, contents_of, loss_number, nothing, of_refusal, record_of, source_of};
 
+use crate::changes::changes_of;
 use crate::header::{
     LOSS_FORGOTTEN, LOSS_HOP_LIMIT, LOSS_NO_ROUTE, LOSS_REPLACED, LOSS_UNREACHABLE, OUT_ASSIGNED,
     OUT_DROPPED, OUT_DUPLICATE, OUT_ENDED_ADDRESS, OUT_ENDED_ROUTER, OUT_FAILED, OUT_FRAME,
@@ -27,7 +28,8 @@ pub struct Record {
     pub code: u32,
     /// ND_LIMIT_NEIGHBOURS to ND_LIMIT_STATIC_ROUTES: the table that is full.
     pub limit: u32,
-    pub reserved: u32,
+    /// A sum of ND_CHANGE_ROUTERS and its like: the tables that may have changed with it.
+    pub changes: u32,
     pub address: [u8; 16],
 }
 
@@ -38,7 +40,7 @@ const NOTHING: Record = Record {
     kind: 0,
     code: 0,
     limit: 0,
-    reserved: 0,
+    changes: 0,
     address: [0; 16],
 };
 
@@ -49,15 +51,17 @@ impl Record {
         ensures { result ≡ record_of moment out.now }
     {
         let length = bytes_of(out).len();
+        let changes = changes_of(out);
         let contents = Record::contents_of(out);
         Record {
             moment,
             length,
+            changes,
             ..contents
         }
     }
 
-    /// Returns the record without its moment and the number of its bytes.
+    /// Returns the record without its moment, the number of its bytes and what it changes.
     fn contents_of<A: Allocator>(out: &Out<A>) -> Record
         ensures { result ≡ contents_of out.now }
     {
