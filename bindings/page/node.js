@@ -6,7 +6,7 @@ const SIZES = { u8: 1, u16: 2, u32: 4, u64: 8, mac: 6, address: 16, name: 256 };
 const STRUCTURES = {
     options: 'role:u32 mac:mac transmits:u8 draws:u8 policies:u32 start:u64 seed:u64 neighbours:u16 routers:u16 prefixes:u16 addresses:u16 '
         + 'servers:u16 names:u16 redirects:u16 destinations:u16 offers:u16 routes:u16 waiting:u16',
-    out: 'moment:u64 length:u64 kind:u32 code:u32 limit:u32 reserved:u32 address:address',
+    out: 'moment:u64 length:u64 kind:u32 code:u32 limit:u32 changes:u32 address:address',
     neighbour: 'reachable_left:u64 address:address mac:mac has_mac:u8 is_router:u8 state:u32',
     router: 'left:u64 address:address preference:u32',
     prefix: 'left:u64 prefix:address bits:u32',

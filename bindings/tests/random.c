@@ -6,7 +6,8 @@
  * longest packets for each neighbour and the room of the queue; during a call, no more than that and twice what it reports. A frame that is dropped
  * or refused has one record and leaves all tables as they were. A reason that nd_hear says is the node's reason. A second node, which receives none
  * of the frames that were dropped or refused, reports the same as the first one of all else; and so does a third one, to which memory is refused at
- * every other call, and calls that return ND_NO_MEMORY are made again. At the end all memory is given back.
+ * every other call, and calls that return ND_NO_MEMORY are made again. A frame leaves each table that `changes` of its records do not name, and at a
+ * host each table is changed by some frame. At the end all memory is given back.
  *   The last lines are the counts. */
 #include "heap.h"
 #include "busy.h"
@@ -36,6 +37,8 @@ static bool is_scarce;
 static uint64_t scarce_state;
 static size_t again;
 
+static uint32_t changes; /* of the records that were taken last */
+static size_t changed[CHANGEABLE];
 static size_t heard[TYPES], up, in_transit, dropped[REASONS], refused[LIMITS], events, refused_events[REFUSALS];
 
 /* ---- random frames --------------------------------------------------------------------------- */
@@ -276,10 +279,12 @@ static size_t take_records(nd_out *first, size_t *bytes)
     size_t count = 0;
     int32_t status;
     *bytes = 0;
+    changes = 0;
     for (; (status = nd_poll(&node, &out, buffer, sizeof buffer)) == ND_DONE; count++) {
         if (count == 0)
             *first = out;
         *bytes += out.length;
+        changes |= out.changes;
         reported = mix(mix(reported, &out, sizeof out), buffer, out.length);
     }
     require(status == ND_NOTHING, "the queue is emptied");
@@ -440,22 +445,35 @@ static void print_counts(size_t frames)
            refused_events[ND_REFUSAL_FULL]);
 }
 
+/* Requires that no table has changed but those that the records named. */
+static void require_named(const uint64_t before[CHANGEABLE])
+{
+    uint64_t afterwards[CHANGEABLE];
+    changeable_at(&node, now, afterwards);
+    for (size_t i = 0; i < CHANGEABLE; i++) {
+        require(before[i] == afterwards[i] || (changes >> i & 1) != 0, "a table that no record names is left");
+        changed[i] += before[i] != afterwards[i];
+    }
+}
+
 /* Passes a frame to the node, and requires what holds of it. `tables` is the hash before it, and afterwards. Returns true if it had no effect. */
 static bool receive(const uint8_t *bytes, size_t length, uint64_t *tables)
 {
     nd_heard hears;
     nd_out first;
     size_t records, size;
-    uint64_t before = reported, afterwards;
+    uint64_t before = reported, afterwards, tables_before[CHANGEABLE];
     int32_t status;
     uint8_t *own = malloc(length + 1); /* a block of its own, whose end valgrind knows */
     require(own != NULL, "memory for a frame");
     memcpy(own, bytes, length);
     require(nd_hear(own, length, role, &hears) == ND_DONE, "nd_hear");
+    changeable_at(&node, now, tables_before);
     status = nd_receive(&node, now, own, length);
     free(own);
     records = take_records(&first, &size);
     require_bounds(records, size);
+    require_named(tables_before);
     afterwards = tables_of(&node, now);
     if (count(status, records, &first, &hears)) {
         require(afterwards == *tables, "a frame that is dropped or refused leaves all tables as they were");
@@ -532,6 +550,8 @@ int main(int argc, char **argv)
     require(is_without_effect != NULL, "memory for the frames");
     read_named();
     run(frames, strtoul(argv[4], NULL, 10));
+    for (size_t i = 0; i < CHANGEABLE; i++)
+        require(changed[i] > 0 || role == ND_ROLE_ROUTER, "each table changes at some frame");
     print_counts(frames);
     fprintf(stderr, "nd_node_bytes %zu, held at most %zu, during a call %zu, at most %zu records\n", bound, held_most, peak_most, records_most);
     hash = closed();

@@ -22,6 +22,25 @@ enum { MOST_ROWS = 2048 };
         hash = mix(mix(hash, rows, count * sizeof row), &count, sizeof count); \
     } while (0)
 
+/* The tables of `enum nd_change`, by their bits. */
+enum { CHANGEABLE = 7 };
+
+/* Writes the hash of the rows of each of these tables at a moment. */
+static inline void changeable_at(nd_node *node, uint64_t now, uint64_t hashes[CHANGEABLE])
+{
+    nd_parameters_row parameters;
+    for (size_t i = 0; i < CHANGEABLE; i++)
+        hashes[i] = FIRST_HASH;
+    MIX_ROWS(hashes[0], nd_router_row, nd_routers, nd_router_at);
+    MIX_ROWS(hashes[1], nd_prefix_row, nd_prefixes, nd_prefix_at);
+    MIX_ROWS(hashes[2], nd_address_row, nd_addresses, nd_address_at);
+    MIX_ROWS(hashes[3], nd_server_row, nd_servers, nd_server_at);
+    MIX_ROWS(hashes[4], nd_name_row, nd_names, nd_name_at);
+    MIX_ROWS(hashes[5], nd_redirect_row, nd_redirects, nd_redirect_at);
+    require(nd_parameters_of(node, now, &parameters) == ND_DONE, "nd_parameters_of");
+    hashes[6] = mix(hashes[6], &parameters, sizeof parameters);
+}
+
 /* Returns the hash of what a node shows at a moment, where nothing is due before it, but for the moment up to which its time has passed. */
 static inline uint64_t rows_at(nd_node *node, uint64_t now)
 {

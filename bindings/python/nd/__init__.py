@@ -22,13 +22,13 @@ from .node import Node, Outcome
 from .options import Limits, Options, Seed, Word, node_bytes, pool_bytes
 from .output import (Assigned, Dropped, Duplicate, EndedAddress, EndedRouter, Failed, Frame, Heard, Ignored, Lost, Other, Record, Refused, Resolved,
                      Up)
-from .raw import (BUFFER_BYTES, FOREVER, LIFETIME_INFINITE, MOMENT_LIMIT, POLICIES_ROBUST, Clearable, Hearing, Hop, Limit, Loss, Policy, Preference,
-                  Reachability, Refusal, Role, State, Status, Why)
+from .raw import (BUFFER_BYTES, FOREVER, LIFETIME_INFINITE, MOMENT_LIMIT, POLICIES_ROBUST, Change, Clearable, Hearing, Hop, Limit, Loss, Policy,
+                  Preference, Reachability, Refusal, Role, State, Status, Why)
 from .rows import (Address, Advertising, Counts, Name, Neighbour, NextHop, NotResolved, Offer, Parameters, Path, Prefix, Redirect, Route, Router,
                    Server)
 from .values import Mac
 
-__all__ = ["Address", "Advertising", "Assigned", "BUFFER_BYTES", "Clearable", "Closed", "Counts", "Dropped", "Duplicate", "EndedAddress",
+__all__ = ["Address", "Advertising", "Assigned", "BUFFER_BYTES", "Change", "Clearable", "Closed", "Counts", "Dropped", "Duplicate", "EndedAddress",
            "EndedRouter", "Error", "FOREVER", "Failed", "Frame", "Heard", "HeardFrame", "Hearing", "Hop", "Ignored", "Invalid", "LIFETIME_INFINITE",
            "LibraryError", "Limit", "Limits", "Loss", "Lost", "MOMENT_LIMIT", "Mac", "Name", "Neighbour", "NextHop", "NoMemory", "NoRoom", "Node",
            "NotResolved", "Offer", "Options", "Other", "Outcome", "POLICIES_ROBUST", "Parameters", "Past", "Path", "Policy", "Preference", "Prefix",

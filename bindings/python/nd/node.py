@@ -9,7 +9,7 @@ from . import library, raw
 from .errors import NoRoom, checked
 from .options import Options
 from .output import Record, record_of
-from .raw import Clearable, Limit, Refusal, Status
+from .raw import Change, Clearable, Limit, Refusal, Status
 from .rows import (Address, Advertising, Counts, Name, Neighbour, NextHop, NotResolved, Offer, Parameters, Path, Prefix, Redirect, Route, Router,
                    Server)
 from .values import AddressLike, BytesLike, bytes_of, moment_of, raw_address, structure_of, unsigned
@@ -39,6 +39,7 @@ class Node:
         NoMemory if there is no room for the node."""
         self._node = raw.nd_node()
         self._buffer = ctypes.create_string_buffer(raw.BUFFER_BYTES)
+        self._changes = Change(0)
         made = options.raw()
         checked(library.call("nd_open", self._node, made, ctypes.sizeof(made)))
 
@@ -168,7 +169,17 @@ class Node:
         except NoRoom:
             self._buffer = ctypes.create_string_buffer(out.length)
             return self.poll_one()
-        return record_of(out, self._buffer.raw[:out.length]) if status == Status.DONE else None
+        if status != Status.DONE:
+            return None
+        self._changes |= Change(out.changes)
+        return record_of(out, self._buffer.raw[:out.length])
+
+    def changes(self) -> Change:
+        """Returns the tables that may have changed with the records that were taken since this was last asked. Besides, a table changes by a call
+        for it, as `clear`, and by time: a row is gone, or an address DEPRECATED, when what is left of its lifetime has passed, and ReachableTime is
+        drawn anew. The neighbours have no bit: with most frames one of them changes."""
+        changes, self._changes = self._changes, Change(0)
+        return changes
 
     # ---- what it knows: questions, which change nothing
 

@@ -246,9 +246,20 @@ class Limit(Numbers):
     STATIC_ROUTES = 8
 
 
+class Change(IntFlag):
+    """Tables that may have changed with a record; `Change(0)` is none."""
+    ROUTERS = 1
+    PREFIXES = 2
+    ADDRESSES = 4
+    SERVERS = 8
+    NAMES = 16
+    REDIRECTS = 32
+    PARAMETERS = 64
+
+
 class nd_out(Structure):
     _fields_ = [("moment", c_uint64), ("length", c_size_t), ("kind", c_uint32), ("code", c_uint32), ("limit", c_uint32),
-                ("reserved", c_uint32), ("address", nd_addr)]
+                ("changes", c_uint32), ("address", nd_addr)]
 
 
 class Reachability(Numbers):

@@ -90,7 +90,7 @@ pub use hear::{hear, Heard, Hearing, Message, Packet, RouterAdvertisement};
 pub use node::{Node, Reports};
 pub use numbers::{Clearable, Limit, Loss, MessageType, Preference, Reachability, State, Why};
 pub use options::{Draws, Limits, Options, Policies, Role};
-pub use output::{Output, Report};
+pub use output::{Changes, Output, Report};
 pub use router::{Advertising, Offer, Route};
 pub use rows::{Address, Counts, Hop, Name, Neighbour, OwnAddress, Parameters, Path, Prefix, Redirect, Router, Rows, Server};
 

@@ -81,6 +81,62 @@ pub enum Output<Bytes = Vec<u8>> {
     },
 }
 
+/// The tables that may have changed with a report. Besides, a table changes by a call for it, as [`Node::clear`](crate::Node::clear), and by time: a
+/// row is gone, or an address [`Deprecated`](crate::State::Deprecated), when what is left of its lifetime has passed, and ReachableTime is drawn anew.
+/// The neighbours are not among them: with most frames one of them changes.
+///
+/// ```
+/// use nd::{Changes, Draws, Node, Options};
+///
+/// let mut node = Node::open(Options::host([2, 0, 0, 0, 0, 1], 0, Draws::Word(0)))?;
+/// node.pass(2000)?;
+/// let changes = node.poll().fold(Changes::default(), |all, report| all | report.changes);
+/// assert!(changes.addresses && !changes.servers);
+/// # Ok::<(), nd::Error>(())
+/// ```
+#[derive(Clone, Copy, Debug, Default, PartialEq, Eq, Hash)]
+#[non_exhaustive]
+pub struct Changes {
+    /// The default routers.
+    pub routers: bool,
+    /// The prefixes on the link.
+    pub prefixes: bool,
+    /// The node's own addresses.
+    pub addresses: bool,
+    /// The DNS servers.
+    pub servers: bool,
+    /// The DNS search names.
+    pub names: bool,
+    /// The redirects.
+    pub redirects: bool,
+    /// The parameters of the link.
+    pub parameters: bool,
+}
+
+impl Changes {
+    /// Returns the tables of a sum.
+    fn of(sum: u32) -> Self {
+        let has = |number| sum & number != 0;
+        Changes { routers: has(1), prefixes: has(2), addresses: has(4), servers: has(8), names: has(16), redirects: has(32), parameters: has(64) }
+    }
+}
+
+impl std::ops::BitOr for Changes {
+    type Output = Self;
+
+    fn bitor(self, other: Self) -> Self {
+        Changes {
+            routers: self.routers | other.routers,
+            prefixes: self.prefixes | other.prefixes,
+            addresses: self.addresses | other.addresses,
+            servers: self.servers | other.servers,
+            names: self.names | other.names,
+            redirects: self.redirects | other.redirects,
+            parameters: self.parameters | other.parameters,
+        }
+    }
+}
+
 /// What happened at a node, and when.
 ///
 /// ```
@@ -101,6 +157,8 @@ pub struct Report<Bytes = Vec<u8>> {
     pub moment: u64,
     /// What happened.
     pub output: Output<Bytes>,
+    /// The tables that may have changed with it.
+    pub changes: Changes,
 }
 
 /// Returns the link-layer address that a record has as its bytes.
@@ -128,7 +186,7 @@ pub(crate) fn report_of<Bytes: AsRef<[u8]>>(out: &nd_out, bytes: Bytes) -> Repor
         14 => Output::Ignored(out.limit.into()),
         kind => Output::Other { kind, code: out.code },
     };
-    Report { moment: out.moment, output }
+    Report { moment: out.moment, output, changes: Changes::of(out.changes) }
 }
 
 #[cfg(test)]
@@ -138,6 +196,7 @@ mod tests {
     #[test]
     fn what_a_later_version_reports_is_kept() {
         let out = nd_out { moment: 7, kind: 12, code: 3, ..Default::default() };
-        assert_eq!(report_of(&out, Vec::new()), Report { moment: 7, output: Output::Other { kind: 12, code: 3 } });
+        let output = Output::Other { kind: 12, code: 3 };
+        assert_eq!(report_of(&out, Vec::new()), Report { moment: 7, output, changes: Changes::default() });
     }
 }

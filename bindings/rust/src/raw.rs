@@ -76,7 +76,7 @@ pub struct nd_out {
     pub kind: u32,
     pub code: u32,
     pub limit: u32,
-    pub reserved: u32,
+    pub changes: u32,
     pub address: nd_addr,
 }
 
