@@ -14,6 +14,7 @@ import corpus  # noqa: E402
 import frames  # noqa: E402
 import hostile  # noqa: E402
 import scripts  # noqa: E402
+import streams  # noqa: E402
 
 # The symbols that the archive of a node takes from the program.
 NEEDED = {"memcpy", "memmove", "memset", "nd_alloc", "nd_realloc", "nd_free"}
@@ -355,7 +356,21 @@ def check_tests(room, archive):
         check_hostile(room, archive, build, trace)
     with timed("floods"):
         check_floods(room, archive)
-    build(room, "measure", [f"{TESTS}/measure.c", HEAP, archive])
+    check_by_hand(room, build(room, "measure", [f"{TESTS}/measure.c", HEAP, archive]))
+
+
+def check_by_hand(room, measure):
+    """Requires that the C by hand with which `measure compare` compares the library gives the same records, frames, paths and tables for the same lines."""
+    by_hand = build(room, "by_hand", [f"{BINDINGS}/compare/by_hand.c"], f"-I{TESTS}")
+    for kind, stream in streams.COMPARED.items() if measure and by_hand else ():
+        wrong, count = [], 0
+        for known in (16, 127, 512, 2048):
+            words, text = [str(max(512, known)), str(streams.PREPARED), "records"], streams.text_of(stream(known))
+            said, wanted = run([by_hand, *words], input=text), run([measure, *words], input=text)
+            count += sum(int(lines) for lines in re.findall(r"^(\d+) lines, 0 refused", wanted.stdout, re.M))
+            if said.returncode or wanted.returncode or said.stdout != wanted.stdout:
+                wrong.append(f"{known} neighbours: {said.stderr}{wanted.stderr}{difference(said.stdout, wanted.stdout)}")
+        report_if(f"by_hand: {kind}, {count} lines: the records and the tables of the library", count > 0 and not wrong, "\n".join(wrong))
 
 
 def check_floods(room, archive):

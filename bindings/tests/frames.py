@@ -61,10 +61,16 @@ def names(lifetime, *texts):
     return bytes([31, 1 + len(spelled) // 8, 0, 0]) + struct.pack(">I", lifetime) + spelled
 
 
+def announced(mac, less=0):
+    """Returns the options of a usual Router Advertisement. `less`: how many seconds their lifetimes are shorter."""
+    options = link_layer(1, mac) + b"\5\1\0\0" + struct.pack(">I", 1500) + prefix("2001:db8:1::", 0xC0, 2592000 - less, 604800 - less)
+    options += prefix("2001:db8:2::", 0x80, 2592000 - less) + prefix("2001:db8:3::", 0x80, 2592000 - less)
+    return options + servers(1800 - less, "2001:db8::53", "2001:db8::54") + names(1800 - less, "example.com", "lab.example.net")
+
+
 def advertisement(mac=ROUTER_MAC, options=None, lifetime=1800, flags=0, flip=0):
     if options is None:
-        options = link_layer(1, mac) + b"\5\1\0\0" + struct.pack(">I", 1500) + prefix("2001:db8:1::", 0xC0) + prefix("2001:db8:2::", 0x80)
-        options += prefix("2001:db8:3::", 0x80) + servers(1800, "2001:db8::53", "2001:db8::54") + names(1800, "example.com", "lab.example.net")
+        options = announced(mac)
     return frame(link_local(mac), "ff02::1", mac, bytes([134, 0, 0, 0, 64, flags]) + struct.pack(">HII", lifetime, 0, 0) + options, flip)
 
 

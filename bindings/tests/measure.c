@@ -1,50 +1,12 @@
 /* measure: a host receives frames and sends packets, and empties its queue after each, and it is asked where packets go. The arguments are the limit
- * of neighbours and a moment; frames come one a line behind their moments. Other lines have a mark before the digits:
+ * of neighbours and a moment, and lines.h says which lines are read. Lines without a mark are frames. The marks:
  *   '>'  a packet to send: the destination, and then the payload
  *   '?'  nd_resolve of a destination
  *   '='  nd_next_hop of a destination, and nd_neighbour_of of that next hop
  *   '!'  nd_confirm_to of a destination, which was confirmed less than a second ago
- * The lines up to the moment prepare the tables. Of the others those are measured that have the mark of the last line, or none if it has none. Run it
- * under callgrind with --toggle-collect=measured, which then counts these alone, with what the memory functions take. */
-#include "tested.h"
-
-enum { MOST_BYTES = 65600, FRAME = 0, SEND = '>', RESOLVE = '?', LOOK_UP = '=', CONFIRM = '!' };
-
-static struct frame frames[MOST_FRAMES];
-static uint64_t moments[MOST_FRAMES];
-static char marks[MOST_FRAMES];
-
-/* Returns the mark at the beginning of a text, FRAME if there is none. */
-static char mark_of(const char *text)
-{
-    return *text == SEND || *text == RESOLVE || *text == LOOK_UP || *text == CONFIRM ? *text : FRAME;
-}
-
-static void require_length(char mark, size_t length)
-{
-    require(mark == FRAME || length >= sizeof(nd_addr), "a destination");
-    require(mark == FRAME || mark == SEND || length == sizeof(nd_addr), "a destination alone");
-}
-
-static size_t read_moments(void)
-{
-    static char line[2 * MOST_BYTES + 32];
-    static uint8_t bytes[MOST_BYTES];
-    size_t count = 0;
-    while (count < MOST_FRAMES && fgets(line, sizeof line, stdin) != NULL) {
-        char *digits;
-        moments[count] = strtoull(line, &digits, 10);
-        digits += *digits == ' ';
-        marks[count] = mark_of(digits);
-        frames[count].length = bytes_of(digits + (marks[count] != FRAME), bytes, sizeof bytes);
-        require_length(marks[count], frames[count].length);
-        frames[count].bytes = malloc(frames[count].length + 1);
-        require(frames[count].bytes != NULL, "memory for a frame");
-        memcpy(frames[count].bytes, bytes, frames[count].length);
-        count++;
-    }
-    return count;
-}
+ * Run it under callgrind with --toggle-collect=measured, which then counts the lines that are measured alone, with what the memory functions take. With
+ * a third argument, `records`, it prints what each line that is measured gives: the status of its call, its records, its path; and then all tables. */
+#include "lines.h"
 
 static size_t receive(nd_node *node, size_t from, size_t end)
 {
@@ -65,9 +27,8 @@ static size_t send(nd_node *node, size_t from, size_t end)
     nd_out out;
     size_t refused = 0;
     for (size_t i = from; i < end; i++) {
-        nd_addr to;
+        const nd_addr to = destination_of(i);
         const uint8_t *payload = frames[i].bytes + sizeof to.bytes;
-        memcpy(to.bytes, frames[i].bytes, sizeof to.bytes);
         refused += nd_send(node, moments[i], &LINK_LOCAL, &to, 17, payload, frames[i].length - sizeof to.bytes) != ND_DONE;
         while (nd_poll(node, &out, buffer, sizeof buffer) == ND_DONE)
             refused += out.kind == ND_OUT_REFUSED || out.kind == ND_OUT_DROPPED;
@@ -81,8 +42,7 @@ static size_t resolve(nd_node *node, size_t from, size_t end)
     nd_path path;
     size_t refused = 0;
     for (size_t i = from; i < end; i++) {
-        nd_addr to;
-        memcpy(to.bytes, frames[i].bytes, sizeof to.bytes);
+        const nd_addr to = destination_of(i);
         refused += nd_resolve(node, moments[i], &to, &path) != ND_DONE;
     }
     return refused;
@@ -94,8 +54,7 @@ static size_t look_up(nd_node *node, size_t from, size_t end)
     nd_neighbour_row row;
     size_t refused = 0;
     for (size_t i = from; i < end; i++) {
-        nd_addr to;
-        memcpy(to.bytes, frames[i].bytes, sizeof to.bytes);
+        const nd_addr to = destination_of(i);
         bool found = nd_next_hop(node, moments[i], &to, &hop) == ND_DONE && nd_neighbour_of(node, moments[i], &hop.address, &row) == ND_DONE;
         refused += !found || row.has_mac == 0;
     }
@@ -107,15 +66,14 @@ static size_t confirm(nd_node *node, size_t from, size_t end)
 {
     size_t refused = 0;
     for (size_t i = from; i < end; i++) {
-        nd_addr to;
-        memcpy(to.bytes, frames[i].bytes, sizeof to.bytes);
+        const nd_addr to = destination_of(i);
         refused += nd_confirm_to(node, moments[i], &to, 1000) != ND_NOTHING;
     }
     return refused;
 }
 
 /* Does lines of one mark, and returns how many are refused or dropped. */
-static size_t run(nd_node *node, size_t from, size_t end)
+static size_t run(void *node, size_t from, size_t end)
 {
     switch (marks[from]) {
     case SEND:
@@ -131,30 +89,62 @@ static size_t run(nd_node *node, size_t from, size_t end)
     }
 }
 
-__attribute__((noinline)) size_t measured(nd_node *node, size_t from, size_t end);
+__attribute__((noinline)) size_t measured(void *node, size_t from, size_t end);
 
-__attribute__((noinline)) size_t measured(nd_node *node, size_t from, size_t end)
+__attribute__((noinline)) size_t measured(void *node, size_t from, size_t end)
 {
     return run(node, from, end);
 }
 
-/* Does all lines, and returns how many of those that are measured are refused or dropped. */
-static size_t run_all(nd_node *node, size_t count, uint64_t prepared)
+/* Does a line, and prints what it gives. */
+static void print_line(nd_node *node, size_t line)
 {
-    size_t refused = 0, lines = 0, end;
-    for (size_t from = 0; from < count; from = end) {
-        bool counts = moments[from] > prepared && marks[from] == marks[count - 1];
-        end = from + 1;
-        while (end < count && marks[end] == marks[from] && (moments[end] > prepared) == (moments[from] > prepared))
-            end++;
-        if (counts)
-            refused += measured(node, from, end);
-        else
-            require(run(node, from, end) == 0, "no line that isn't measured is refused");
-        lines += counts ? end - from : 0;
-    }
-    printf("%zu lines, %zu refused or dropped\n", lines, refused);
-    return refused;
+    static uint8_t buffer[LONGEST_FRAME];
+    const struct frame *it = &frames[line];
+    const nd_addr to = marks[line] == FRAME ? LINK_LOCAL : destination_of(line);
+    nd_path path;
+    nd_out out;
+    int32_t status;
+    if (marks[line] == SEND)
+        status = nd_send(node, moments[line], &LINK_LOCAL, &to, 17, it->bytes + sizeof to.bytes, it->length - sizeof to.bytes);
+    else if (marks[line] == RESOLVE)
+        status = nd_resolve(node, moments[line], &to, &path);
+    else
+        status = nd_receive(node, moments[line], it->bytes, it->length);
+    printf("%d\n", status);
+    if (marks[line] == RESOLVE && status == ND_DONE)
+        print_path(&path);
+    while (nd_poll(node, &out, buffer, sizeof buffer) == ND_DONE)
+        print_record(&out, buffer);
+}
+
+static size_t print_lines(void *node, size_t from, size_t end)
+{
+    for (size_t i = from; i < end; i++)
+        print_line(node, i);
+    return 0;
+}
+
+#define PRINT_ROWS(row_at, row_type)                                                    \
+    do {                                                                                \
+        row_type row;                                                                   \
+        for (size_t index = 0; row_at(node, now, index, &row) == ND_DONE; index++)      \
+            print_bytes(&row, sizeof row);                                              \
+    } while (0)
+
+static void print_tables(nd_node *node)
+{
+    const uint64_t now = nd_last_moment(node);
+    nd_parameters_row parameters;
+    PRINT_ROWS(nd_neighbour_at, nd_neighbour_row);
+    PRINT_ROWS(nd_router_at, nd_router_row);
+    PRINT_ROWS(nd_prefix_at, nd_prefix_row);
+    PRINT_ROWS(nd_address_at, nd_address_row);
+    PRINT_ROWS(nd_server_at, nd_server_row);
+    PRINT_ROWS(nd_name_at, nd_name_row);
+    PRINT_ROWS(nd_redirect_at, nd_redirect_row);
+    require(nd_parameters_of(node, now, &parameters) == ND_DONE, "there are parameters");
+    print_bytes(&parameters, sizeof parameters);
 }
 
 int main(int argc, char **argv)
@@ -163,13 +153,15 @@ int main(int argc, char **argv)
     nd_node node = ND_NODE_INIT;
     nd_options options = host_options();
     nd_out out;
-    size_t count = read_moments(), refused;
-    require(argc == 3, "measure NEIGHBOURS MOMENT < moments and frames");
+    size_t count = read_lines(), refused;
+    require(argc == 3 || (argc == 4 && strcmp(argv[3], "records") == 0), "measure NEIGHBOURS MOMENT [records] < moments and frames");
     options.limits.neighbours = (uint16_t)strtoul(argv[1], NULL, 10);
     require(nd_open(&node, &options, sizeof options) == ND_DONE && nd_pass(&node, 2500) == ND_DONE, "nd_open and nd_pass");
     drain(&node, FIRST_HASH);
-    refused = run_all(&node, count, strtoull(argv[2], NULL, 10));
+    refused = run_lines(&node, count, strtoull(argv[2], NULL, 10), run, argc == 4 ? print_lines : measured);
     require(nd_poll(&node, &out, buffer, sizeof buffer) == ND_NOTHING, "no record is left");
+    if (argc == 4)
+        print_tables(&node);
     nd_close(&node);
     free_frames(frames, count);
     return refused > 0;

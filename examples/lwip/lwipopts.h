@@ -13,11 +13,13 @@
 #define LWIP_NETIF_STATUS_CALLBACK 1
 #define LWIP_RAND() ((u32_t)rand())
 
-/* The limits of the node. */
+/* The limits of the node. Others of neighbours and destinations may be given to the compiler. */
+#ifndef LWIP_ND6_NUM_NEIGHBORS
 #define LWIP_ND6_NUM_NEIGHBORS 16
+#define LWIP_ND6_NUM_DESTINATIONS 32
+#endif
 #define LWIP_ND6_NUM_ROUTERS 4
 #define LWIP_ND6_NUM_PREFIXES 5
-#define LWIP_ND6_NUM_DESTINATIONS 32
 #define LWIP_IPV6_NUM_ADDRESSES 6
 #define LWIP_ND6_RDNSS_MAX_DNS_SERVERS 2
 #define MEMP_NUM_ND6_QUEUE 20
