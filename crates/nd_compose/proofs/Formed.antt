@@ -1,5 +1,5 @@
 -- How long frames and their messages are.
-use Rattle.std.proofs.Common.{◌≡◌, ◌≤◌, Bool, [], ◌∷◌, ◌++◌, length, arith}
+use Rattle.std.proofs.Common.{◌≡◌, ◌≤◌, Bool, [], ◌∷◌, length, arith}
 use Rattle.std.proofs.lemmas.List.{length-append}
 use Rattle.nd_addr.specs.Bytes.{AreBytes}
 use Rattle.nd_addr.specs.Frame.{ethernet_header_length}
@@ -41,10 +41,6 @@ advertisement_formed router solicited mac target m h =
 pub bare_short : (target : Addr) → AreBytes 16 target.0 → written_length (record { body = bodies.Ns (record { target = target }); options = [] }) ≤ longest_message
 unfolding spelling
 bare_short target h = omega (arith, h.len_is, length-append target.0 [])
-
-pub solicitation_short : (mac : Mac) (target : Addr) → AreBytes 6 mac.0 → AreBytes 16 target.0 → written_length (solicitation mac target) ≤ longest_message
-unfolding spelling
-solicitation_short mac target m h = omega (arith, h.len_is, m.len_is, length-append mac.0 [], length-append target.0 (1 ∷ 1 ∷ mac.0 ++ []))
 
 pub router_solicitation_short : (mac : Mac) → AreBytes 6 mac.0 → written_length (record { body = bodies.Rs; options = slla mac ∷ [] }) ≤ longest_message
 unfolding spelling

@@ -2,16 +2,15 @@
 
 ghost use Rattle.std.specs.Prelude.{◌≡◌, true};
 ghost use Rattle.nd_message.specs.Frame.{message_frame};
-ghost use Rattle.nd_message.specs.Spelling.{spelling, three_flags_of};
+ghost use Rattle.nd_message.specs.Spelling.{three_flags_of};
 ghost use Rattle.nd_compose.specs.Frames.{advertisement, defence_frame, answer_frame};
 
-use crate::frame_room::{FrameRoom, LONGEST_MESSAGE};
+use crate::frame_room::FrameRoom;
 use crate::open_mac::OPEN_MAC;
-use crate::short_frame::short_frame;
+use crate::short_frame::{short_frame, short_message};
 use nd_addr::{Addr, Mac};
 use nd_decode::{
-    ICMPV6_NEIGHBOR_ADVERTISEMENT, LINK_LAYER_ADDRESS_UNITS, NeighborAdvertisement,
-    OPTION_TARGET_LINK_LAYER_ADDRESS,
+    ICMPV6_NEIGHBOR_ADVERTISEMENT, NeighborAdvertisement, OPTION_TARGET_LINK_LAYER_ADDRESS,
 };
 use nd_packet::Packet;
 use std::alloc::Allocator;
@@ -52,7 +51,9 @@ impl<A: Allocator> FrameRoom<A> {
     ) -> Packet<A>
         ensures { result ≡ message_frame to mac target destination (advertisement router solicited mac target) }
     {
-        let message = advertisement_bytes(router, solicited, mac, target);
+        let flags = flags(router, solicited);
+        let fields = [ICMPV6_NEIGHBOR_ADVERTISEMENT, 0, 0, 0, flags, 0, 0, 0];
+        let message = short_message(fields, target, OPTION_TARGET_LINK_LAYER_ADDRESS, mac);
         self.put(&short_frame(to, mac, target, destination, message))
     }
 }
@@ -72,43 +73,4 @@ fn flags(router: bool, solicited: bool) -> u8
         0
     };
     router | solicited | NeighborAdvertisement::FLAG_OVERRIDE
-}
-
-/// Returns the bytes of an advertisement with its target's link-layer address (RFC 4861, sections 4.4 and 4.6.1), with a checksum of 0.
-fn advertisement_bytes(
-    router: bool,
-    solicited: bool,
-    mac: Mac,
-    target: Addr,
-) -> [u8; LONGEST_MESSAGE]
-    ensures { result ≡ spelling 0 (advertisement router solicited mac target) }
-{
-    let [a, b, c, d, e, f] = mac.0;
-    let kind = OPTION_TARGET_LINK_LAYER_ADDRESS;
-    let flags = flags(router, solicited);
-    let mut bytes = [0; LONGEST_MESSAGE];
-    bytes[..NeighborAdvertisement::TARGET_AT].copy_from_slice(&[
-        ICMPV6_NEIGHBOR_ADVERTISEMENT,
-        0,
-        0,
-        0,
-        flags,
-        0,
-        0,
-        0,
-    ]);
-    bytes[NeighborAdvertisement::TARGET_AT..NeighborAdvertisement::LENGTH].copy_from_slice(
-        &target.0,
-    );
-    bytes[NeighborAdvertisement::LENGTH..].copy_from_slice(&[
-        kind,
-        LINK_LAYER_ADDRESS_UNITS,
-        a,
-        b,
-        c,
-        d,
-        e,
-        f,
-    ]);
-    bytes
 }

@@ -5,7 +5,9 @@ ghost use Rattle.nd_message.specs.Frame.{message_frame};
 ghost use Rattle.nd_compose.specs.Frames.{detection_frame, resolution_frame, probe_frame, solicitation};
 
 use crate::frame_room::{FrameRoom, are_bytes};
+use crate::short_frame::{short_frame, short_message};
 use nd_addr::{Addr, Mac};
+use nd_decode::{ICMPV6_NEIGHBOR_SOLICITATION, OPTION_SOURCE_LINK_LAYER_ADDRESS};
 use nd_message::{Body, NeighborSolicitation, Opt};
 use nd_packet::Packet;
 use std::alloc::{Allocator, Global};
@@ -53,13 +55,11 @@ impl<A: Allocator> FrameRoom<A> {
     }
 
     /// Returns a Neighbor Solicitation with the link-layer address of its sender (RFC 4861, section 4.3).
-    #[tactic(auto, using(crate::proofs::Formed::solicitation_formed, crate::proofs::Formed::solicitation_short))]
     fn solicit(self, to: Mac, mac: Mac, source: Addr, destination: Addr, target: Addr) -> Packet<A>
         ensures { result ≡ message_frame to mac source destination (solicitation mac target) }
     {
-        are_bytes(&mac, &target);
-        let body = Body::Ns(NeighborSolicitation { target });
-        let options: [Opt<Global>; 1] = [Opt::Slla(mac)];
-        self.write(to, mac, source, destination, &body, &options)
+        let fields = [ICMPV6_NEIGHBOR_SOLICITATION, 0, 0, 0, 0, 0, 0, 0];
+        let message = short_message(fields, target, OPTION_SOURCE_LINK_LAYER_ADDRESS, mac);
+        self.put(&short_frame(to, mac, source, destination, message))
     }
 }
