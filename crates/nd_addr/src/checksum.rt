@@ -54,7 +54,10 @@ fn add_piece(start: u64, bytes: &[u8]) -> u64
         rest = after;
     }
     match rest {
-        [a, b, c, d, after @ ..] => { add_end(so_far + word(*a, *b) * 65536 + word(*c, *d), after) }
+        [a, b, c, d, after @ ..] => {
+            let two = u32::from_be_bytes([*a, *b, *c, *d]);
+            add_end(so_far + two as u64, after)
+        }
         _ => add_end(so_far, rest),
     }
 }
