@@ -96,7 +96,7 @@ static inline void print_bytes(const void *bytes, size_t length)
 /* Prints a record that a line gave, with its bytes. */
 static inline void print_record(const nd_out *out, const uint8_t *bytes)
 {
-    printf("  %llu %u %u %u ", (unsigned long long)out->moment, out->kind, out->code, out->limit);
+    printf("  %llu %u %u %u %u ", (unsigned long long)out->moment, out->kind, out->code, out->limit, out->changes);
     print_bytes(out->address.bytes, sizeof out->address.bytes);
     if (out->length > 0)
         print_bytes(bytes, out->length);
