@@ -39,6 +39,10 @@ after now options table = record {
   names = announced_all same_name now (names_taken now options table) table.names;
 }
 
--- the names that they add, each as often as it enters
+-- the names that announcements add, each as often as it enters, where those without room are passed over
+abbrev pub names_added : ℕ → List (List ℕ × ℕ) → Table → List (List ℕ)
+names_added now announced table = entered same_name now (with_room same_name table.name_limit now announced table.names) table.names
+
+-- the names that the options of a message add
 abbrev pub new_names : ℕ → List Said → Table → List (List ℕ)
-new_names now options table = entered same_name now (names_taken now options table) table.names
+new_names now options table = names_added now (names_told options) table

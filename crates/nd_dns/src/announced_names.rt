@@ -9,7 +9,7 @@ use std::alloc::Allocator;
 
 /// The search names that the options of a Router Advertisement announce, with the lifetimes of their options (RFC 8106, section 5.2).
 #[derive(Clone, Copy, Debug)]
-pub(crate) struct AnnouncedNames<'a> {
+pub struct AnnouncedNames<'a> {
     /// What is left of the current option.
     names: Option<Names<'a>>,
     /// Its lifetime, in seconds.
@@ -23,9 +23,9 @@ impl<'a> AnnouncedNames<'a> {
     ghost use Rattle.nd_dns.specs.AnnouncedNames.{names_told};
     ghost use Rattle.nd_dns.specs.AnnouncedNamesKept.{names_to_come};
 
-    /// Returns the names of these options. The first option is read here, so that a walk that is begun again doesn't read it again.
+    /// Returns the names of these options. The first option is read here: walks that begin with copies of the result don't read it again.
     #[tactic(auto, using(crate::proofs::OfType::names_from))]
-    pub(crate) fn new(options: Options<'a>) -> Self
+    pub fn new(options: Options<'a>) -> Self
         ensures { names_to_come result ≡ names_told (options_left options.entry) }
     {
         let mut rest = options;

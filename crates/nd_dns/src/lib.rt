@@ -9,6 +9,7 @@ mod new_names;
 mod router_advertisement;
 mod search_name;
 
+pub use announced_names::AnnouncedNames;
 pub use dns::{Dns, MAX_NAMES, MAX_SERVERS};
 pub use nd_table::{Limit, TableRefusal, WithLifetime, WithLifetimes};
 pub use new_names::NewNames;

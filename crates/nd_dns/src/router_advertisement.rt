@@ -11,6 +11,7 @@ ghost use Rattle.nd_table.specs.Moment.{IsMoment};
 ghost use Rattle.nd_table.specs.Refreshing.{only_refreshes};
 ghost use Rattle.nd_dns.specs.Dns.{max_servers};
 ghost use Rattle.nd_dns.specs.AnnouncedServers.{servers_told};
+ghost use Rattle.nd_dns.specs.AnnouncedNamesKept.{names_to_come};
 
 use crate::announced_names::AnnouncedNames;
 use crate::announced_servers::AnnouncedServers;
@@ -74,13 +75,21 @@ impl<A: Allocator> Dns<A> {
         if !self.fits_names(now, options) {
             return Err(TableRefusal::Full(Limit::Names));
         }
-        self.take_ra(now, options, names);
+        self.take_ra(now, options, AnnouncedNames::new(options), names);
         Ok(())
     }
 
-    /// Does what `heard_ra` does, but passes over servers and names for which there is no room. It takes no memory.
-    pub fn take_ra(&mut self, now: u64, options: Options<'_>, names: NewNames<A>)
+    /// Does what `heard_ra` does, but passes over servers and names for which there is no room. `announced` are the search names of the options. It
+    /// takes no memory.
+    pub fn take_ra(
+        &mut self,
+        now: u64,
+        options: Options<'_>,
+        announced: AnnouncedNames<'_>,
+        names: NewNames<A>,
+    )
         requires moment { IsMoment now }
+        requires announced { names_to_come announced ≡ names_told (options_left options) }
         requires names { names ≡ new_names now (options_left options) self.old }
 
         ensures stands { (servers : List (Row Addr)) (names : List (Row (List ℕ))) → last_moment servers ≤ now → last_moment names ≤ now → Stands self.old servers names
@@ -89,8 +98,7 @@ impl<A: Allocator> Dns<A> {
     {
         let told_servers = AnnouncedServers::new(options);
         announce_all(&mut self.servers, self.server_limit, now, told_servers);
-        let told_names = AnnouncedNames::new(options);
-        announce_names(&mut self.names, self.name_limit, now, told_names, names);
+        announce_names(&mut self.names, self.name_limit, now, announced, names);
     }
 }
 
@@ -128,7 +136,7 @@ fn servers_fit_in_order(
 
 impl<A: Allocator + Clone> Dns<A> {
     ghost use Rattle.nd_dns.specs.Dns.{max_names};
-    ghost use Rattle.nd_dns.specs.DnsKept.{new_names};
+    ghost use Rattle.nd_dns.specs.DnsKept.{names_added, new_names};
     ghost use Rattle.nd_dns.specs.AnnouncedNames.{same_name, names_told};
 
     /// Copies the search names that they add, each as often as it enters: the only part of hearing them that takes memory. Returns `Full` if there
@@ -146,37 +154,36 @@ impl<A: Allocator + Clone> Dns<A> {
         if !self.fits_names(now, options) {
             return Err(TableRefusal::Full(Limit::Names));
         }
-        match self.new_names(now, options) {
+        match self.new_names(now, AnnouncedNames::new(options)) {
             Ok(names) => Ok(names),
             Err(_) => Err(TableRefusal::Memory),
         }
     }
 
-    /// Copies the search names that they add, but those for which there is no room. Returns an error if out of memory. If they add none it takes no
-    /// memory.
-    pub fn new_names(&self, now: u64, options: Options<'_>) -> Result<NewNames<A>, AllocError>
-        ensures value { IfOk result (λ names. names ≡ new_names now (options_left options.entry) self.now) }
+    /// Copies the search names that are announced and enter, each as often as it enters, but those for which there is no room. Returns an error if out
+    /// of memory. If none enters it takes no memory.
+    pub fn new_names(
+        &self,
+        now: u64,
+        announced: AnnouncedNames<'_>,
+    ) -> Result<NewNames<A>, AllocError>
+        ensures value { IfOk result (λ names. names ≡ names_added now (names_to_come announced.entry) self.now) }
 
         // If no name is added it succeeds, even if no memory is left.
-        ensures quiet { new_names now (options_left options.entry) self.now ≡ [] → IsOk result }
+        ensures quiet { names_added now (names_to_come announced.entry) self.now ≡ [] → IsOk result }
     {
-        copies(
-            &self.alloc,
-            &self.names,
-            self.name_limit,
-            now,
-            AnnouncedNames::new(options),
-        )
+        copies(&self.alloc, &self.names, self.name_limit, now, announced)
     }
 
-    /// Returns true if the options only refresh search names that are known at `now`, in milliseconds: each is, and no lifetime is 0. It takes no memory.
-    pub fn only_refreshes_names(&self, now: u64, options: Options<'_>) -> bool
-        ensures value { result ≡ only_refreshes same_name now (names_told (options_left options.entry)) self.now.names }
+    /// Returns true if the names that are announced only refresh those that are known at `now`, in milliseconds: each is, and no lifetime is 0. It
+    /// takes no memory.
+    pub fn only_refreshes_names(&self, now: u64, announced: AnnouncedNames<'_>) -> bool
+        ensures value { result ≡ only_refreshes same_name now (names_to_come announced.entry) self.now.names }
 
         // Then none is added, and there is room for them.
-        ensures none { result ≡ true → new_names now (options_left options.entry) self.now ≡ [] }
-        ensures fits { result ≡ true → fits same_name self.now.name_limit now (names_told (options_left options.entry)) self.now.names ≡ true }
+        ensures none { result ≡ true → names_added now (names_to_come announced.entry) self.now ≡ [] }
+        ensures fits { result ≡ true → fits same_name self.now.name_limit now (names_to_come announced.entry) self.now.names ≡ true }
     {
-        only_refreshes(&self.names, now, AnnouncedNames::new(options))
+        only_refreshes(&self.names, now, announced)
     }
 }

@@ -5,6 +5,8 @@ ghost use Rattle.std.specs.Option.{option_map};
 ghost use Rattle.nd_decode.specs.Pieces.{options_left};
 ghost use Rattle.nd_decode.specs.declared.body.Body.TheVariants as bodies;
 ghost use Rattle.nd_table.specs.Moment.{IsMoment};
+ghost use Rattle.nd_dns.specs.AnnouncedNames.{names_told};
+ghost use Rattle.nd_dns.specs.AnnouncedNamesKept.{names_to_come};
 ghost use Rattle.nd_dns.specs.DnsKept.{new_names};
 ghost use Rattle.nd_neighbour.specs.declared.news.Times.{Times};
 ghost use Rattle.nd_chronicle.specs.Histories.{said_of_neighbour};
@@ -30,7 +32,7 @@ use crate::message::push_heard;
 use crate::node::Node;
 use crate::parts::{MOST_IGNORED, tell_rooms};
 use nd_decode::RouterAdvertisement;
-use nd_dns::NewNames;
+use nd_dns::{AnnouncedNames, NewNames};
 use nd_neighbour::{News, Times};
 use nd_out::{Out, Refusal};
 use nd_steps::{
@@ -49,13 +51,15 @@ impl<R: Rng + Drop, A: Allocator + Clone> Node<R, A> {
     ghost use Rattle.nd_node.specs.NodeKept.{Stands, next_of};
 
     /// Applies what has room of a Router Advertisement in each table, and advances the clock; `listed` says whether its sender has room in the list of routers.
-    /// The caller passes its news of the sender, for which there is room among the neighbours, and the search names that it adds. It takes no memory.
+    /// The caller passes its news of the sender, for which there is room among the neighbours, the search names that it announces, and copies of those
+    /// that it adds. It takes no memory.
     fn take_router_advertisement(
         &mut self,
         now: u64,
         heard: &Heard<'_>,
         ra: &RouterAdvertisement,
         news: Option<News>,
+        announced: AnnouncedNames<'_>,
         names: NewNames<A>,
         listed: bool,
         outs: &mut Vec<(u64, Out<A>), A>,
@@ -64,6 +68,7 @@ impl<R: Rng + Drop, A: Allocator + Clone> Node<R, A> {
         requires settled { now < next_of self.old }
         requires listed { listed ≡ fits same self.old.routers.limit now ((number_of heard.now.source.0, ra.now.router_lifetime) ∷ []) self.old.routers.entries }
         requires place { HasPlaceOrWay self.old.policies.speakers self.old.neighbours.limit now news self.old.neighbours.entries }
+        requires announced { names_to_come announced ≡ names_told (options_left heard.now.message.options) }
         requires names { names ≡ new_names now (options_left heard.now.message.options) self.old.dns }
         requires space { vec_len outs.old + (if self.old.policies.speakers then max_waiting + 1 else 0) + told_for news self.old.neighbours.entries + 1 ≤ vec_capacity outs.old }
         ensures takes { (taken : List Said) → IsTaken self.old now (options_left heard.now.message.options) taken
@@ -135,7 +140,7 @@ impl<R: Rng + Drop, A: Allocator + Clone> Node<R, A> {
             retrans,
         );
         // RFC 8106, sections 5 and 6: servers and search names.
-        hear_dns(&mut self.dns, now, heard.message.options, names);
+        hear_dns(&mut self.dns, now, heard.message.options, announced, names);
         keep_until_a_prefix_ends(&mut self.choice, &self.prefixes, now, none_formed);
         self.advance_to(now);
     }
@@ -165,7 +170,8 @@ impl<R: Rng + Drop, A: Allocator + Clone> Node<R, A> {
         let news = news_of(heard.source, &heard.message.body, options, self.own_mac());
         let speakers = self.policies.speakers();
         let place = has_place(&self.neighbours, now, news, speakers);
-        let known = self.dns.only_refreshes_names(now, options);
+        let announced = AnnouncedNames::new(options);
+        let known = self.dns.only_refreshes_names(now, announced);
         if let Some(limit) = self.first_full(now, heard.source, ra, options, place, known) {
             if self.policies.parts() {
                 return self.hear_router_advertisement_in_part(now, heard, ra, news, place, outs);
@@ -175,12 +181,12 @@ impl<R: Rng + Drop, A: Allocator + Clone> Node<R, A> {
         let names = if known {
             NewNames::none()
         } else {
-            self.dns.new_names(now, options)?
+            self.dns.new_names(now, announced)?
         };
         let told = told_for(&self.neighbours, news);
         outs.reserve(told + BESIDE_FRAMES + most_told_of_way(speakers))?;
         push_heard(outs, now, heard);
-        self.take_router_advertisement(now, heard, ra, news, names, true, outs);
+        self.take_router_advertisement(now, heard, ra, news, announced, names, true, outs);
         Ok(Answer::Done)
     }
     /// Takes what has room of a Router Advertisement at `now`, in milliseconds, and reports the limits of which a part was passed over: with the policy `parts`.
@@ -211,13 +217,15 @@ impl<R: Rng + Drop, A: Allocator + Clone> Node<R, A> {
     {
         let options = heard.message.options;
         let rooms = self.rooms(now, heard.source, ra, options, place);
-        let names = self.dns.new_names(now, options)?;
+        let announced = AnnouncedNames::new(options);
+        let names = self.dns.new_names(now, announced)?;
         let taken = news_in_place(news, place);
+        let listed = rooms.routers;
         let told = told_for(&self.neighbours, news);
         let speakers = self.policies.speakers();
         outs.reserve(told + BESIDE_FRAMES + MOST_IGNORED + most_told_of_way(speakers))?;
         push_heard(outs, now, heard);
-        self.take_router_advertisement(now, heard, ra, taken, names, rooms.routers, outs);
+        self.take_router_advertisement(now, heard, ra, taken, announced, names, listed, outs);
         tell_rooms(outs, now, rooms);
         Ok(Answer::Done)
     }

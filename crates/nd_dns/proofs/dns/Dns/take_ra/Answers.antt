@@ -20,7 +20,7 @@ invariant_of-self g c = (
   subst (λ (es : List (Lasting Addr)). Distinct same_addr es) (sym c.announce_all.ensures.items) (Distinct-all same_addr addrs_tell c.args.now (with_room same_addr c.self.inside.server_limit c.args.now (servers_to_come c.new-told_servers.result) c.self.inside.servers.items) c.self.inside.servers.items c.self.invariant.2),
   c.announce_names.ensures.few,
   omega (arith, c.announce_names.ensures.capacity, c.self.invariant.4),
-  subst (λ (es : List (Lasting (List ℕ))). Distinct same_name es) (sym c.announce_names.ensures.items) (Distinct-all same_name bytes_tell c.args.now (with_room same_name c.self.inside.name_limit c.args.now (names_to_come c.new-told_names.result) c.self.inside.names.items) c.self.inside.names.items c.self.invariant.5),
+  subst (λ (es : List (Lasting (List ℕ))). Distinct same_name es) (sym c.announce_names.ensures.items) (Distinct-all same_name bytes_tell c.args.now (with_room same_name c.self.inside.name_limit c.args.now (names_to_come c.args.announced) c.self.inside.names.items) c.self.inside.names.items c.self.invariant.5),
   c.self.invariant.6,
   c.self.invariant.7,
 )
@@ -36,7 +36,7 @@ returns-clause-stands g c = λ servers names le le' s.
     ∙ ap (λ (h : Table). announced_all same_addr now (servers_taken now options h) h.servers) c.self.view_is) in
     let names_are : c.announce_names.new.entries.items ≡ announced_all same_name now (names_taken now options old) old.names =
     c.announce_names.ensures.items
-    ∙ (ap (λ (t : List (List ℕ × ℕ)). announced_all same_name now (with_room same_name c.self.inside.name_limit now t c.self.inside.names.items) c.self.inside.names.items) c.new-told_names.ensures
+    ∙ (ap (λ (t : List (List ℕ × ℕ)). announced_all same_name now (with_room same_name c.self.inside.name_limit now t c.self.inside.names.items) c.self.inside.names.items) c.requires.announced
     ∙ ap (λ (h : Table). announced_all same_name now (names_taken now options h) h.names) c.self.view_is) in
     record {
       servers_stand = subst (λ (es : List (Lasting Addr)). Stands same_addr es (then_announced now (servers_taken now options old) servers)) (sym servers_are)

@@ -1,5 +1,5 @@
 use Rattle.std.proofs.Common.{refl, sym, ◌∙◌, ap, subst, arith, ◌∷◌, Some}
-use Rattle.std.specs.Prelude.{Option}
+use Rattle.std.specs.Prelude.{List, Option, ℕ}
 use Rattle.std.specs.Option.{option_map}
 use Rattle.nd_addr.specs.Number.{number_of}
 use Rattle.nd_node.specs.Hearing.{options_read}
@@ -9,6 +9,7 @@ use Rattle.nd_chronicle.specs.LinkLayerAddress.{first_slla}
 use Rattle.nd_chronicle.specs.Full.{AdvertisementFills}
 use Rattle.nd_node.specs.RouterAdvertisement.{advertised}
 use Rattle.nd_decode.specs.Pieces.{options_left}
+use Rattle.nd_dns.specs.DnsKept.{names_added}
 use Rattle.nd_node.proofs.AsRead.{all_taken}
 use Rattle.nd_node.proofs.Ignoring.{in_part_adds}
 use Rattle.nd_node.proofs.Memory.{told_of_sender}
@@ -67,7 +68,10 @@ returns-in_err-reserve-clause-quiet g c = λ adds.
     absurd (omega (arith, adds.told, waits, way, c.told_for-told.ensures.value, c.in_err-reserve.ensures.full))
 
 pub returns-in_err-names-clause-quiet : goal.returns-in_err-names-clause-quiet
-returns-in_err-names-clause-quiet g c = λ adds. let refused = c.in_err-names.ensures.quiet adds.names in let no : ⊥ = cc in absurd no
+returns-in_err-names-clause-quiet g c = λ adds.
+    let added = ap (λ (told : List (List ℕ × ℕ)). names_added c.args.now told c.args.self.now.dns) c.new-announced.ensures in
+    let refused = c.in_err-names.ensures.quiet (added ∙ adds.names) in
+    let no : ⊥ = cc in absurd no
 
 pub returns-in_err-names-clause-full : goal.returns-in_err-names-clause-full
 returns-in_err-names-clause-full g c = λ limit start c' s le fills whole place.

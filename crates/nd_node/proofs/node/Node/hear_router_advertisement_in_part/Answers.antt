@@ -1,6 +1,7 @@
-use Rattle.std.proofs.Common.{◌∙◌, refl, ap, arith}
+use Rattle.std.proofs.Common.{◌∙◌, refl, ap, arith, List, ℕ}
 use Rattle.nd_addr.specs.Number.{number_of}
 use Rattle.nd_decode.specs.Pieces.{options_left}
+use Rattle.nd_dns.specs.DnsKept.{names_added}
 use Rattle.nd_chronicle.specs.LinkLayerAddress.{first_slla}
 use Rattle.nd_node.specs.declared.parts.Rooms.{Rooms}
 use Rattle.nd_node.specs.Hearing.{options_read}
@@ -10,7 +11,10 @@ use Rattle.nd_node.proofs.Memory.{told_of_sender}
 use Rattle.nd_node.proofs.node.Node.hear_router_advertisement_in_part.Goals as goal
 
 pub returns-in_err-names-clause-quiet : goal.returns-in_err-names-clause-quiet
-returns-in_err-names-clause-quiet g c = λ parts adds. let refused = c.in_err-names.ensures.quiet adds.names in let no : ⊥ = cc in absurd no
+returns-in_err-names-clause-quiet g c = λ parts adds.
+    let added = ap (λ (told : List (List ℕ × ℕ)). names_added c.args.now told c.args.self.now.dns) c.new-announced.ensures in
+    let refused = c.in_err-names.ensures.quiet (added ∙ adds.names) in
+    let no : ⊥ = cc in absurd no
 
 pub overflow_add-told-3 : goal.overflow_add-told-3
 overflow_add-told-3 g c = omega (arith, way_most c.args.self.now.policies.speakers c.most_told_of_way.result (rw c.speakers-speakers.ensures at c.most_told_of_way.ensures), c.told_for-told.ensures.few)
