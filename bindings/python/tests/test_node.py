@@ -84,6 +84,26 @@ class Examples(unittest.TestCase):
         self.assertEqual([host_line(record) for record in records if isinstance(record, nd.Frame)], example("router.txt").splitlines())
 
 
+class Changes(unittest.TestCase):
+    def test_they_are_those_of_the_records_since_they_were_asked_for(self) -> None:
+        """A Router Advertisement may change all tables but the redirects, and an address that is assigned those of addresses."""
+        by_advertisement = nd.Change.ROUTERS | nd.Change.PREFIXES | nd.Change.ADDRESSES | nd.Change.SERVERS | nd.Change.NAMES | nd.Change.PARAMETERS
+        with opened(nd.Role.HOST, HOST_MAC) as node:
+            self.assertEqual(node.changes(), nd.Change(0))
+            node.pass_time(1000)
+            records = list(node.poll())
+            self.assertTrue(any(isinstance(record, nd.Assigned) for record in records))
+            self.assertEqual((node.changes(), node.changes()), (nd.Change.ADDRESSES, nd.Change(0)))
+            for moment, frame in example_events("host.hex"):
+                if moment >= 1000 and frame is not None:
+                    node.receive(moment, frame)
+                    types = {record.message_type for record in node.poll() if isinstance(record, nd.Heard)}
+                    if types == {134}:
+                        self.assertEqual(node.changes(), by_advertisement)
+                        return
+        self.fail("no Router Advertisement is heard")
+
+
 class Frames(unittest.TestCase):
     def test_what_bytes_takes_is_a_frame(self) -> None:
         frame = example_frames("link.hex")[0]
