@@ -63,7 +63,7 @@ static void drain(nd_node *node, int tap)
             break;
         case ND_OUT_UP: /* pass the bytes of the buffer to the input of IPv6 */
             break;
-        case ND_OUT_HEARD: /* of type 134: read nd_address_at, join new solicited-node groups */
+        case ND_OUT_HEARD: /* with ND_CHANGE_ADDRESSES: read nd_addresses, join new solicited-node groups */
             break;
         case ND_OUT_ASSIGNED: /* add the address to the stack */
         case ND_OUT_ENDED_ADDRESS: /* remove it */

@@ -168,7 +168,6 @@ static void match(int ends) {
 }
 
 static void report(const nd_out *out) {
-    int is_advertisement = out->kind == ND_OUT_HEARD && out->code == ICMP6_TYPE_RA;
     struct pbuf *packet;
     LWIP_HOOK_ND6_RECORD(interface, out);
     if (out->kind == ND_OUT_FRAME && (packet = pbuf_alloc(PBUF_LINK, (u16_t)(out->length - ETHERNET), PBUF_RAM)) != NULL) {
@@ -178,8 +177,8 @@ static void report(const nd_out *out) {
     }
     if (out->kind == ND_OUT_RESOLVED || out->kind == ND_OUT_FAILED)
         release(out);
-    if (out->kind == ND_OUT_ASSIGNED || out->kind == ND_OUT_DUPLICATE || out->kind == ND_OUT_ENDED_ADDRESS || is_advertisement)
-        match(is_advertisement || out->kind == ND_OUT_ENDED_ADDRESS);
+    if ((out->changes & ND_CHANGE_ADDRESSES) != 0)
+        match(out->kind != ND_OUT_ASSIGNED && out->kind != ND_OUT_DUPLICATE);
 }
 
 /* Follows each call, or is a timeout: takes all records, and schedules the next call. What is called here may call back, and leaves its records. */
