@@ -102,8 +102,8 @@
  *     are dropped as ND_WHY_SUM.
  *   - The interface has to receive 33:33:00:00:00:01, a router also 33:33:00:00:00:02, and for each
  *     of the node's addresses 33:33:ff and its last three bytes (RFC 2464, 7), before detection
- *     begins (RFC 4862, 5.4.2). Read nd_address_at after nd_open, after nd_add_address, and after
- *     each ND_OUT_HEARD of type 134 before the next event; or receive all multicast. MLD reports
+ *     begins (RFC 4862, 5.4.2). Read nd_addresses after nd_open, after nd_add_address, and where a
+ *     record says ND_CHANGE_ADDRESSES, before the next event; or receive all multicast. MLD reports
  *     are the caller's.
  *   - A host needs only ICMPv6 of types 133 to 137; the caller may deliver other packets itself.
  * FRAMES OUT are whole Ethernet frames, without padding and frame check sequence; pad them to the
@@ -577,6 +577,18 @@ typedef struct nd_path { /* a field is 0 where the status does not have it, but 
  * where `version` is nd_lease_version after the last call. Such a packet leaves the node as it
  * would be with a call: its neighbour is used, and not STALE (RFC 4861, 7.3.3). Once the lease is
  * over, ask again. Where `until` is `now` there is none: ask for each packet.
+ * For each packet, with a path that is kept for its destination (examples/c/stack.c):
+ *
+ *     if (now >= path->until || path->version != version) {
+ *         nd_pass(&node, now);
+ *         poll_all(); // RESOLVED: send what is kept for its address first; FAILED: drop that
+ *         int32_t status = nd_resolve(&node, now, &destination, path);
+ *         version = nd_lease_version(&node);
+ *         if (status == ND_WAITING) return keep(packet, &path->next_hop);
+ *         if (status != ND_DONE) return drop(packet);
+ *     }
+ *     transmit(packet, &path->mac);
+ *
  * Asked again in its lease, a destination costs little, however many neighbours there are: a node
  * keeps such answers, one for each of limits.destinations, rounded down to a power of two. */
 int32_t nd_resolve(nd_node *node, uint64_t now, const nd_addr *destination, nd_path *path);
@@ -693,13 +705,23 @@ enum nd_loss {
     ND_LOSS_HOP_LIMIT = 5    /* to be forwarded with a hop limit below 2 (RFC 8200, 3) */
 };
 
+enum nd_change { /* the tables that may have changed with a record */
+    ND_CHANGE_ROUTERS = 1,
+    ND_CHANGE_PREFIXES = 2,
+    ND_CHANGE_ADDRESSES = 4, /* the node's own */
+    ND_CHANGE_SERVERS = 8,
+    ND_CHANGE_NAMES = 16,
+    ND_CHANGE_REDIRECTS = 32,
+    ND_CHANGE_PARAMETERS = 64
+};
+
 typedef struct nd_out {
     uint64_t moment;  /* when it was due, or when its event arrived */
     size_t length;    /* of its bytes: FRAME, UP, LOST and RESOLVED have some, the others none */
     uint32_t kind;    /* enum nd_kind */
     uint32_t code;    /* as the kind says; else 0 */
     uint32_t limit;   /* enum nd_limit, of ND_REFUSAL_FULL and ND_OUT_IGNORED; else 0 */
-    uint32_t reserved;
+    uint32_t changes; /* a sum of enum nd_change: what to read again; 0 for most records */
     nd_addr address;  /* as the kind or the refusal says; else :: */
 } nd_out;
 
@@ -716,9 +738,13 @@ int32_t nd_poll(nd_node *node, nd_out *out, uint8_t *buffer, size_t size);
 /* ---- what a node knows ----------------------------------------------------------------------- */
 
 /* Questions change nothing. `now` is not before nd_last_moment, and may be after it: a row then
- * says what holds at `now` if nothing is due before; call nd_pass first to be exact. Neighbours,
- * prefixes, servers, names and parameters change without a record: read servers and names again
- * after each ND_OUT_HEARD of type 134, and when the shortest `left` has passed.
+ * says what holds at `now` if nothing is due before; call nd_pass first to be exact.
+ *
+ * What changed: add up `changes` of the records that you poll. A table without its bit is as it
+ * was, but for what your own calls for it have changed (nd_clear, nd_add_address), and for what
+ * time does without a record: a prefix, a server or a name ends and an address becomes DEPRECATED
+ * when its `left` has passed, and ReachableTime is drawn anew. Neighbours have no bit: with most
+ * frames one of them changes.
  *
  * All rows of a table at once, in the order that the function names:
  *

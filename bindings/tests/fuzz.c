@@ -115,7 +115,7 @@ static void check_record(const nd_out *out, const uint8_t *bytes)
     bool has_bytes = has_packet || out->kind == ND_OUT_RESOLVED;
     require(out->moment >= last_record, "records are in the order of their moments");
     require(out->moment <= nd_last_moment(&node), "no record is after nd_last_moment");
-    require(out->kind > 0 && out->kind < KINDS && (out->length > 0) == has_bytes && out->reserved == 0, "a record is of a kind");
+    require(out->kind > 0 && out->kind < KINDS && (out->length > 0) == has_bytes && out->changes == changes_by(out), "a record is of a kind");
     require(out->kind == ND_OUT_FRAME || !has_packet || bytes[0] >> 4 == 6, "a packet begins with an IPv6 header");
     require(out->kind != ND_OUT_RESOLVED || out->length == sizeof(nd_mac), "a link-layer address has 6 bytes");
     if (out->kind == ND_OUT_FRAME)

@@ -4,7 +4,7 @@
  * says how many requests there were. */
 #include "heap.h"
 #include "nd_text.h"
-#include "ranges.h"
+#include "tables.h"
 
 #include <inttypes.h>
 #include <stdarg.h>
@@ -163,7 +163,7 @@ static void require_zeros(const nd_out *out)
     bool is_full = out->kind == ND_OUT_IGNORED || (out->kind == ND_OUT_REFUSED && out->code == ND_REFUSAL_FULL);
     bool has_address = out->kind == ND_OUT_HEARD || (out->kind >= ND_OUT_DUPLICATE && out->kind <= ND_OUT_FAILED) || out->kind == ND_OUT_RESOLVED ||
                        (out->kind == ND_OUT_REFUSED && out->code == ND_REFUSAL_NOT_OURS);
-    require(out->reserved == 0 && (out->code != 0) == has_code && (out->length > 0) == has_bytes, "the fields of a record");
+    require(out->changes == changes_by(out) && (out->code != 0) == has_code && (out->length > 0) == has_bytes, "the fields of a record");
     require((out->limit != 0) == is_full && (has_address || memcmp(&out->address, &none, sizeof none) == 0), "the limit and the address of a record");
 }
 
