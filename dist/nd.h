@@ -705,7 +705,10 @@ enum nd_loss {
     ND_LOSS_HOP_LIMIT = 5    /* to be forwarded with a hop limit below 2 (RFC 8200, 3) */
 };
 
-enum nd_change { /* the tables that may have changed with a record */
+/* The tables that may have changed with a record: after ND_OUT_HEARD of type 134 all but redirects,
+ * of 137 these; after ND_OUT_DUPLICATE, _ASSIGNED and _ENDED_ADDRESS the addresses; after
+ * ND_OUT_ENDED_ROUTER and _FAILED the routers and the redirects; after others none. */
+enum nd_change {
     ND_CHANGE_ROUTERS = 1,
     ND_CHANGE_PREFIXES = 2,
     ND_CHANGE_ADDRESSES = 4, /* the node's own */

@@ -96,4 +96,17 @@ static inline uint64_t drain(nd_node *node, uint64_t hash)
     require(status == ND_NOTHING, "the queue is emptied");
     return hash;
 }
+/* Returns the sum of the tables that a record may have changed, as nd.h says of each kind. */
+static inline uint32_t changes_by(const nd_out *out)
+{
+    switch (out->kind) {
+    case ND_OUT_HEARD:
+        if (out->code == 134)
+            return ND_CHANGE_ROUTERS | ND_CHANGE_PREFIXES | ND_CHANGE_ADDRESSES | ND_CHANGE_SERVERS | ND_CHANGE_NAMES | ND_CHANGE_PARAMETERS;
+        return out->code == 137 ? ND_CHANGE_REDIRECTS : 0;
+    case ND_OUT_DUPLICATE: case ND_OUT_ASSIGNED: case ND_OUT_ENDED_ADDRESS: return ND_CHANGE_ADDRESSES;
+    case ND_OUT_ENDED_ROUTER: case ND_OUT_FAILED: return ND_CHANGE_ROUTERS | ND_CHANGE_REDIRECTS;
+    default: return 0;
+    }
+}
 #endif

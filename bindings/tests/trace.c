@@ -4,7 +4,7 @@
  * says how many requests there were. */
 #include "heap.h"
 #include "nd_text.h"
-#include "tables.h"
+#include "ranges.h"
 
 #include <inttypes.h>
 #include <stdarg.h>
