@@ -324,7 +324,7 @@ class nd_counts_row(Structure):
 
 ENUMERATIONS = {"nd_status": Status, "nd_role": Role, "nd_preference": Preference, "nd_why": Why, "nd_hearing": Hearing, "nd_draws": Draws,
                 "nd_policy": Policy, "nd_clearable": Clearable, "nd_hop": Hop, "nd_kind": Kind, "nd_loss": Loss, "nd_refusal": Refusal,
-                "nd_limit": Limit, "nd_reachability": Reachability, "nd_state": State}
+                "nd_limit": Limit, "nd_change": Change, "nd_reachability": Reachability, "nd_state": State}
 
 # ---- the functions -------------------------------------------------------------------------------
 
