@@ -342,15 +342,6 @@ static inline void write_record(nd_out *record, uint64_t now, uint32_t kind, uin
         memcpy(record->address.bytes, source, ADDRESS);
 }
 
-/* Returns the tables that a message may change, as its record says. */
-static inline uint32_t changes_by(uint8_t type)
-{
-    const uint32_t advertised = ND_CHANGE_ROUTERS | ND_CHANGE_PREFIXES | ND_CHANGE_ADDRESSES | ND_CHANGE_SERVERS | ND_CHANGE_NAMES;
-    if (type == ROUTER_ADVERTISEMENT)
-        return advertised | ND_CHANGE_PARAMETERS;
-    return type == REDIRECT ? ND_CHANGE_REDIRECTS : 0;
-}
-
 /* Goes over the options of a message (RFC 4861, 4.6). `wanted` is the type of the link-layer address that it may give. */
 static inline void read_options(struct message *message, const uint8_t *at, uint8_t wanted)
 {
@@ -689,7 +680,7 @@ __attribute__((noinline)) static size_t hear(struct node *node, uint64_t now, co
     read_message(&message, frame->bytes, frame->length);
     usual(is_for_us(node, message.destination), "a message that is not for the node");
     write_record(&records[0], now, ND_OUT_HEARD, message.type, 0, message.packet + 8);
-    records[0].changes = changes_by(message.type);
+    records[0].changes = changes_by(&records[0]);
     node->version++;
     switch (message.type) {
     case ROUTER_ADVERTISEMENT:
