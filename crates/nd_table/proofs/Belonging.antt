@@ -1,7 +1,7 @@
 -- The block where a date belongs, and what becomes of all dates where it is changed.
-use Rattle.std.proofs.Common.{◌≡◌, ℕ, ◌+◌, ◌-◌, ◌*◌, ◌/◌, ◌^◌, ◌<◌, ◌≤◌, eqb, ltb, List, [], ◌∷◌, ◌++◌, length, get_or, set, take, drop, Some, None, refl, sym, ◌∙◌, ap, subst, arith, suc, zero, inl, inr, length-append}
+use Rattle.std.proofs.Common.{◌≡◌, ℕ, ◌+◌, ◌-◌, ◌*◌, ◌/◌, ◌^◌, ◌<◌, ◌≤◌, true, eqb, ltb, List, [], ◌∷◌, ◌++◌, length, get_or, set, take, drop, Some, None, refl, sym, ◌∙◌, ap, subst, arith, suc, zero, inl, inr, length-append}
 use Rattle.std.specs.Prelude.{max, slice_get}
-use Rattle.std.proofs.lemmas.Bool.{cases_Bool, cond-true, cond-false, cases_lt}
+use Rattle.std.proofs.lemmas.Bool.{cases_Bool, cond-true, cond-false, cases_lt, true≢false}
 use Rattle.std.proofs.lemmas.Bool.Decides.{nat_tests}
 use Rattle.std.proofs.lemmas.Option.{slice_get-get_or}
 use Rattle.std.proofs.lemmas.List.{get_or_default, take-set, drop-set-lt, length-set}
@@ -9,11 +9,11 @@ use Rattle.nd_table.specs.Date.{Date}
 use Rattle.nd_table.specs.declared.block.TheConstants.{BLOCK}
 use Rattle.nd_table.specs.Keyed.{at_key, AllAbove, Rises}
 use Rattle.nd_table.specs.KeyedKept.{place_of}
-use Rattle.nd_table.specs.Dates.{rank, AllAddresses, is_date, without, put_date, first_moment}
+use Rattle.nd_table.specs.Dates.{rank, AllAddresses, is_date, has, without, put_date, first_moment}
 use Rattle.nd_table.specs.Blocks.{all_of, AllShort, Filled, Kept, first_rank, AllBelow, BelongsAt}
 use Rattle.nd_table.proofs.Keyed.{key_is, above_at, put_low, put_high, at_place, place_of-le}
 use Rattle.nd_table.proofs.Searching.{place_above, place_below}
-use Rattle.nd_table.proofs.Dates.{rank_is, no_longer, length-put}
+use Rattle.nd_table.proofs.Dates.{rank_is, none_behind, no_longer, length-put, length-changed}
 use Rattle.nd_table.proofs.Joining.{enough, AllShort-take, AllShort-drop, AllShort-set, AllShort-at, Filled-take, Filled-drop, Filled-set}
 
 -- parts of a list in order
@@ -119,6 +119,35 @@ pub without_all : (n m k : ℕ) (bs : List (List Date)) (e : List Date) → Belo
 without_all n m k [] e h = absurd h
 without_all zero m k (b ∷ bs) e h = sym (without_before m k b (all_of bs) h)
 without_all (suc n) m k (b ∷ bs) e h = ap (λ (l : List Date). b ++ l) (without_all n m k bs e h.1) ∙ sym (without_behind m k b (all_of bs) h.0)
+
+there_before : (m k : ℕ) (b cs : List Date) → AllAbove rank (m * 2 ^ 128 + k) cs → has m k (b ++ cs) ≡ true → has m k b ≡ true
+there_before m k [] cs h is = absurd (true≢false (sym is ∙ none_behind m k (m * 2 ^ 128 + k) cs refl h))
+there_before m k (d ∷ b) cs h is = elim (cases_Bool (is_date m k d)) [
+  | inl here ↦ rw here refl
+  | inr other ↦ rw other (there_before m k b cs h (rw other at is))
+]
+
+there_behind : (m k : ℕ) (b cs : List Date) → AllBelow (m * 2 ^ 128 + k) b → has m k (b ++ cs) ≡ true → has m k cs ≡ true
+there_behind m k [] cs h is = is
+there_behind m k (d ∷ b) cs h is = elim (cases_Bool (is_date m k d)) [
+  | inl here ↦ absurd (omega (arith, h.0, rank_is d m k here))
+  | inr other ↦ there_behind m k b cs h.1 (rw other at is)
+]
+
+there_at : (n m k : ℕ) (bs : List (List Date)) (e : List Date) → BelongsAt (m * 2 ^ 128 + k) bs n → has m k (all_of bs) ≡ true → has m k (get_or bs n e) ≡ true
+there_at n m k [] e h is = absurd h
+there_at zero m k (b ∷ bs) e h is = there_before m k b (all_of bs) h is
+there_at (suc n) m k (b ∷ bs) e h is = there_at n m k bs e h.1 (there_behind m k b (all_of bs) h.0 is)
+
+-- and one that is changed to another of the same block
+change_all : (n m k : ℕ) (d : Date) (bs : List (List Date)) (e : List Date) → BelongsAt (m * 2 ^ 128 + k) bs n → BelongsAt (rank d) bs n
+    → all_of (set bs n (put_date d (without m k (get_or bs n e)))) ≡ put_date d (without m k (all_of bs))
+change_all n m k d [] e was is = absurd was
+change_all zero m k d (b ∷ bs) e was is =
+    sym (ap (put_date d) (without_before m k b (all_of bs) was) ∙ put_before d (without m k b) (all_of bs) is)
+change_all (suc n) m k d (b ∷ bs) e was is =
+    ap (λ (l : List Date). b ++ l) (change_all n m k d bs e was.1 is.1)
+    ∙ sym (ap (put_date d) (without_behind m k b (all_of bs) was.0) ∙ put_behind d b (without m k (all_of bs)) is.0)
 
 -- blocks behind the first are never empty
 
@@ -266,6 +295,9 @@ module _ (at : ℕ) (bs inside : List (List Date)) (b : List Date) (lt : at < le
   pub block_absent : (k : ℕ) → at_key rank k (all_of bs) ≡ None → at_key rank k b ≡ None
   block_absent k none = subst (λ (l : List Date). at_key rank k l ≡ None) in_place (absent_at k at bs b lt none)
 
+  pub block_there : (m k : ℕ) → BelongsAt (m * 2 ^ 128 + k) bs at → has m k (all_of bs) ≡ true → has m k b ≡ true
+  block_there m k here there = subst (λ (l : List Date). has m k l ≡ true) in_place (there_at at m k bs b here there)
+
   pub block_short : AllShort bs → length b < BLOCK
   block_short short = subst (λ (l : List Date). length l < BLOCK) in_place (AllShort-at at bs b lt short)
 
@@ -320,3 +352,20 @@ module _ (at : ℕ) (bs inside : List (List Date)) (b : List Date) (lt : at < le
 
       pub taken_short : AllShort bs → AllShort (set inside at x)
       taken_short h = subst AllShort (sym set_is) (AllShort-set at bs x (omega (arith, ap (length {A = Date}) taken, no_longer m k b, block_short h)) h)
+
+    -- a date has been changed
+    module _ (m k : ℕ) (d : Date) (changed : x ≡ put_date d (without m k b)) where
+      pub changed_dates : BelongsAt (m * 2 ^ 128 + k) bs at → BelongsAt (rank d) bs at → all_of (set inside at x) ≡ put_date d (without m k (all_of bs))
+      changed_dates was here =
+          ap all_of set_is
+          ∙ (ap (λ (l : List Date). all_of (set bs at l)) (changed ∙ ap (λ (l : List Date). put_date d (without m k l)) (sym in_place)) ∙ change_all at m k d bs b was here)
+
+      as_long : has m k b ≡ true → length x ≡ length b
+      as_long there = ap (length {A = Date}) changed ∙ length-changed m k d b there
+
+      pub changed_kept : has m k b ≡ true → Kept bs → Kept (set inside at x)
+      changed_kept there kept = subst Kept (sym set_is) (record {
+        some = omega (arith, kept.some, length-set bs at x);
+        short = AllShort-set at bs x (omega (arith, as_long there, block_short kept.short)) kept.short;
+        filled = Filled-set at bs x b (omega (arith, as_long there, ap (length {A = Date}) in_place)) kept.filled;
+      })

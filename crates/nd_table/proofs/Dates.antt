@@ -40,7 +40,7 @@ has-put m k d (e ∷ ds) = elim (cases_Bool (ltb (rank e) (rank d))) [
   | inr high ↦ rw (put_high rank d e ds high) refl
 ]
 
-none_behind : (m k r : ℕ) (ds : List Date) → r ≡ m * 2 ^ 128 + k → AllAbove rank r ds → has m k ds ≡ false
+pub none_behind : (m k r : ℕ) (ds : List Date) → r ≡ m * 2 ^ 128 + k → AllAbove rank r ds → has m k ds ≡ false
 none_behind m k r [] e h = refl
 none_behind m k r (d ∷ ds) e h = elim (cases_Bool (is_date m k d)) [
   | inl here ↦ absurd (omega (arith, h.0, rank_is d m k here, e))
@@ -93,6 +93,10 @@ shorter m k (d ∷ ds) there = elim (cases_Bool (is_date m k d)) [
 pub length-put : (d : Date) (ds : List Date) → length (put_date d ds) ≡ length ds + 1
 length-put d ds = length-insert ds (place_of rank (rank d) ds) d (place_of-le rank (rank d) ds)
 
+-- a date that is changed leaves as many
+pub length-changed : (m k : ℕ) (d : Date) (ds : List Date) → has m k ds ≡ true → length (put_date d (without m k ds)) ≡ length ds
+length-changed m k d ds there = omega (arith, length-put d (without m k ds), shorter m k ds there, length-without m k ds)
+
 AllAbove-without : (low m k : ℕ) (ds : List Date) → AllAbove rank low ds → AllAbove rank low (without m k ds)
 AllAbove-without low m k [] h = tt
 AllAbove-without low m k (d ∷ ds) h = elim (cases_Bool (is_date m k d)) [
@@ -143,6 +147,23 @@ without_none m k (d ∷ ds) none = elim (cases_Bool (is_date m k d)) [
     | inl here ↦ let e : Some d ≡ None = sym (cond-true (eqb (rank d) (m * 2 ^ 128 + k)) (Some d) (at_key rank (m * 2 ^ 128 + k) ds) here) ∙ none in absurd (cc)
     | inr behind ↦ rw differ (ap (λ (l : List Date). d ∷ l) (without_none m k ds (sym (cond-false (eqb (rank d) (m * 2 ^ 128 + k)) (Some d) (at_key rank (m * 2 ^ 128 + k) ds) behind) ∙ none)))
   ]
+]
+
+-- what is among the dates is found
+pub some_found : (m k : ℕ) (ds : List Date) → has m k ds ≡ true → at_key rank (m * 2 ^ 128 + k) ds ≡ None → ⊥
+some_found m k ds there none = let shorter_is = shorter m k ds there in let e = ap (length {A = Date}) (without_none m k ds none) in omega (arith, shorter_is, e)
+
+-- and what isn't among them isn't found once one has gone
+pub absent_without : (r m k : ℕ) (ds : List Date) → at_key rank r ds ≡ None → at_key rank r (without m k ds) ≡ None
+absent_without r m k [] none = refl
+absent_without r m k (d ∷ ds) none = elim (cases_Bool (eqb (rank d) r)) [
+  | inl here ↦ let e : Some d ≡ None = sym (cond-true (eqb (rank d) r) (Some d) (at_key rank r ds) here) ∙ none in absurd (cc)
+  | inr other ↦
+      let rest : at_key rank r ds ≡ None = sym (cond-false (eqb (rank d) r) (Some d) (at_key rank r ds) other) ∙ none in
+      elim (cases_Bool (is_date m k d)) [
+        | inl gone ↦ rw gone rest
+        | inr stays ↦ rw stays (cond-false (eqb (rank d) r) (Some d) (at_key rank r (without m k ds)) other ∙ absent_without r m k ds rest)
+      ]
 ]
 
 -- what isn't among the dates isn't found

@@ -3,6 +3,7 @@ pub mod Dates
 pub mod Searching
 pub mod Joining
 pub mod Belonging
+mod Moving
 pub mod Redating
 pub mod Stays
 pub mod Unique

@@ -1,5 +1,5 @@
 -- What becomes of the dates where that of one number comes, goes or changes.
-use Rattle.std.proofs.Common.{◌≡◌, ℕ, ◌^◌, ◌<◌, Bool, ◌≤◌, true, false, eqb, ◌&&◌, ◌||◌, List, length, Option, Some, None, refl, sym, ◌∙◌, ap, subst, arith, suc, inl, inr}
+use Rattle.std.proofs.Common.{◌≡◌, ℕ, ◌^◌, ◌<◌, Bool, true, false, eqb, ◌&&◌, ◌||◌, List, length, Option, Some, None, refl, sym, ◌∙◌, ap, subst, inl, inr}
 use Rattle.std.specs.Prelude.{IfNone, IfSome}
 use Rattle.std.proofs.lemmas.Bool.{eq-eqb, ne_eqb, cases_Bool, cases_eq}
 use Rattle.nd_table.specs.Date.{Date}
@@ -8,7 +8,7 @@ use Rattle.nd_table.specs.KeyedKept.{place_of}
 use Rattle.nd_table.specs.DueKept.{is_at}
 use Rattle.nd_table.specs.Dates.{rank, AllAddresses, is_date, has, without, put_date, Redated}
 use Rattle.nd_table.proofs.Keyed.{Rises-put}
-use Rattle.nd_table.proofs.Dates.{is_parts, has-put, has-without, has-without_other, Rises-without, AllAddresses-without, AllAddresses-insert, shorter, none_found}
+use Rattle.nd_table.proofs.Dates.{is_parts, has-put, has-without, has-without_other, Rises-without, AllAddresses-without, AllAddresses-insert, length-changed, none_found}
 
 -- one number's date comes, goes or stays
 pub date_stays : (number : ℕ) (date was : Option ℕ) (ds : List Date) → ((moment : ℕ) → has moment number ds ≡ is_at moment was) → was ≡ date → Redated number date ds ds
@@ -80,36 +80,41 @@ module _ (inside ds : List Date) (number : ℕ) (was date : Option ℕ) (e : ins
         (subst (λ (l : List Date). Redated d.number None inside l) (sym new_is) (date_taken d.number d.moment inside r (has_it some moment_is)))
 
   -- one goes, and another comes
-  module _ (old new : Date) (n m : ℕ) (old_is : old.number ≡ number) (new_is : new.number ≡ number) (old_fit : old.number < 2 ^ 128) (new_fit : new.number < 2 ^ 128) (was_is : was ≡ Some n) (date_is : date ≡ Some m) (old_moment : old.moment ≡ n) (new_moment : new.moment ≡ m) (mid items : List Date) (mid_is : mid ≡ without old.moment old.number inside) where
-    gone : Redated old.number None inside (without old.moment old.number inside)
+  module _ (old new : Date) (n m : ℕ) (old_is : old.number ≡ number) (new_is : new.number ≡ number) (old_fit : old.number < 2 ^ 128) (new_fit : new.number < 2 ^ 128) (was_is : was ≡ Some n) (date_is : date ≡ Some m) (old_moment : old.moment ≡ n) (new_moment : new.moment ≡ m) where
+    abbrev mid : List Date
+    mid = without old.moment old.number inside
+
+    gone : Redated old.number None inside mid
     gone = date_taken old.number old.moment inside r (has_it old n old_is old_fit inside was_is old_moment)
 
     none_left : (moment : ℕ) → has moment new.number mid ≡ false
-    none_left moment = ap (has moment new.number) mid_is ∙ (ap (λ k. has moment k (without old.moment old.number inside)) (new_is ∙ sym old_is) ∙ gone.own moment)
+    none_left moment = ap (λ k. has moment k mid) (new_is ∙ sym old_is) ∙ gone.own moment
 
-    pub mid_rises : Rises rank mid
-    mid_rises = subst (Rises rank) (sym mid_is) (Rises-without old.moment old.number inside r)
+    pub moved_there : has old.moment old.number inside ≡ true
+    moved_there = has_it old n old_is old_fit inside was_is old_moment old.moment ∙ eq-eqb old.moment old.moment refl
 
-    pub mid_addresses : AllAddresses mid
-    mid_addresses = subst AllAddresses (sym mid_is) (AllAddresses-without old.moment old.number inside a)
+    pub moved_absent : (n ≡ m → ⊥) → at_key rank (rank new) inside ≡ None
+    moved_absent differ = none_found new.moment new.number inside a new_fit (own_of new new_is new.moment ∙ (ap (is_at new.moment) was_is ∙ ne_eqb n new.moment (λ same. differ (same ∙ new_moment))))
 
-    pub mid_shorter : suc (length mid) ≤ length inside
-    mid_shorter =
-        let there : has old.moment old.number inside ≡ true = has_it old n old_is old_fit inside was_is old_moment old.moment ∙ eq-eqb old.moment old.moment refl in
-        omega (arith, ap (length {A = Date}) mid_is, shorter old.moment old.number inside there)
+    mid_addresses : AllAddresses mid
+    mid_addresses = AllAddresses-without old.moment old.number inside a
 
-    pub mid_absent : at_key rank (rank new) mid ≡ None
-    mid_absent = none_found new.moment new.number mid mid_addresses new_fit (none_left new.moment)
+    module _ (items : List Date) (is : items ≡ put_date new mid) where
+      pub moved_rises : Rises rank items
+      moved_rises = subst (Rises rank) (sym is) (Rises-put rank new mid (Rises-without old.moment old.number inside r) (none_found new.moment new.number mid mid_addresses new_fit (none_left new.moment)))
 
-    pub moved_rises : items ≡ put_date new mid → Rises rank items
-    moved_rises is = subst (Rises rank) (sym is) (Rises-put rank new mid mid_rises mid_absent)
+      pub moved_addresses : AllAddresses items
+      moved_addresses = subst AllAddresses (sym is) (AllAddresses-insert mid (place_of rank (rank new) mid) new mid_addresses new_fit)
 
-    pub moved_redated : items ≡ put_date new mid → Redated number date ds items
-    moved_redated is =
-        date_moved number date ds mid items
-        (redated_inside inside ds mid None None old.number number e old_is refl (subst (Redated old.number None inside) (sym mid_is) gone))
-        (redated_inside mid mid items (Some new.moment) date new.number number refl new_is (ap Some new_moment ∙ sym date_is)
-        (subst (λ (l : List Date). Redated new.number (Some new.moment) mid l) (sym is) (date_put new mid none_left)))
+      pub moved_length : length items ≡ length inside
+      moved_length = ap (length {A = Date}) is ∙ length-changed old.moment old.number new inside moved_there
+
+      pub moved_redated : Redated number date ds items
+      moved_redated =
+          date_moved number date ds mid items
+          (redated_inside inside ds mid None None old.number number e old_is refl gone)
+          (redated_inside mid mid items (Some new.moment) date new.number number refl new_is (ap Some new_moment ∙ sym date_is)
+          (subst (λ (l : List Date). Redated new.number (Some new.moment) mid l) (sym is) (date_put new mid none_left)))
 
 -- all dates are of addresses still
 pub put_addresses : (d : Date) (ds new : List Date) → d.number < 2 ^ 128 → AllAddresses ds → new ≡ put_date d ds → AllAddresses new

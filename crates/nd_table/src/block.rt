@@ -1,9 +1,10 @@
 //! A block of dates: a short run of the dates of a table, in their order.
 
-ghost use Rattle.std.specs.Prelude.{◌≡◌, ◌+◌, ◌<◌, ◌≤◌, ◌^◌, [], ◌++◌, length, None, IfOk};
+ghost use Rattle.std.specs.Prelude.{◌≡◌, ◌+◌, ◌-◌, ◌<◌, ◌≤◌, ◌^◌, [], ◌++◌, true, length, None, IfOk};
+ghost use Rattle.std.specs.List.{insert, remove};
 ghost use Rattle.nd_table.specs.Keyed.{at_key, Rises};
 ghost use Rattle.nd_table.specs.KeyedKept.{place_of};
-ghost use Rattle.nd_table.specs.Dates.{rank, AllAddresses, without, put_date};
+ghost use Rattle.nd_table.specs.Dates.{rank, AllAddresses, has, without, put_date};
 
 use crate::binary_search::search;
 use crate::date::Date;
@@ -104,6 +105,26 @@ impl<A: Allocator> Block<A> {
         }
     }
 
+    /// Changes a date of the block to one that isn't in it. The dates between the two places are moved by one.
+    pub(crate) fn change(&mut self, old: Date, new: Date)
+        requires order { Rises rank self.old }
+        requires addresses { AllAddresses self.old }
+        requires address { old.number < 2 ^ 128 }
+        requires there { has old.moment old.number self.old ≡ true }
+        requires absent { at_key rank (rank new) self.old ≡ None }
+        ensures { self.new ≡ put_date new (without old.moment old.number self.old) }
+    {
+        let Ok(from) = search(&self.dates, &old, &mut Uncounted) else {
+            unreachable!()
+        };
+        let to = self.place(&new);
+        if from < to {
+            change_up(&mut self.dates, from, to, new);
+        } else {
+            change_down(&mut self.dates, from, to, new);
+        }
+    }
+
     /// Moves the dates of a full block from place `at` on into `upper`, whose own dates are dropped.
     pub(crate) fn split_into(&mut self, at: usize, upper: &mut Self)
         requires full { length self.old ≡ BLOCK }
@@ -154,4 +175,24 @@ impl<A: Allocator> Ranked<Date> for Block<A> {
             None => Date::new(0, Addr([0; 16])).compare(sought),
         }
     }
+}
+
+/// Removes the date at `from`, and adds one at `to - 1`, to which those between are moved down.
+fn change_up(dates: &mut [Date], from: usize, to: usize, date: Date)
+    requires up { from < to }
+    requires within { to ≤ length dates.old }
+    ensures { dates.new ≡ insert (remove dates.old from) (to - 1) date }
+{
+    dates[from..to].rotate_left(1);
+    dates[to - 1] = date;
+}
+
+/// Removes the date at `from`, and adds one at `to`, from which those between are moved up.
+fn change_down(dates: &mut [Date], from: usize, to: usize, date: Date)
+    requires down { to ≤ from }
+    requires within { from < length dates.old }
+    ensures { dates.new ≡ insert (remove dates.old from) to date }
+{
+    dates[to..from + 1].rotate_right(1);
+    dates[to] = date;
 }

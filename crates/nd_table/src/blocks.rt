@@ -1,9 +1,9 @@
 //! The dates of a table in blocks, so that a date that is added, changed or removed shifts the dates of its block alone. The definitions are in
 //! `specs/Blocks.antt`.
 
-ghost use Rattle.std.specs.Prelude.{◌≡◌, ℕ, ◌+◌, ◌-◌, ◌<◌, ◌≤◌, ◌^◌, [], ◌∷◌, length, take, drop, slice_get, slice_index_or, None, IfOk, vec_len, vec_capacity};
+ghost use Rattle.std.specs.Prelude.{◌≡◌, ℕ, ◌+◌, ◌-◌, ◌<◌, ◌≤◌, ◌^◌, [], ◌∷◌, true, length, take, drop, slice_get, slice_index_or, None, IfOk, vec_len, vec_capacity};
 ghost use Rattle.nd_table.specs.Keyed.{at_key, Rises};
-ghost use Rattle.nd_table.specs.Dates.{rank, AllAddresses, without, put_date, first_moment};
+ghost use Rattle.nd_table.specs.Dates.{rank, AllAddresses, has, without, put_date, first_moment};
 ghost use Rattle.nd_table.specs.Blocks.{all_of, AllShort, Filled, Kept, BelongsAt, EnoughFor};
 
 use crate::binary_search::search;
@@ -97,6 +97,30 @@ impl<A: Allocator> Blocks<A> {
         let block = &mut self.used[at];
         block.take(date);
         self.settle(at);
+    }
+
+    /// Changes a date that is in a block to one that isn't in any. There are enough blocks for all dates. Where both belong in one block, that block
+    /// alone is changed.
+    pub(crate) fn change(&mut self, old: Date, new: Date)
+        requires order { Rises rank (all_of self.old.blocks) }
+        requires addresses { AllAddresses (all_of self.old.blocks) }
+        requires address { old.number < 2 ^ 128 }
+        requires kept { Kept self.old.blocks }
+        requires there { has old.moment old.number (all_of self.old.blocks) ≡ true }
+        requires absent { at_key rank (rank new) (all_of self.old.blocks) ≡ None }
+        requires room { EnoughFor (length (all_of self.old.blocks)) self.old }
+        ensures dates { all_of self.new.blocks ≡ put_date new (without old.moment old.number (all_of self.old.blocks)) }
+        ensures kept { Kept self.new.blocks }
+        ensures number { length self.new.blocks + self.new.spare ≡ length self.old.blocks + self.old.spare }
+    {
+        let at = self.find(old);
+        if at == self.find_from_last(new) {
+            let block = &mut self.used[at];
+            block.change(old, new);
+        } else {
+            self.take(old);
+            self.put(new);
+        }
     }
 
     /// Removes all dates.

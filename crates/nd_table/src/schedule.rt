@@ -100,8 +100,7 @@ impl<A: Allocator> Schedule<A> {
                 if before != moment {
                     let old = Date::new(before, addr);
                     let new = Date::new(moment, addr);
-                    self.blocks.take(old);
-                    self.blocks.put(new);
+                    self.blocks.change(old, new);
                 }
             }
         }

@@ -5,7 +5,7 @@ use Rattle.nd_table.specs.Keyed.{Rises}
 use Rattle.nd_table.specs.Dates.{Planned, rank}
 use Rattle.nd_table.specs.Blocks.{all_of}
 use Rattle.nd_table.proofs.Dates.{Rises-without, no_longer, length-put}
-use Rattle.nd_table.proofs.Redating.{put_absent, put_rises, put_redated, take_redated, mid_rises, mid_absent, mid_addresses, mid_shorter, moved_rises, moved_redated, put_addresses, taken_addresses, has_room}
+use Rattle.nd_table.proofs.Redating.{put_absent, put_rises, put_redated, take_redated, moved_there, moved_absent, moved_rises, moved_addresses, moved_length, moved_redated, put_addresses, taken_addresses, has_room}
 use Rattle.nd_table.proofs.schedule.Schedule.change.Goals as goal
 
 pub put-requires-clause-absent : goal.put-requires-clause-absent
@@ -50,56 +50,34 @@ returns-in-Some-None-clause-dates g c =
     take_redated (all_of c.self.inside.blocks.blocks) _ (number_of c.args.addr.0) c.args.was c.args.date (ap (λ (p : Planned). p.dates) c.self.view_is) c.requires.was c.self.invariant.order c.self.invariant.addresses
     c.new-in-Some-None.result c.in-Some-None.moment c.new-in-Some-None.ensures.number c.new-in-Some-None.ensures.address (all_of c.take.new.self.blocks) c.in-Some-None.is-0 c.in-Some-None.is-1 c.new-in-Some-None.ensures.moment c.take.ensures.dates
 
-pub put-requires-then-before-moment-clause-order : goal.put-requires-then-before-moment-clause-order
-put-requires-then-before-moment-clause-order g c =
-    mid_rises (all_of c.self.inside.blocks.blocks) _ (number_of c.args.addr.0) c.args.was c.args.date (ap (λ (p : Planned). p.dates) c.self.view_is) c.requires.was c.self.invariant.order c.self.invariant.addresses
+pub change-requires-clause-there : goal.change-requires-clause-there
+change-requires-clause-there g c =
+    moved_there (all_of c.self.inside.blocks.blocks) _ (number_of c.args.addr.0) c.args.was c.args.date (ap (λ (p : Planned). p.dates) c.self.view_is) c.requires.was c.self.invariant.order c.self.invariant.addresses
     c.new-old.result c.new-new.result c.in-Some-Some.before c.in-Some-Some.moment c.new-old.ensures.number c.new-new.ensures.number c.new-old.ensures.address c.new-new.ensures.address c.in-Some-Some.is-0 c.in-Some-Some.is-1 c.new-old.ensures.moment c.new-new.ensures.moment
-    (all_of c.take-then-before-moment.new.self.blocks) (all_of c.take-then-before-moment.new.self.blocks) c.take-then-before-moment.ensures.dates
 
-pub put-requires-then-before-moment-clause-absent : goal.put-requires-then-before-moment-clause-absent
-put-requires-then-before-moment-clause-absent g c =
-    mid_absent (all_of c.self.inside.blocks.blocks) _ (number_of c.args.addr.0) c.args.was c.args.date (ap (λ (p : Planned). p.dates) c.self.view_is) c.requires.was c.self.invariant.order c.self.invariant.addresses
+pub change-requires-clause-absent : goal.change-requires-clause-absent
+change-requires-clause-absent g c =
+    moved_absent (all_of c.self.inside.blocks.blocks) _ (number_of c.args.addr.0) c.args.was c.args.date (ap (λ (p : Planned). p.dates) c.self.view_is) c.requires.was c.self.invariant.order c.self.invariant.addresses
     c.new-old.result c.new-new.result c.in-Some-Some.before c.in-Some-Some.moment c.new-old.ensures.number c.new-new.ensures.number c.new-old.ensures.address c.new-new.ensures.address c.in-Some-Some.is-0 c.in-Some-Some.is-1 c.new-old.ensures.moment c.new-new.ensures.moment
-    (all_of c.take-then-before-moment.new.self.blocks) (all_of c.take-then-before-moment.new.self.blocks) c.take-then-before-moment.ensures.dates
-
-pub put-requires-then-before-moment-clause-room : goal.put-requires-then-before-moment-clause-room
-put-requires-then-before-moment-clause-room g c =
-    omega (
-      arith,
-      c.self.invariant.enough,
-      c.self.invariant.fits,
-      c.take-then-before-moment.ensures.number,
-      mid_shorter (all_of c.self.inside.blocks.blocks) _ (number_of c.args.addr.0) c.args.was c.args.date (ap (λ (p : Planned). p.dates) c.self.view_is) c.requires.was c.self.invariant.order c.self.invariant.addresses
-          c.new-old.result c.new-new.result c.in-Some-Some.before c.in-Some-Some.moment c.new-old.ensures.number c.new-new.ensures.number c.new-old.ensures.address c.new-new.ensures.address c.in-Some-Some.is-0 c.in-Some-Some.is-1 c.new-old.ensures.moment c.new-new.ensures.moment
-          (all_of c.take-then-before-moment.new.self.blocks) (all_of c.take-then-before-moment.new.self.blocks) c.take-then-before-moment.ensures.dates,
-    )
+    c.if-before-moment.true
 
 pub invariant_of-self-then-before-moment : goal.invariant_of-self-then-before-moment
-invariant_of-self-then-before-moment g c =
-    let mid = all_of c.take-then-before-moment.new.self.blocks in
-    let new = all_of c.put-then-before-moment.new.self.blocks in
-    record {
-      order = moved_rises (all_of c.self.inside.blocks.blocks) _ (number_of c.args.addr.0) c.args.was c.args.date (ap (λ (p : Planned). p.dates) c.self.view_is) c.requires.was c.self.invariant.order c.self.invariant.addresses
-          c.new-old.result c.new-new.result c.in-Some-Some.before c.in-Some-Some.moment c.new-old.ensures.number c.new-new.ensures.number c.new-old.ensures.address c.new-new.ensures.address c.in-Some-Some.is-0 c.in-Some-Some.is-1 c.new-old.ensures.moment c.new-new.ensures.moment
-          (all_of c.take-then-before-moment.new.self.blocks) (all_of c.put-then-before-moment.new.self.blocks) c.take-then-before-moment.ensures.dates c.put-then-before-moment.ensures.dates;
-      addresses = put_addresses c.new-new.result mid new c.new-new.ensures.address (mid_addresses (all_of c.self.inside.blocks.blocks) _ (number_of c.args.addr.0) c.args.was c.args.date (ap (λ (p : Planned). p.dates) c.self.view_is) c.requires.was c.self.invariant.order c.self.invariant.addresses
-          c.new-old.result c.new-new.result c.in-Some-Some.before c.in-Some-Some.moment c.new-old.ensures.number c.new-new.ensures.number c.new-old.ensures.address c.new-new.ensures.address c.in-Some-Some.is-0 c.in-Some-Some.is-1 c.new-old.ensures.moment c.new-new.ensures.moment
-          (all_of c.take-then-before-moment.new.self.blocks) (all_of c.put-then-before-moment.new.self.blocks) c.take-then-before-moment.ensures.dates) c.put-then-before-moment.ensures.dates;
-      fits = omega (
-        arith,
-        c.self.invariant.fits,
-        ap (length {A = Date}) c.put-then-before-moment.ensures.dates,
-        length-put c.new-new.result mid,
-        mid_shorter (all_of c.self.inside.blocks.blocks) _ (number_of c.args.addr.0) c.args.was c.args.date (ap (λ (p : Planned). p.dates) c.self.view_is) c.requires.was c.self.invariant.order c.self.invariant.addresses
-            c.new-old.result c.new-new.result c.in-Some-Some.before c.in-Some-Some.moment c.new-old.ensures.number c.new-new.ensures.number c.new-old.ensures.address c.new-new.ensures.address c.in-Some-Some.is-0 c.in-Some-Some.is-1 c.new-old.ensures.moment c.new-new.ensures.moment
-            (all_of c.take-then-before-moment.new.self.blocks) (all_of c.put-then-before-moment.new.self.blocks) c.take-then-before-moment.ensures.dates,
-      );
-      kept = c.put-then-before-moment.ensures.kept;
-      enough = omega (arith, c.self.invariant.enough, c.take-then-before-moment.ensures.number, c.put-then-before-moment.ensures.number);
-    }
+invariant_of-self-then-before-moment g c = record {
+  order = moved_rises (all_of c.self.inside.blocks.blocks) _ (number_of c.args.addr.0) c.args.was c.args.date (ap (λ (p : Planned). p.dates) c.self.view_is) c.requires.was c.self.invariant.order c.self.invariant.addresses
+      c.new-old.result c.new-new.result c.in-Some-Some.before c.in-Some-Some.moment c.new-old.ensures.number c.new-new.ensures.number c.new-old.ensures.address c.new-new.ensures.address c.in-Some-Some.is-0 c.in-Some-Some.is-1 c.new-old.ensures.moment c.new-new.ensures.moment
+      (all_of c.change.new.self.blocks) c.change.ensures.dates;
+  addresses = moved_addresses (all_of c.self.inside.blocks.blocks) _ (number_of c.args.addr.0) c.args.was c.args.date (ap (λ (p : Planned). p.dates) c.self.view_is) c.requires.was c.self.invariant.order c.self.invariant.addresses
+      c.new-old.result c.new-new.result c.in-Some-Some.before c.in-Some-Some.moment c.new-old.ensures.number c.new-new.ensures.number c.new-old.ensures.address c.new-new.ensures.address c.in-Some-Some.is-0 c.in-Some-Some.is-1 c.new-old.ensures.moment c.new-new.ensures.moment
+      (all_of c.change.new.self.blocks) c.change.ensures.dates;
+  fits = omega (arith, c.self.invariant.fits, moved_length (all_of c.self.inside.blocks.blocks) _ (number_of c.args.addr.0) c.args.was c.args.date (ap (λ (p : Planned). p.dates) c.self.view_is) c.requires.was c.self.invariant.order c.self.invariant.addresses
+      c.new-old.result c.new-new.result c.in-Some-Some.before c.in-Some-Some.moment c.new-old.ensures.number c.new-new.ensures.number c.new-old.ensures.address c.new-new.ensures.address c.in-Some-Some.is-0 c.in-Some-Some.is-1 c.new-old.ensures.moment c.new-new.ensures.moment
+      (all_of c.change.new.self.blocks) c.change.ensures.dates);
+  kept = c.change.ensures.kept;
+  enough = omega (arith, c.self.invariant.enough, c.change.ensures.number);
+}
 
 pub returns-then-before-moment-clause-dates : goal.returns-then-before-moment-clause-dates
 returns-then-before-moment-clause-dates g c =
     moved_redated (all_of c.self.inside.blocks.blocks) _ (number_of c.args.addr.0) c.args.was c.args.date (ap (λ (p : Planned). p.dates) c.self.view_is) c.requires.was c.self.invariant.order c.self.invariant.addresses
     c.new-old.result c.new-new.result c.in-Some-Some.before c.in-Some-Some.moment c.new-old.ensures.number c.new-new.ensures.number c.new-old.ensures.address c.new-new.ensures.address c.in-Some-Some.is-0 c.in-Some-Some.is-1 c.new-old.ensures.moment c.new-new.ensures.moment
-    (all_of c.take-then-before-moment.new.self.blocks) (all_of c.put-then-before-moment.new.self.blocks) c.take-then-before-moment.ensures.dates c.put-then-before-moment.ensures.dates
+    (all_of c.change.new.self.blocks) c.change.ensures.dates
