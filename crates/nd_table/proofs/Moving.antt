@@ -40,8 +40,8 @@ module _ {X : Type 0} where
   moved_up xs part from to y lt le is =
       ap (λ (l : List X). set (with_part from (to - from) xs l) (to - 1) y) is
       ∙ subst (λ (k : ℕ). set (with_part from k xs (drop 1 (take k (drop from xs)) ++ take 1 (take k (drop from xs)))) (to - 1) y ≡ insert (remove xs from) (to - 1) y)
-        (let e : suc (to - from - 1) ≡ to - from = omega arith in e)
-        (up xs from (to - from - 1) (to - 1) y (omega arith) (omega arith))
+      (let e : suc (to - from - 1) ≡ to - from = omega arith in e)
+      (up xs from (to - from - 1) (to - 1) y (omega arith) (omega arith))
 
   -- the last of a part is moved before the others
   last_one : (xs : List X) (n : ℕ) → n < length xs → (x : X) × (drop n (take (suc n) xs) ≡ x ∷ [])

@@ -10,10 +10,7 @@ use Rattle.nd_table.specs.Dates.{rank, AllAddresses, is_date, has, without, put_
 use Rattle.nd_table.proofs.Keyed.{Rises-put}
 use Rattle.nd_table.proofs.Dates.{is_parts, has-put, has-without, has-without_other, Rises-without, AllAddresses-without, AllAddresses-insert, length-changed, none_found}
 
--- one number's date comes, goes or stays
-pub date_stays : (number : ℕ) (date was : Option ℕ) (ds : List Date) → ((moment : ℕ) → has moment number ds ≡ is_at moment was) → was ≡ date → Redated number date ds ds
-date_stays number date was ds own same = record { own = λ m. own m ∙ ap (is_at m) same; others = λ m k differ. refl }
-
+-- one number's date comes or goes
 pub date_taken : (number t : ℕ) (ds : List Date) → Rises rank ds → ((moment : ℕ) → has moment number ds ≡ is_at moment (Some t)) → Redated number None ds (without t number ds)
 date_taken number t ds r own = record {
   own = λ m. elim (cases_eq t m) [

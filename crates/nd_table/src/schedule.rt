@@ -86,22 +86,34 @@ impl<A: Allocator> Schedule<A> {
 
     /// Changes the date of an address from `was` to `date`, in milliseconds, either of which may be missing. A date that stays is not touched.
     /// There is room for a new one.
+    #[inline(always)]
     pub fn change(&mut self, was: Option<u64>, date: Option<u64>, addr: Addr)
         requires was { (moment : ℕ) → has moment (number_of addr.0) self.old.dates ≡ is_at moment was }
         requires room { IfNone was (IfSome date (λ _. Rises rank self.old.dates → length self.old.dates < self.old.room)) }
         ensures dates { Redated (number_of addr.0) date self.old.dates self.new.dates }
         ensures room { self.new.room ≡ self.old.room }
     {
+        if was != date {
+            self.change_to(was, date, addr);
+        }
+    }
+
+    /// Changes the date of an address as `change` does, where it doesn't stay.
+    fn change_to(&mut self, was: Option<u64>, date: Option<u64>, addr: Addr)
+        requires was { (moment : ℕ) → has moment (number_of addr.0) self.old.dates ≡ is_at moment was }
+        requires differs { was ≢ date }
+        requires room { IfNone was (IfSome date (λ _. Rises rank self.old.dates → length self.old.dates < self.old.room)) }
+        ensures dates { Redated (number_of addr.0) date self.old.dates self.new.dates }
+        ensures room { self.new.room ≡ self.old.room }
+    {
         match (was, date) {
-            (None, None) => {}
+            (None, None) => unreachable!(),
             (None, Some(moment)) => self.blocks.put(Date::new(moment, addr)),
             (Some(moment), None) => self.blocks.take(Date::new(moment, addr)),
             (Some(before), Some(moment)) => {
-                if before != moment {
-                    let old = Date::new(before, addr);
-                    let new = Date::new(moment, addr);
-                    self.blocks.change(old, new);
-                }
+                let old = Date::new(before, addr);
+                let new = Date::new(moment, addr);
+                self.blocks.change(old, new);
             }
         }
     }

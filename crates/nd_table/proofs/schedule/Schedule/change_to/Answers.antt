@@ -1,4 +1,4 @@
-use Rattle.std.proofs.Common.{◌<◌, length, ap, sym, subst, arith}
+use Rattle.std.proofs.Common.{◌<◌, ◌∙◌, length, Some, ap, sym, subst, arith}
 use Rattle.nd_addr.specs.Number.{number_of}
 use Rattle.nd_table.specs.Date.{Date}
 use Rattle.nd_table.specs.Keyed.{Rises}
@@ -6,7 +6,7 @@ use Rattle.nd_table.specs.Dates.{Planned, rank}
 use Rattle.nd_table.specs.Blocks.{all_of}
 use Rattle.nd_table.proofs.Dates.{Rises-without, no_longer, length-put}
 use Rattle.nd_table.proofs.Redating.{put_absent, put_rises, put_redated, take_redated, moved_there, moved_absent, moved_rises, moved_addresses, moved_length, moved_redated, put_addresses, taken_addresses, has_room}
-use Rattle.nd_table.proofs.schedule.Schedule.change.Goals as goal
+use Rattle.nd_table.proofs.schedule.Schedule.change_to.Goals as goal
 
 pub put-requires-clause-absent : goal.put-requires-clause-absent
 put-requires-clause-absent g c =
@@ -59,25 +59,29 @@ pub change-requires-clause-absent : goal.change-requires-clause-absent
 change-requires-clause-absent g c =
     moved_absent (all_of c.self.inside.blocks.blocks) _ (number_of c.args.addr.0) c.args.was c.args.date (ap (λ (p : Planned). p.dates) c.self.view_is) c.requires.was c.self.invariant.order c.self.invariant.addresses
     c.new-old.result c.new-new.result c.in-Some-Some.before c.in-Some-Some.moment c.new-old.ensures.number c.new-new.ensures.number c.new-old.ensures.address c.new-new.ensures.address c.in-Some-Some.is-0 c.in-Some-Some.is-1 c.new-old.ensures.moment c.new-new.ensures.moment
-    c.if-before-moment.true
+    (λ same. c.requires.differs (c.in-Some-Some.is-0 ∙ (ap Some same ∙ sym c.in-Some-Some.is-1)))
 
-pub invariant_of-self-then-before-moment : goal.invariant_of-self-then-before-moment
-invariant_of-self-then-before-moment g c = record {
+pub invariant_of-self-in-Some-Some : goal.invariant_of-self-in-Some-Some
+invariant_of-self-in-Some-Some g c = record {
   order = moved_rises (all_of c.self.inside.blocks.blocks) _ (number_of c.args.addr.0) c.args.was c.args.date (ap (λ (p : Planned). p.dates) c.self.view_is) c.requires.was c.self.invariant.order c.self.invariant.addresses
       c.new-old.result c.new-new.result c.in-Some-Some.before c.in-Some-Some.moment c.new-old.ensures.number c.new-new.ensures.number c.new-old.ensures.address c.new-new.ensures.address c.in-Some-Some.is-0 c.in-Some-Some.is-1 c.new-old.ensures.moment c.new-new.ensures.moment
       (all_of c.change.new.self.blocks) c.change.ensures.dates;
   addresses = moved_addresses (all_of c.self.inside.blocks.blocks) _ (number_of c.args.addr.0) c.args.was c.args.date (ap (λ (p : Planned). p.dates) c.self.view_is) c.requires.was c.self.invariant.order c.self.invariant.addresses
       c.new-old.result c.new-new.result c.in-Some-Some.before c.in-Some-Some.moment c.new-old.ensures.number c.new-new.ensures.number c.new-old.ensures.address c.new-new.ensures.address c.in-Some-Some.is-0 c.in-Some-Some.is-1 c.new-old.ensures.moment c.new-new.ensures.moment
       (all_of c.change.new.self.blocks) c.change.ensures.dates;
-  fits = omega (arith, c.self.invariant.fits, moved_length (all_of c.self.inside.blocks.blocks) _ (number_of c.args.addr.0) c.args.was c.args.date (ap (λ (p : Planned). p.dates) c.self.view_is) c.requires.was c.self.invariant.order c.self.invariant.addresses
-      c.new-old.result c.new-new.result c.in-Some-Some.before c.in-Some-Some.moment c.new-old.ensures.number c.new-new.ensures.number c.new-old.ensures.address c.new-new.ensures.address c.in-Some-Some.is-0 c.in-Some-Some.is-1 c.new-old.ensures.moment c.new-new.ensures.moment
-      (all_of c.change.new.self.blocks) c.change.ensures.dates);
+  fits = omega (
+    arith,
+    c.self.invariant.fits,
+    moved_length (all_of c.self.inside.blocks.blocks) _ (number_of c.args.addr.0) c.args.was c.args.date (ap (λ (p : Planned). p.dates) c.self.view_is) c.requires.was c.self.invariant.order c.self.invariant.addresses
+        c.new-old.result c.new-new.result c.in-Some-Some.before c.in-Some-Some.moment c.new-old.ensures.number c.new-new.ensures.number c.new-old.ensures.address c.new-new.ensures.address c.in-Some-Some.is-0 c.in-Some-Some.is-1 c.new-old.ensures.moment c.new-new.ensures.moment
+        (all_of c.change.new.self.blocks) c.change.ensures.dates,
+  );
   kept = c.change.ensures.kept;
   enough = omega (arith, c.self.invariant.enough, c.change.ensures.number);
 }
 
-pub returns-then-before-moment-clause-dates : goal.returns-then-before-moment-clause-dates
-returns-then-before-moment-clause-dates g c =
+pub returns-in-Some-Some-clause-dates : goal.returns-in-Some-Some-clause-dates
+returns-in-Some-Some-clause-dates g c =
     moved_redated (all_of c.self.inside.blocks.blocks) _ (number_of c.args.addr.0) c.args.was c.args.date (ap (λ (p : Planned). p.dates) c.self.view_is) c.requires.was c.self.invariant.order c.self.invariant.addresses
     c.new-old.result c.new-new.result c.in-Some-Some.before c.in-Some-Some.moment c.new-old.ensures.number c.new-new.ensures.number c.new-old.ensures.address c.new-new.ensures.address c.in-Some-Some.is-0 c.in-Some-Some.is-1 c.new-old.ensures.moment c.new-new.ensures.moment
     (all_of c.change.new.self.blocks) c.change.ensures.dates
