@@ -309,6 +309,36 @@ fn refused_words(rt: HostRuntime) {
     ends(&rt, &rt, not_text, 2, "!ndpctl: a word is not UTF-8\n");
 }
 
+/// The words of a run of a host.
+const HOST: &str = "ndpctl run --role host --mac 34:56:78:9a:bc:de --draws word:0";
+
+/// Limits and policies that are refused. Of two or more bad values the first one in the order of the options is reported.
+#[test]
+fn refused_limits_and_policies(rt: HostRuntime) {
+    for (more, wanted) in [
+        ("--prefixes 65", "!ndpctl: bad prefixes\n"),
+        ("--addresses 65", "!ndpctl: bad addresses\n"),
+        ("--servers 33", "!ndpctl: bad servers\n"),
+        ("--names 33", "!ndpctl: bad names\n"),
+        ("--redirects 65", "!ndpctl: bad redirects\n"),
+        ("--destinations 257", "!ndpctl: bad destinations\n"),
+        ("--offers 17", "!ndpctl: bad offers\n"),
+        ("--routes 65", "!ndpctl: bad routes\n"),
+        ("--waiting 9", "!ndpctl: bad waiting\n"),
+        ("--policy x", "!ndpctl: bad policy\n"),
+        ("--policy parts,", "!ndpctl: bad policy\n"),
+        ("--policy parts,self,parts", "!ndpctl: bad policy\n"),
+        ("--names 33 --transmits 9", "!ndpctl: bad transmits\n"),
+        (
+            "--policy x --waiting 9 --redirects 0",
+            "!ndpctl: bad redirects\n",
+        ),
+    ] {
+        let words = format!(in rt.alloc(); "{HOST} {more}").expect(&rt, "memory");
+        ends(&rt, &rt, case_of(&words, "10 at\n"), 2, wanted);
+    }
+}
+
 /// The help goes to standard output, in the layout of `clap`.
 #[test]
 fn helps(rt: HostRuntime) {
