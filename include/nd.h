@@ -71,9 +71,10 @@
  * STATUS. Functions that return int32_t return an `enum nd_status` or a refusal. 0 and above: the
  * call took place. Below 0: it did not, and it has changed nothing, but for ND_NO_MEMORY and a
  * refusal. If several hold, the first in this order is returned: ND_INVALID, ND_CLOSED, ND_PAST,
- * ND_NO_MEMORY for what is due first, a refusal, ND_NO_MEMORY for what the event adds itself. Some
- * memory is requested before a refusal is found: for the frame of nd_receive_message; for the copy
- * of a payload of nd_send, before ND_REFUSAL_FULL; for the record of the refusal, behind 12 others.
+ * ND_NO_MEMORY while what is due is done, a refusal, ND_NO_MEMORY for what the event itself adds.
+ * Three requests precede a refusal: for the frame of nd_receive_message, before what is due; for
+ * the copy of a payload of nd_send, before ND_REFUSAL_FULL; and for the record of the refusal, if
+ * other records were not polled.
  *   A refusal is ND_REFUSED(refusal, limit), -16 or below: time has passed up to the event, what
  *   was due is done, and nothing else has changed. nd_refusal_of and nd_limit_of say why.
  *   ND_NO_MEMORY: the event has added nothing. A part of what was due may have been done, and is
