@@ -153,6 +153,7 @@
  *     nd_next_due and nd_lease_version ask for no memory.
  *   - ND_BUFFER_BYTES, nd_node_bytes and nd_pool_bytes are enough, and a row costs what its index
  *     is.
+ *   - Time passes whatever memory there is (STATUS): that is proved of the node below nd_pass.
  * TRUSTED: the duties above, enough stack, the three memory functions, and the toolchain.
  * bindings/check compares this header with the library's source.
  */

@@ -44,8 +44,8 @@ static size_t again;
 static size_t statuses[STATUSES], refused, in_lease, in_others;
 
 /* Of the signs that packets arrive: how many had no effect, and how many confirmed a neighbour. Of all confirmations: how many kept the version. How
- * many other calls, of all runs, kept it that did what was due. */
-static size_t signs, confirmations, kept, kept_when_due;
+ * many other calls, of all runs, kept it that did what was due; and how many Redirects were dropped for their source. */
+static size_t signs, confirmations, kept, kept_when_due, misdirected;
 
 /* ---- destinations ---------------------------------------------------------------------------- */
 
@@ -181,6 +181,17 @@ static bool is_message(const struct frame *frame)
     return heard.hearing == ND_HEARING_VALID || (heard.hearing == ND_HEARING_OTHER && role == ND_ROLE_ROUTER);
 }
 
+/* Returns true if a frame is a Redirect from another node than the first hop of its destination, for which a node drops it. */
+static bool is_misdirected(nd_node *node, const struct frame *frame)
+{
+    nd_next_hop_row hop;
+    nd_addr destination;
+    if (frame->bytes[54] != 137)
+        return false;
+    memcpy(&destination, frame->bytes + OF_REDIRECT, sizeof destination);
+    return nd_next_hop(node, now, &destination, &hop) != ND_DONE || memcmp(&hop.address, frame->bytes + OF_SOURCE, sizeof hop.address) != 0;
+}
+
 /* Returns true if a confirmation of a neighbour makes no lease shorter. One in DELAY or PROBE has a lease of at most DELAY_FIRST_PROBE_TIME. */
 static bool leaves_leases(nd_node *node, const nd_addr *address)
 {
@@ -198,6 +209,7 @@ static int32_t with_version(nd_node *node, const struct act *act)
     uint64_t before = nd_lease_version(node), due = nd_next_due(node), after;
     size_t made = again;
     bool leaves = act->call != CONFIRM || due <= now || leaves_leases(node, &act->address);
+    bool is_dropped = act->call == RECEIVE && due > now && role == ND_ROLE_HOST && is_misdirected(node, act->frame);
     int32_t status;
     RETRIED(status, node, done(node, act));
     bool is_refused = again > made;
@@ -209,8 +221,8 @@ static int32_t with_version(nd_node *node, const struct act *act)
     else if (act->call == CONFIRM || act->call == CONFIRM_TO)
         require(after == before || due <= now || !leaves || is_refused, "a confirmation keeps the version where nothing is due and no lease is shorter"),
             kept += after == before;
-    else if (act->call == RECEIVE && !is_message(act->frame))
-        require(due <= now || after == before || is_refused, "a frame that is dropped, and a packet for the node, keep the version");
+    else if (act->call == RECEIVE && (is_dropped || !is_message(act->frame)))
+        require(due <= now || after == before || is_refused, "a frame that is dropped, and a packet for the node, keep the version"), misdirected += is_dropped;
     else
         require(after > before || nd_refusal_of(status) != 0 || act->call == RECEIVE, "an event raises the version");
     return status;
@@ -507,6 +519,7 @@ int main(int argc, char **argv)
         }
     }
     require(kept_when_due > 0, "some calls that do what is due keep the version");
+    require(misdirected > 0 || role == ND_ROLE_ROUTER, "some Redirects are dropped for their source");
     require(heap_blocks == 0 && heap_now == 0, "all memory is given back");
     free_frames(frames, frame_count);
     return 0;

@@ -1,5 +1,5 @@
 -- What a node makes of a frame, and the chronicle that it stands for.
-use Rattle.std.proofs.Common.{◌≡◌, ◌↔◌, ◌≢◌, ℕ, ◌+◌, ◌-◌, ◌<◌, ◌≤◌, Bool, true, false, List, [], ◌∷◌, ◌++◌, length, take, drop, min, refl, sym, ◌∙◌, ap, subst, arith}
+use Rattle.std.proofs.Common.{◌≡◌, ◌↔◌, ℕ, ◌+◌, ◌-◌, ◌<◌, ◌≤◌, Bool, true, false, List, [], ◌∷◌, ◌++◌, length, take, drop, min, refl, sym, ◌∙◌, ap, subst, arith}
 use Rattle.std.specs.Prelude.{slice_range}
 use Rattle.std.proofs.lemmas.List.{length-take, length-drop, take_min}
 use Rattle.rand_core.specs.Stream.{Stream}
@@ -22,7 +22,7 @@ use Rattle.nd_chronicle.specs.Start.{Policies, Start}
 use Rattle.nd_chronicle.specs.Reading.{IsRead, read_outcome}
 use Rattle.nd_chronicle.specs.Happening.{Chronicle, Happening, Dropped, Up, Passed, last_moment}
 use Rattle.nd_chronicle.specs.Hearing as verdicts
-use Rattle.nd_chronicle.specs.Hearing.{FromFirstHop, IsForUs, IsPacketForUs, IsInTransit, IsDropped, IsTaken, IsStrange, IsMisdirected, IsPacket, IsPassing, IsStrangePacket, takes_target}
+use Rattle.nd_chronicle.specs.Hearing.{FromFirstHop, NotFromFirstHop, IsForUs, IsPacketForUs, IsInTransit, IsDropped, IsTaken, IsStrange, IsMisdirected, IsPacket, IsPassing, IsStrangePacket, takes_target}
 use Rattle.nd_chronicle.specs.NextHop.{IsNextHop}
 use Rattle.nd_chronicle.specs.Event as events
 use Rattle.nd_chronicle.specs.Told.{items_at, items}
@@ -35,9 +35,10 @@ use Rattle.nd_chronicle.specs.Answer.{Answer, Done}
 use Rattle.nd_node.specs.declared.node.Node.{Node}
 use Rattle.nd_node.specs.EventKept.{AddsEvent}
 use Rattle.nd_node.specs.Forwarding.{AddsForwarded}
-use Rattle.nd_node.specs.Frame.{AddsAlone, AddsJudged, Stays}
+use Rattle.nd_node.specs.Frame.{AddsAlone, Stays}
 use Rattle.nd_node.specs.Hearing.{AddsMessage, Keeps}
 use Rattle.nd_node.specs.NodeKept.{Stands, next_of}
+use Rattle.nd_chronicle.proofs.Hops.{one_next_hop}
 use Rattle.nd_node.proofs.Quiet.{stands_quiet}
 use Rattle.nd_node.proofs.Steps.{passed}
 
@@ -157,57 +158,21 @@ next_later start c now destination next h = record {
 abbrev SameTarget : ℕ → Addr → Parts → Type 0
 SameTarget now source message = (c : Chronicle) → takes_target ((now, Passed) ∷ c) source message.body ≡ takes_target c source message.body
 
-pub judged : {R A : Type 0} (stream : R → Stream) (old new : Node R A) (x y : List (ℕ × Out A)) (now : ℕ) (source destination : Addr) (message : Parts) {answer : Answer} → SameTarget now source message
-    → ((start : Start) (c : Chronicle) → FromFirstHop start ((now, Passed) ∷ c) now source message.body) → AddsMessage stream old new x y now source destination message answer → AddsJudged stream old new x y now source destination message answer
-judged stream old new x y now source destination message {answer} same from adds = record {
-  each = λ frame start c s le ours.
-      let a = adds.each start c s le (sym (same c) ∙ ours.target) in (
-        verdicts.hears source destination message,
-        a.0,
-        IsTaken ours (from start c),
-        a.1,
-        a.2,
-        a.3,
-        a.4,
-      );
-}
+-- it is not both from the first hop and from another node
+pub one_source : (start : Start) (c : Chronicle) (now : ℕ) (source : Addr) (body : Body) → FromFirstHop start c now source body → NotFromFirstHop start c now source body → ⊥
+one_source start c now source bodies.Rs from n = n
+one_source start c now source (bodies.Ra ra) from n = n
+one_source start c now source (bodies.Ns ns) from n = n
+one_source start c now source (bodies.Na na) from n = n
+one_source start c now source (bodies.Redirect r) from n = n.2 (sym (one_next_hop c now start r.destination (via (number_of source.0)) n.0 from n.1))
 
-abbrev pub redirection : Redirect → List Said → Parts
-redirection r options = record { body = bodies.Redirect r; options = options }
-
-module _ {R A : Type 0} (stream : R → Stream) (old mid new : Node R A) (x y : List (ℕ × Out A)) (now : ℕ) (source destination : Addr) (r : Redirect) (options : List Said) (hop : NextHop)
-    (stands : (start : Start) (c : Chronicle) → Stands stream start old c → Stands stream start mid c)
-    (next : (start : Start) (c : Chronicle) → Stands stream start old c → last_moment start.at c ≤ now → IsNextHop start c now r.destination hop) where
-  -- it comes from the current first hop
-  pub directed : {answer : Answer} → hop ≡ via (number_of source.0) → AddsMessage stream mid new x y now source destination (redirection r options) answer
-      → AddsJudged stream old new x y now source destination (redirection r options) answer
-  directed {answer} is adds = record {
-    each = λ frame start c s le ours.
-        let a = adds.each start c (stands start c s) le ours.target in (
-          verdicts.hears source destination (redirection r options),
-          a.0,
-          IsTaken ours (subst (λ (h : NextHop). IsNextHop start ((now, Passed) ∷ c) now r.destination h) is (next_later start c now r.destination hop (next start c s le))),
-          a.1,
-          a.2,
-          a.3,
-          a.4,
-        );
-  }
-
-  -- it comes from another node
-  pub misdirected : hop ≢ via (number_of source.0) → AddsAlone stream mid new x y now (Dropped NotFirstHop) → AddsJudged stream old new x y now source destination (redirection r options) Done
-  misdirected differs adds = record {
-    each = λ frame start c s le ours.
-        let a = adds.each start c (stands start c s) le in (
-          verdicts.drops NotFirstHop,
-          (now, Dropped NotFirstHop) ∷ (now, Passed) ∷ c,
-          IsMisdirected ours (hop, next_later start c now r.destination hop (next start c s le), differs),
-          refl,
-          a.0,
-          a.1,
-          refl,
-        );
-  }
+-- only a Redirect has to be from the first hop
+pub from_any : (start : Start) (c : Chronicle) (now : ℕ) (source : Addr) (body : Body) → ((r : Redirect) → body ≡ bodies.Redirect r → ⊥) → FromFirstHop start c now source body
+from_any start c now source bodies.Rs n = tt
+from_any start c now source (bodies.Ra ra) n = tt
+from_any start c now source (bodies.Ns ns) n = tt
+from_any start c now source (bodies.Na na) n = tt
+from_any start c now source (bodies.Redirect r) n = absurd (n r refl)
 
 -- ---- a frame
 
@@ -257,19 +222,44 @@ module _ {R A : Type 0} (stream : R → Stream) (old new : Node R A) (x y : List
     for_us_before : (start : Start) (c : Chronicle) → IsForUs start ((now, Passed) ∷ c) source destination message → IsForUs start c source destination message
     for_us_before start c f = record { destination_is = f.destination_is; target = sym (same c) ∙ f.target; awake = f.awake; foreign = f.foreign }
 
-    pub message_judged : {answer : Answer} → ours ≡ true → AddsJudged stream old new x y now source destination message answer → AddsEvent stream old new x y now (events.Receives frame) answer
-    message_judged {answer} is adds = record {
+    pub message_taken : {answer : Answer} → ours ≡ true
+        → ((start : Start) (c : Chronicle) → Stands stream start old c → last_moment start.at c ≤ now → FromFirstHop start ((now, Passed) ∷ c) now source message.body)
+        → AddsMessage stream old new x y now source destination message answer → AddsEvent stream old new x y now (events.Receives frame) answer
+    message_taken {answer} is from adds = record {
       each = λ start c s le.
-          let a = adds.each frame start c s le (for_us_later start c ((says start c s).0 is)) in (
-            a.1,
+          let for_us = (says start c s).0 is in
+          let a = adds.each start c s le for_us.target in (
+            a.0,
             record {
-              verdict = a.0;
-              heard = record { outcome = valid source destination message; by_frame = read_by_start start c (valid source destination message) s h; by_node = a.2 };
-              adds = a.3;
+              verdict = verdicts.hears source destination message;
+              heard = record { outcome = valid source destination message; by_frame = read_by_start start c (valid source destination message) s h; by_node = IsTaken (for_us_later start c for_us) (from start c s le) };
+              adds = a.1;
             },
+            a.2,
+            a.3,
             a.4,
-            a.5,
-            a.6,
+          );
+    }
+
+    pub message_is_misdirected : ours ≡ true
+        → ((start : Start) (c : Chronicle) → Stands stream start old c → last_moment start.at c ≤ now → NotFromFirstHop start ((now, Passed) ∷ c) now source message.body)
+        → AddsAlone stream old new x y now (Dropped NotFirstHop) → AddsEvent stream old new x y now (events.Receives frame) Done
+    message_is_misdirected is not_from adds = record {
+      each = λ start c s le.
+          let a = adds.each start c s le in (
+            (now, Dropped NotFirstHop) ∷ (now, Passed) ∷ c,
+            record {
+              verdict = verdicts.drops NotFirstHop;
+              heard = record {
+                outcome = valid source destination message;
+                by_frame = read_by_start start c (valid source destination message) s h;
+                by_node = IsMisdirected (for_us_later start c ((says start c s).0 is)) (not_from start c s le);
+              };
+              adds = refl;
+            },
+            a.0,
+            a.1,
+            refl,
           );
     }
 

@@ -101,7 +101,7 @@ impl<R: Rng + Drop, A: Allocator + Clone> Node<R, A> {
         })
     }
 
-    /// Handles a valid message, as the policies read it, if it is for this node.
+    /// Handles a valid message, as the policies read it, if it is for this node and from where it has to be.
     #[inline(always)]
     fn judge_message(
         &mut self,
@@ -121,6 +121,9 @@ impl<R: Rng + Drop, A: Allocator + Clone> Node<R, A> {
     {
         if !self.is_for_us(heard.source, heard.destination, &heard.message.body) {
             return self.drop_unheard(now, Why::NotForUs, outs);
+        }
+        if !self.is_from_first_hop(now, heard) {
+            return self.drop_unheard(now, Why::NotFirstHop, outs);
         }
         let answer = self.hear_message(now, heard, outs)?;
         Ok(Reception {

@@ -9,10 +9,10 @@ ghost use Rattle.nd_chronicle.specs.Start.{Start};
 ghost use Rattle.nd_validity.specs.Hearing.{valid};
 ghost use Rattle.nd_chronicle.specs.Event.{VerdictAdds};
 ghost use Rattle.nd_chronicle.specs.Happening.{Chronicle, Dropped, Passed, last_moment};
-ghost use Rattle.nd_chronicle.specs.Hearing.{Judges, NotFromFirstHop, Verdict};
+ghost use Rattle.nd_chronicle.specs.Hearing.{Judges, Verdict};
 ghost use Rattle.nd_out.specs.declared.out.Out.TheVariants as reports;
-ghost use Rattle.nd_node.specs.Frame.{AddsAlone, AddsJudged, Stays};
-ghost use Rattle.nd_node.specs.Hearing.{parts_read};
+ghost use Rattle.nd_node.specs.Frame.{AddsAlone, Stays};
+ghost use Rattle.nd_node.specs.Hearing.{AddsMessage, parts_read};
 ghost use Rattle.nd_node.specs.Memory.{AddsNoName, AddsRefusal};
 ghost use Rattle.nd_node.specs.Answer.{answer_of};
 
@@ -102,19 +102,18 @@ impl<R: Rng + Drop, A: Allocator + Clone> Node<R, A> {
     ) -> Result<Answer, AllocError>
         requires moment { IsMoment now }
         requires settled { now < next_of self.old }
-        ensures adds { IfOk result (λ answer. AddsJudged R.stream self.old self.new outs.old.items outs.new.items now heard.now.source heard.now.destination (parts_read self.old heard.now.message) (answer_of answer)) }
+        ensures adds { IfOk result (λ answer. AddsMessage R.stream self.old self.new outs.old.items outs.new.items now heard.now.source heard.now.destination (parts_read self.old heard.now.message) (answer_of answer)) }
         ensures stays { OnErr result (Stays R.stream self.old self.new) }
         ensures told { OnErr result (outs.new.items ≡ outs.old.items) }
         ensures refused { (frame : List ℕ) (verdict : Verdict) (start : Start) (c : Chronicle) → Stands R.stream start self.old c → last_moment start.at c ≤ now → Judges start ((now, Passed) ∷ c) now frame (valid heard.now.source heard.now.destination (parts_read self.old heard.now.message)) verdict → AddsRefusal now c (VerdictAdds start now frame verdict) → vec_len outs.old < vec_capacity outs.old → IsOk result }
         ensures quiet { (ra : RouterAdvertisement) → heard.now.message.body ≡ bodies.Ra ra → AddsNoName self.old now heard.now.source (options_left heard.now.message.options) (vec_capacity outs.old - vec_len outs.old) → IsOk result }
-        ensures misdirected { (start : Start) (c : Chronicle) → Stands R.stream start self.old c → last_moment start.at c ≤ now → NotFromFirstHop start ((now, Passed) ∷ c) now heard.now.source heard.now.message.body → vec_len outs.old < vec_capacity outs.old → IsOk result }
     {
         match &heard.message.body {
             Body::Rs => self.hear_router_solicitation(now, heard, outs),
             Body::Ra(ra) => self.hear_router_advertisement(now, heard, ra, outs),
             Body::Ns(ns) => self.hear_neighbor_solicitation(now, heard, ns, outs),
             Body::Na(na) => self.hear_neighbor_advertisement(now, heard, na, outs),
-            Body::Redirect(redirect) => self.judge_redirect(now, heard, redirect, outs),
+            Body::Redirect(redirect) => self.hear_redirect(now, heard, redirect, outs),
         }
     }
 }

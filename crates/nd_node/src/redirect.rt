@@ -1,21 +1,19 @@
 //! A Redirect is received (RFC 4861, sections 8.1 and 8.3).
 
-ghost use Rattle.std.specs.Prelude.{◌≡◌, ◌∷◌, ◌<◌, ◌≤◌, false, Some, IsOk, OnErr, vec_capacity, vec_len, IfOk};
+ghost use Rattle.std.specs.Prelude.{◌≡◌, ◌∷◌, ◌<◌, ◌≤◌, true, false, Some, IsOk, OnErr, vec_capacity, vec_len, IfOk};
 ghost use Rattle.nd_decode.specs.declared.body.Body.TheVariants as bodies;
 ghost use Rattle.nd_table.specs.Moment.{IsMoment};
 ghost use Rattle.nd_chronicle.specs.Full.{Fills};
 ghost use Rattle.nd_chronicle.specs.Happening.{Chronicle, Limit as Table, Passed, last_moment};
 ghost use Rattle.nd_chronicle.specs.Start.{Start};
-ghost use Rattle.nd_chronicle.specs.Hearing.{NotFromFirstHop};
-ghost use Rattle.nd_node.specs.Frame.{AddsJudged, Stays};
+ghost use Rattle.nd_chronicle.specs.Hearing.{FromFirstHop, NotFromFirstHop};
 ghost use Rattle.nd_node.specs.Hearing.{AddsMessage, options_read};
 ghost use Rattle.nd_node.specs.Answer.{answer_of};
 
 use crate::answer::Answer;
 use crate::message::MOST_ROWS;
 use crate::node::Node;
-use nd_addr::Why;
-use nd_decode::Redirect;
+use nd_decode::{Body, Redirect};
 use nd_out::{Limit, Out, Refusal};
 use nd_packet::MAX_WAITING;
 use nd_steps::{
@@ -29,36 +27,27 @@ use std::alloc::{AllocError, Allocator};
 impl<R: Rng + Drop, A: Allocator + Clone> Node<R, A> {
     ghost use Rattle.nd_node.specs.NodeKept.{Stands, next_of};
 
-    /// Handles a Redirect for this node if it is from the current first hop of its destination (RFC 4861, section 8.1), which the tables say before
-    /// the Redirect changes them. Otherwise drops it.
-    pub(crate) fn judge_redirect(
-        &mut self,
-        now: u64,
-        heard: &Heard<'_>,
-        redirect: &Redirect,
-        outs: &mut Vec<(u64, Out<A>), A>,
-    ) -> Result<Answer, AllocError>
-        requires moment { IsMoment now }
-        requires settled { now < next_of self.old }
-        requires body { heard.now.message.body ≡ bodies.Redirect redirect.now }
-        ensures adds { IfOk result (λ answer. AddsJudged R.stream self.old self.new outs.old.items outs.new.items now heard.now.source heard.now.destination (record { body = bodies.Redirect redirect.now; options = options_read self.old heard.now.message.options }) (answer_of answer)) }
-        ensures stays { OnErr result (Stays R.stream self.old self.new) }
-        ensures told { OnErr result (outs.new.items ≡ outs.old.items) }
-        ensures full { (limit : Table) (start : Start) (c : Chronicle) → Stands R.stream start self.old c → last_moment start.at c ≤ now → Fills start ((now, Passed) ∷ c) now heard.now.source (record { body = bodies.Redirect redirect.now; options = options_read self.old heard.now.message.options }) (bodies.Redirect redirect.now) (Some limit) → self.old.policies.parts ≡ false → vec_len outs.old < vec_capacity outs.old → IsOk result }
-        ensures misdirected { (start : Start) (c : Chronicle) → Stands R.stream start self.old c → last_moment start.at c ≤ now → NotFromFirstHop start ((now, Passed) ∷ c) now heard.now.source (bodies.Redirect redirect.now) → vec_len outs.old < vec_capacity outs.old → IsOk result }
+    /// Returns true if a message is from where it has to be, as the tables say before they hear it: a Redirect from the current first hop of its
+    /// destination (RFC 4861, section 8.1).
+    pub(crate) fn is_from_first_hop(&self, now: u64, heard: &Heard<'_>) -> bool
+        requires settled { now < next_of self.now }
+        ensures from { (start : Start) (c : Chronicle) → Stands R.stream start self.now c → last_moment start.at c ≤ now → result ≡ true → FromFirstHop start ((now, Passed) ∷ c) now heard.now.source heard.now.message.body }
+        ensures not_from { (start : Start) (c : Chronicle) → Stands R.stream start self.now c → last_moment start.at c ≤ now → result ≡ false → NotFromFirstHop start ((now, Passed) ∷ c) now heard.now.source heard.now.message.body }
     {
-        // A Redirect that is taken forgets what is remembered.
-        let hop = self.determined_hop(now, redirect.destination);
-        if !is_via(hop, heard.source) {
-            return self.drop_frame(now, Why::NotFirstHop, outs);
+        match &heard.message.body {
+            Body::Redirect(redirect) => {
+                // A Redirect that is taken forgets what is remembered.
+                let hop = self.determined_hop(now, redirect.destination);
+                is_via(hop, heard.source)
+            }
+            _ => true,
         }
-        self.hear_redirect(now, heard, redirect, outs)
     }
 
     /// Handles a Redirect from the first hop of its destination at `now`, in milliseconds: its target is the destination's next hop from now on,
     /// and the target's entry takes what the Redirect says (RFC 4861, section 8.3). If there is no room for the target among the neighbours it is refused, or
     /// taken without the target's link-layer address with the policy `parts`. Returns an error if out of memory; nothing has changed then.
-    fn hear_redirect(
+    pub(crate) fn hear_redirect(
         &mut self,
         now: u64,
         heard: &Heard<'_>,
