@@ -1,6 +1,6 @@
 //! The queue of a session's reports.
 
-ghost use Rattle.std.specs.Prelude.{◌≡◌, [], is_none, drop, option_copied, slice_get, IfOk};
+ghost use Rattle.std.specs.Prelude.{◌≡◌, [], is_none, drop, option_copied, reverse, slice_get, IfOk};
 
 use nd_out::Out;
 use nd_steps::MOST_TOLD;
@@ -18,7 +18,7 @@ const ROOM: usize = 12;
 /// end; when it is empty, a back of more than two reports becomes the front. So what it costs to take a report does not grow with their number.
 ///
 /// What is due while the queue is empty is kept apart, in reverse too, and is older than the front: this part always has room for what one thing that
-/// is due reports. The second of two reports is moved there as well.
+/// is due reports.
 #[derive(Drop)]
 pub struct Queue {
     pub(crate) due: Vec<Report, Global>,
@@ -72,6 +72,7 @@ impl Queue {
     }
 
     /// Removes the oldest report and returns it.
+    #[inline(always)]
     pub(crate) fn pop_first(&mut self) -> Option<Report>
         ensures taken { result ≡ slice_get self.old 0 }
         ensures rest { self.new ≡ drop 1 self.old }
@@ -86,19 +87,26 @@ impl Queue {
             }
             return Some(report);
         }
-        if self.back.len() > 2 {
-            std::mem::swap(&mut self.front, &mut self.back);
-            self.front.reverse();
-            return self.front.pop();
+        // Mostly a call reports a message, and sends one frame: the second report takes the place of the first.
+        match self.back.len() {
+            0 => None,
+            1 => self.back.pop(),
+            2 => Some(self.back.swap_remove(0)),
+            _ => {
+                turn_over(&mut self.front, &mut self.back);
+                self.front.pop()
+            }
         }
-        // Mostly a call reports a message, and sends one frame.
-        let newest = self.back.pop();
-        let Some(oldest) = self.back.pop() else {
-            return newest;
-        };
-        if let Some(newest) = newest {
-            self.due.push_reserved(newest);
-        }
-        Some(oldest)
     }
+}
+
+/// Makes the back, in reverse, the front, and the front the back.
+#[cold]
+#[inline(never)]
+fn turn_over(front: &mut Vec<Report, Global>, back: &mut Vec<Report, Global>)
+    ensures front { front.new.items ≡ reverse back.old.items }
+    ensures back { back.new.items ≡ front.old.items }
+{
+    std::mem::swap(front, back);
+    front.reverse();
 }
