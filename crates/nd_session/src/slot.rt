@@ -40,10 +40,8 @@ impl Slot {
         requires closed { IsNone self.old.handle.session }
         ensures { self.new.handle.session ≡ Some session.value }
     {
-        *self = Slot {
-            is_open: true,
-            handle: Handle::of(session),
-        };
+        self.is_open = true;
+        self.handle = Handle::of(session);
     }
 
     /// Takes the session out of the slot, which is closed then. Returns `None` if it was closed before.
