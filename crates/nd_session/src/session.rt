@@ -143,6 +143,7 @@ impl Session {
 
     /// Does all that is due up to `now`, in milliseconds, its own millisecond included. Returns an error if out of memory: a part of it may have
     /// been done and reported then, and the first thing has been done if no report was left to take.
+    #[inline(always)]
     pub fn settle(&mut self, now: u64) -> Result<(), AllocError>
         requires { IsMoment now }
         ensures passes { OnOk result (Leads stream_of_source self.old.node self.new.node self.old.queue self.new.queue (Passes now)) }
@@ -164,6 +165,8 @@ impl Session {
     }
 
     /// Does what is due up to `now`, in milliseconds, as `settle` does. If the queue is empty, the reports have room in its part for what is due.
+    #[cold]
+    #[inline(never)]
     fn catch_up(&mut self, now: u64) -> Result<(), AllocError>
         requires { IsMoment now }
         ensures passes { OnOk result (LedBy self.old self.new (Passes now)) }
@@ -189,6 +192,7 @@ impl Session {
 
     /// Receives a frame, from its Ethernet destination on (RFC 2464, section 3), at `now`, in milliseconds. The caller keeps the frame, which is
     /// not copied. Otherwise as `event`.
+    #[inline(always)]
     pub fn receive(&mut self, now: u64, frame: &[u8]) -> Result<Answer, AllocError>
         requires { IsMoment now }
         ensures takes { Takes now (events.Receives frame.now) result self.old self.new }
@@ -206,6 +210,7 @@ impl Session {
 
     /// Sends a packet of the upper layer at `now`, in milliseconds (RFC 4861, section 5.2). `payload` is copied once the packet is not refused.
     /// Otherwise as `event`.
+    #[inline(always)]
     pub fn send(
         &mut self,
         now: u64,
@@ -305,6 +310,7 @@ impl Session {
     }
 
     /// Makes the room in reserve of a frame's block, if it is missing. Returns false if the block is too short.
+    #[inline(always)]
     fn refill(&mut self, block: Vec<u8, Global>) -> bool
         ensures node { self.new.node ≡ self.old.node }
         ensures queue { self.new.queue ≡ self.old.queue }
@@ -374,6 +380,7 @@ fn is_frame(report: &Out<Global>) -> bool
 }
 
 /// Returns the block of a report that is a frame.
+#[inline(always)]
 fn block_of(report: Out<Global>) -> Option<Vec<u8, Global>>
     ensures frame { IsSome result → frame_sent (happening report) ≡ [] → ⊥ }
     ensures other { result ≡ None → (frame : List ℕ) → happening report ≡ Sent frame → ⊥ }
