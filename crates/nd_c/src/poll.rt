@@ -38,12 +38,14 @@ fn poll(session: &mut Session, out: &mut Record, buffer: &mut [u8]) -> i32
     let Some((moment, report)) = session.oldest() else {
         return NOTHING;
     };
-    *out = Record::of(*moment, report);
-    let bytes = bytes_of(report);
-    if bytes.len() > buffer.len() {
+    let record = Record::of(*moment, report);
+    *out = record;
+    if record.length > buffer.len() {
         return NO_ROOM;
     }
-    buffer[..bytes.len()].copy_from_slice(bytes);
+    if record.length > 0 {
+        buffer[..record.length].copy_from_slice(bytes_of(report));
+    }
     let _had_back = session.remove_oldest();
     DONE
 }
