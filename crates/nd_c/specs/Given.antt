@@ -7,4 +7,4 @@ use Rattle.nd_c.specs.declared.answer.Given.TheVariants as given
 abbrev pub event_given : Given → events.Event
 event_given (given.Event event) = event_of event.now
 event_given (given.Frame frame) = events.Receives frame.now
-event_given (given.Packet source destination next_header payload) = events.Sends source destination next_header payload.now
+event_given (given.Packet source destination next_header payload) = events.Sends (record { 0 = source.now }) (record { 0 = destination.now }) next_header payload.now

@@ -24,8 +24,8 @@ pub(crate) enum Given<'a> {
     Frame(&'a [u8]),
     /// A packet of the upper layer, to be sent (RFC 4861, section 5.2).
     Packet {
-        source: Addr,
-        destination: Addr,
+        source: &'a [u8; 16],
+        destination: &'a [u8; 16],
         next_header: u8,
         payload: &'a [u8],
     },
@@ -75,7 +75,7 @@ fn give(session: &mut Session, now: u64, given: Given<'_>) -> Result<Answer, All
             destination,
             next_header,
             payload,
-        } => session.send(now, source, destination, next_header, payload),
+        } => session.send(now, Addr(*source), Addr(*destination), next_header, payload),
     }
 }
 

@@ -46,8 +46,8 @@ pub extern "C" fn nd_send(
     ensures { Answers now (events.Sends (record { 0 = source.now }) (record { 0 = destination.now }) next_header payload.now) result node.old.handle.session node.new.handle.session }
 {
     let given = Given::Packet {
-        source: Addr(*source),
-        destination: Addr(*destination),
+        source,
+        destination,
         next_header,
         payload,
     };
