@@ -21,6 +21,10 @@ SENTENCES = {
         ("One node is one interface; several nodes share nothing.", "One node is one interface; several nodes share the memory of nd.c."),
         ("A node reads its options, its calls and the answers of the memory functions, and nothing else: no clock, no environment, no global state.",
          "A node reads its options, its calls, and whether the memory of nd.c has room, which all nodes share. It reads no clock and no environment."),
+        ("WITH nd.c, the node as one C file, a program includes dist/nd.h in place of this header.",
+         "WITH nd.c: cc -O2 program.c nd.c -lm, or an object of nd.c and -lm. With -D nd.c takes ND_MEMORY_BYTES, the bytes of all its memory, a "
+         "multiple of 16 (524,288 unless that is set); ND_FRAME_BYTES (FRAMES IN); and ND_UNCHECKED: accesses to that memory are not compared with its "
+         "size. The README.md next to it says more."),
         ("ND_NO_MEMORY is returned only where a memory function refused a request.",
          "ND_NO_MEMORY is returned only where the memory of nd.c has no room for a request."),
         ("TRUSTED: the duties above, enough stack, the three memory functions, and the toolchain.",
