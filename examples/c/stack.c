@@ -47,13 +47,31 @@ static void keep(uint64_t now, const nd_addr *next_hop, const struct packet *pac
     oldest->waits = true;
 }
 
-static void send_packet(uint64_t now, struct packet *packet)
+static nd_addr destination_of(const struct packet *packet)
 {
     nd_addr to;
-    int32_t status = ND_DONE;
     memcpy(&to, packet->frame + ETHERNET + 24, sizeof to);
-    struct lease *lease = &leases[to.bytes[15] % LEASES];
-    if (now >= lease->path.until || lease->path.version != version || memcmp(&lease->destination, &to, sizeof to) != 0) {
+    return to;
+}
+
+static struct lease *lease_to(const nd_addr *to) /* the one lease that a packet to this destination may have */
+{
+    return &leases[to->bytes[15] % LEASES];
+}
+
+static bool is_leased(uint64_t now, const struct packet *packet) /* it may be sent without a call */
+{
+    nd_addr to = destination_of(packet);
+    const struct lease *lease = lease_to(&to);
+    return now < lease->path.until && lease->path.version == version && memcmp(&lease->destination, &to, sizeof to) == 0;
+}
+
+static void send_packet(uint64_t now, struct packet *packet) /* the caller drains the node behind it: a solicitation is sent at once */
+{
+    nd_addr to = destination_of(packet);
+    struct lease *lease = lease_to(&to);
+    int32_t status = ND_DONE;
+    if (!is_leased(now, packet)) {
         *lease = (struct lease){.destination = to};
         status = nd_resolve(&node, now, &to, &lease->path);
         version = nd_lease_version(&node);
@@ -108,9 +126,11 @@ int main(int argc, char **argv)
         for (digits += is_packet; given.length < LONGEST && isxdigit((unsigned char)digits[0]) && isxdigit((unsigned char)digits[1]); digits += 2)
             sscanf(digits, "%2hhx", &given.frame[given.length++]);
         if (is_packet && given.length >= SHORTEST) {
-            nd_pass(&node, now); /* a failure that is due is of packets that were kept before this one */
-            version = nd_lease_version(&node);
-            drain(now);
+            if (!is_leased(now, &given)) {
+                nd_pass(&node, now); /* a failure that is due is of packets that were kept before this one */
+                version = nd_lease_version(&node);
+                drain(now);
+            }
             send_packet(now, &given);
         } else if (is_packet || (given.length > 0 ? nd_receive(&node, now, given.frame, given.length) : nd_pass(&node, now)) < 0)
             fprintf(stderr, "stack: no event at %" PRIu64 "\n", now);
