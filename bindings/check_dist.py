@@ -114,8 +114,8 @@ def check_bytes_said(room, what, node, usual, compiler="gcc"):
     """Requires that README.md has the bytes that the functions return, and that in the memory of an object of nd.c so many nodes of the usual limits
     can be opened, and a small one."""
     text = " ".join(read(f"{DIST}/README.md").split())
-    patterns = (r"16 neighbours and the usual other limits ([\d,]+)\.", r"for this host ([\d,]+), if no frame has more than 1,514",
-                r"`nd_pool_bytes` is ([\d,]+) for frames of at most 590")
+    patterns = (r"`nd_node_bytes` \(([\d,]+) for a host with 16 neighbours and the usual other limits\)",
+                r"`nd_pool_bytes` \(([\d,]+) for that host, with frames of at most 1,514", r"`nd_pool_bytes` is ([\d,]+) for frames of at most 590")
     found = [re.search(pattern, text) for pattern in patterns]
     wanted = [it[1].replace(",", "") if it else "(not there)" for it in found]
     words = [compiler, "-std=c11", f"-I{DIST}", "-x", "c", "-", "-x", "none", node, "-lm", "-o", f"{room}/said"]

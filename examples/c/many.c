@@ -8,6 +8,7 @@
  *
  * A thread takes a link, runs it to the end, and takes the next one: threads=64 is a thread for each of 64 links. Over dist/nd.c, where all nodes
  * share one memory, there has to be one thread, which is the usual number; more are refused. */
+#define _POSIX_C_SOURCE 200809L /* clock_gettime, with -std=c11 too */
 #include <inttypes.h>
 #include <pthread.h>
 #include <stdatomic.h>
