@@ -68,7 +68,7 @@ def is_ready() -> bool:
 
 
 def compile_library() -> Path:
-    """Compiles nd.c into the cache if it is not there yet, and returns the path. It takes half a minute. Raises LibraryError if there is no
+    """Compiles nd.c into the cache if it is not there yet, and returns the path. It takes under a minute. Raises LibraryError if there is no
     compiler, or if it fails."""
     path = compiled_path()
     if path.is_file():

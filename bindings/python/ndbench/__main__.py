@@ -18,6 +18,7 @@ from .drawing import Drawing
 from .pcapng import write_capture
 from .progress import Progress
 from .setup import add_arguments, setup_of
+from .texts import counted
 
 DONE, DIFFERENT, BAD_INPUT, INTERRUPTED = 0, 1, 2, 130
 LONGEST_MILLISECONDS = 1 << 40  # 34 years: an idle node takes a minute for them
@@ -60,7 +61,7 @@ def skipped_text(skipped: Counter[str]) -> str:
     """Returns how many packets are skipped, and why, the most frequent reason first."""
     count = sum(skipped.values())
     reasons = "; ".join(f"{reason} ({number})" for reason, number in skipped.most_common())
-    return f"ndbench: {count} {'packet is' if count == 1 else 'packets are'} skipped: {reasons}"
+    return f"ndbench: {counted(count, 'packet')} {'is' if count == 1 else 'are'} skipped: {reasons}"
 
 
 def do_judge(arguments: argparse.Namespace) -> int:
@@ -109,7 +110,7 @@ def do_compare(arguments: argparse.Namespace) -> int:
     if not arguments.quiet:
         if survey.start is None:
             print(f"ndbench: the capture begins after the start of {arguments.mac}: the node does not know what it heard before", file=sys.stderr)
-        print(f"{len(made.stack_messages)} messages of the other stack, {len(found)} differences", file=sys.stderr)
+        print(f"{counted(len(made.stack_messages), 'message')} of the other stack, {counted(len(found), 'difference')}", file=sys.stderr)
     if error is not None:
         raise error
     return DIFFERENT if found else DONE
@@ -174,7 +175,7 @@ def parser() -> argparse.ArgumentParser:
     shared.add_argument("--quiet", action="store_true", help="no progress bar, and no counts")
     add_judge(commands.add_parser("judge", parents=[shared], help="what each frame is, and what is odd in it"))
     add_replay(commands.add_parser("replay", parents=[shared], help="what a node sends and reports that hears the capture"))
-    add_compare(commands.add_parser("compare", parents=[shared], help="what another host sent, against what the node sends"))
+    add_compare(commands.add_parser("compare", parents=[shared], help="what another host sent, and no router, against what the node sends"))
     add_picture(commands.add_parser("picture", parents=[shared], help="an SVG of arrows over time"))
     return made
 
@@ -220,7 +221,7 @@ def main(words: Optional[List[str]] = None) -> int:
     arguments = parser().parse_args(words)
     try:
         if not library.is_ready() and not arguments.quiet:
-            print("ndbench: compiling nd.c, which takes half a minute and is done once", file=sys.stderr)
+            print("ndbench: compiling nd.c, which takes under a minute and is done once", file=sys.stderr)
         return arguments.run(arguments)
     except (BadInput, nd.LibraryError) as error:
         sys.stdout.flush()

@@ -10,7 +10,7 @@ import nd
 from .capture import Packet
 from .remarks import Remark, remarks_of
 from .sections import section_of_drop
-from .texts import frame_text, heard_by_its_role, reason_text, seconds_text
+from .texts import counted, frame_text, heard_by_its_role, reason_text, seconds_text
 
 
 @dataclass(frozen=True)
@@ -42,7 +42,8 @@ class Counts:
 
     def text(self) -> str:
         """Returns the counts as a line."""
-        return f"{self.valid} messages ({self.odd} with remarks), {self.other} other packets, {self.dropped} dropped, {self.skipped} skipped"
+        messages, others = counted(self.valid, "message"), counted(self.other, "other packet")
+        return f"{messages} ({self.odd} with remarks), {others}, {self.dropped} dropped, {self.skipped} skipped"
 
 
 def judge(packets: Iterable[Packet]) -> Iterator[Judgement]:

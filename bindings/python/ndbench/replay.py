@@ -15,7 +15,7 @@ import nd
 
 from .capture import CaptureError, Packet
 from .pcapng import Written
-from .sections import section_of_drop
+from .sections import section_not_for, section_of_drop
 from .setup import Setup
 from .tables import TABLES
 from .texts import address_text, frame_text, heard_by_its_role, record_text, seconds_text
@@ -41,6 +41,7 @@ class Own:
 Event = Union[Passed, Own, nd.Record]
 NOT_YET = "our choice: its link-local address is not yet assigned"  # docs/DECISIONS.md
 DISABLED = "RFC 4862, 5.4.5"
+BY_SELF = "our choice: the policy self"
 
 
 def moment_of(packet: Packet, begin: int, last: int) -> int:
@@ -111,13 +112,20 @@ class Replay:
         """Returns the section that asks to drop the packet that is heard now."""
         if self.heard is None:
             return ""
-        if dropped.why is nd.Why.NOT_FOR_US:
-            states = {row.state for row in self.node.addresses(self.node.last_moment()) if row.address.is_link_local}
-            if nd.State.TENTATIVE in states:
-                return NOT_YET
-            if nd.State.DUPLICATE in states:
-                return DISABLED
-        return section_of_drop(dropped.why, self.heard.packet.frame)
+        frame = self.heard.packet.frame
+        return self._section_not_for(frame) if dropped.why is nd.Why.NOT_FOR_US else section_of_drop(dropped.why, frame)
+
+    def _section_not_for(self, frame: bytes) -> str:
+        rows = list(self.node.addresses(self.node.last_moment()))
+        states = {row.state for row in rows if row.address.is_link_local}
+        if nd.State.TENTATIVE in states:
+            return NOT_YET
+        if nd.State.DUPLICATE in states:
+            return DISABLED
+        assigned = {row.address.packed for row in rows if row.state in (nd.State.PREFERRED, nd.State.DEPRECATED)}
+        if nd.Policy.SELF in self.setup.options.policies and frame[22:38] in assigned:
+            return BY_SELF
+        return section_not_for(self.setup.options.role, frame)
 
 
 def line_of(frame: bytes) -> str:

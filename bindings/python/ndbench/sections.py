@@ -3,7 +3,7 @@ from __future__ import annotations
 
 from typing import Dict, Optional
 
-from nd import Why
+from nd import Role, Why
 
 from .texts import message_type
 
@@ -12,13 +12,29 @@ VALIDATION = {133: "RFC 4861, 6.1.1", 134: "RFC 4861, 6.1.2", 135: "RFC 4861, 7.
 SECTIONS: Dict[Why, str] = {
     Why.FRAME_SHORT: "RFC 2464, 3", Why.NOT_IPV6: "RFC 2464, 3", Why.HEADER_SHORT: "RFC 8200, 3", Why.VERSION: "RFC 8200, 3",
     Why.PAYLOAD_SHORT: "RFC 8200, 3", Why.OPTION_ZERO: "RFC 4861, 4.6", Why.OPTION_OVER: "RFC 4861, 4.6", Why.SUM: "RFC 4443, 2.3",
-    Why.NOT_FOR_US: "RFC 4861, 6.1 to 8.1", Why.NOT_FIRST_HOP: "RFC 4861, 8.1"}
+    Why.NOT_FIRST_HOP: "RFC 4861, 8.1"}
 MULTICAST_SOURCE = "RFC 4291, 2.7"
+# The messages that a role does not take.
+NOT_TAKEN: Dict[Role, Dict[int, str]] = {Role.HOST: {133: "RFC 4861, 6.1.1"}, Role.ROUTER: {134: "RFC 4861, 6.2.7", 137: "RFC 4861, 8.2"}}
+# The destination is none of the node's own. The target of a solicitation may be none either, or tentative, and so may the destination of a packet
+# that is no message; a router does not send on what its addresses keep on the link.
+NOT_ITS_ADDRESS = "RFC 4291, 2.8"
+NOT_ITS_TARGET = "RFC 4291, 2.8; RFC 4861, 7.2.3; RFC 4862, 5.4.3"
+NOT_ITS_PACKET = {Role.HOST: "RFC 4291, 2.8; RFC 4862, 5.4", Role.ROUTER: "RFC 4291, 2.5.6 and 2.8; RFC 4862, 5.4"}
+SOLICITATION = 135
 
 
 def section_of_drop(why: Why, frame: bytes) -> str:
-    """Returns the section that asks to drop a frame for this reason."""
+    """Returns the section that asks to drop a frame for this reason, any but NOT_FOR_US."""
     kind: Optional[int] = message_type(frame)
     if why is Why.SOURCE and frame[22] == 0xFF:
         return MULTICAST_SOURCE
     return SECTIONS.get(why) or (VALIDATION[kind] if kind in VALIDATION else "our choice")
+
+
+def section_not_for(role: Role, frame: bytes) -> str:
+    """Returns the sections that ask a node without policies to drop a frame that is not for it, once its link-local address is assigned."""
+    kind = message_type(frame)
+    if kind is None:
+        return NOT_ITS_PACKET[role]
+    return NOT_TAKEN[role].get(kind) or (NOT_ITS_TARGET if kind == SOLICITATION else NOT_ITS_ADDRESS)

@@ -51,6 +51,11 @@ def flags_text(**flags: bool) -> str:
     return "".join(letter for letter, is_set in flags.items() if is_set) or "-"
 
 
+def counted(count: int, word: str) -> str:
+    """Returns a count and its word, with an s unless there is one."""
+    return f"{count} {word}{'' if count == 1 else 's'}"
+
+
 def seconds_text(nanoseconds: int, digits: int) -> str:
     """Returns a time in seconds, with this many decimals, the others cut."""
     sign, rest = ("-", -nanoseconds) if nanoseconds < 0 else ("", nanoseconds)

@@ -73,7 +73,8 @@ class Starts(unittest.TestCase):
         for draws in self.DRAWS:
             with self.subTest(words, draws=draws):
                 status, out, err = run(content, "compare", *HOST[:2], "--draws", draws, *words)
-                self.assertEqual((status, out, err.splitlines()[-1:]), (0, "", [f"{count} messages of the other stack, 0 differences"]))
+                said = f"{count} message{'s' if count > 1 else ''} of the other stack, 0 differences"
+                self.assertEqual((status, out, err.splitlines()[-1:]), (0, "", [said]))
 
     def test_an_advertisement_soon_after_the_address_is_assigned(self) -> None:
         """The host's address is assigned RetransTimer, 1 s, after its detection, and 0.1 s before the advertisement. It detects the address of the

@@ -41,7 +41,7 @@ class Lines(unittest.TestCase):
             self.assertEqual([line[:2] for line in lines[:3]], [["1", "0.000000"], ["2", "0.500000"], ["3", "1.000000"]])
             self.assertEqual(sorted({line.split(" ")[0] for line, after in zip(out.splitlines(), out.splitlines()[1:])
                                      if line[0] != " " and after.startswith("    odd: ")}, key=int), ["4", "5", "7", "8", "10"])
-            self.assertEqual((status, err), (0, "13 messages (5 with remarks), 1 other packets, 0 dropped, 0 skipped\n"))
+            self.assertEqual((status, err), (0, "13 messages (5 with remarks), 1 other packet, 0 dropped, 0 skipped\n"))
 
     def test_frames_of_the_corpus_as_json(self) -> None:
         checks = corpus().checks()

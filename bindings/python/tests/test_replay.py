@@ -82,13 +82,29 @@ class Text(unittest.TestCase):
         a Router Solicitation, as hosts do (RFC 4861, 6.1.1). A node whose address is another's hears nothing (RFC 4862, 5.4.5)."""
         solicitation = message_frame(b"\x85" + bytes(7), "::", "ff02::2", "333300000002020000000001")
         defence = message_frame(b"\x88\0\0\0\x20\0\0\0" + IPv6Address("fe80::3656:78ff:fe9a:bcde").packed, "fe80::3656:78ff:fe9a:bcde")
-        for first, section in ((advertisement(), "RFC 4861, 6.1 to 8.1"), (defence, "RFC 4862, 5.4.5")):
+        for first, section in ((advertisement(), "RFC 4861, 6.1.1"), (defence, "RFC 4862, 5.4.5")):
             content = pcap([(999_000_000, first), (1_001_000_000, solicitation)])
             lines = run(content, "replay", *HOST, "--before", "999")[1].splitlines()
             dropped = lines.index("1001 drop 19 NotForUs")
             self.assertEqual(lines[dropped + 1], f"# [{section}]")
             early = [lines[number + 1] for number, line in enumerate(lines) if line == "999 drop 19 NotForUs"]
             self.assertEqual(early, ["# [our choice: its link-local address is not yet assigned]"] if first != defence else [])
+
+    def test_why_a_message_or_a_packet_is_not_for_the_node(self) -> None:
+        """RFC 4291, 2.8, lists what a host recognizes as its own; RFC 4861, 6.2.7, 7.2.3 and 8.2, and RFC 4862, 5.4, ask for the others."""
+        another, own = IPv6Address("2001:db8::9").packed, IPv6Address("fe80::3656:78ff:fe9a:bcde").packed
+        asked = message_frame(b"\x87" + bytes(7) + another)
+        redirect = message_frame(b"\x89" + bytes(7) + another * 2)
+        misdirected = message_frame(b"\x88" + bytes(7) + another, destination="fe80::9")
+        claimed = message_frame(b"\x87" + bytes(7) + own, "fe80::3656:78ff:fe9a:bcde")
+        packet = asked[:20] + b"\x11" + asked[21:38] + another + asked[54:]
+        for role, frame, section, *words in (
+                ("host", asked, "RFC 4291, 2.8; RFC 4861, 7.2.3; RFC 4862, 5.4.3"), ("host", misdirected, "RFC 4291, 2.8"),
+                ("host", packet, "RFC 4291, 2.8; RFC 4862, 5.4"), ("host", claimed, "our choice: the policy self", "--policy", "self"),
+                ("router", advertisement(), "RFC 4861, 6.2.7"), ("router", redirect, "RFC 4861, 8.2")):
+            with self.subTest(section):
+                lines = run(pcap([(2_000_000_000, frame)]), "replay", *HOST[2:], "--role", role, "--before", "2000", *words)[1].splitlines()
+                self.assertEqual(lines[lines.index("2000 drop 19 NotForUs") + 1], f"# [{section}]")
 
     def test_time_goes_on_after_the_last_packet(self) -> None:
         """The last packet is at 2300 ms, when fe80::2 has 1,800 s left; the other router has its 1,800 s from 1200 ms on."""
