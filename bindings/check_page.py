@@ -166,7 +166,8 @@ MALFORMED = {
     "10 confirm fe80": "an IPv6 address", "10 rx 123": "an even number of hexadecimal digits", "10 prefix 2001:db8::/129 - - la": "a prefix",
     "10 prefix 2001:db8::/64 - - al": "flags: -, or some of the letters l a in this order", "10 at 5": "the end of the line",
     "10 clear params": "neighbours, routers, prefixes, redirects, dns", "10 show": "neighbours, routers, prefixes, addresses, dns, redirects, params,",
-    "10 prefix fe80::/64 - - la": "no link-local or multicast prefix", "10 advertise 3 3 - 64 - 0 0 0": "max from 4 to 1800"}
+    "10 prefix fe80::/64 - - la": "no link-local or multicast prefix", "10 advertise 3 3 - 64 - 0 0 0": "max from 4 to 1800",
+    "10 advertise x 4 - 64 - 0 0 0": "a number from 0 to 65535,"}
 
 
 def check_faults_in_node(path):

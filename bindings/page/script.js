@@ -226,7 +226,8 @@ const EVENTS = {
     },
     withdraw: ofAddress('nd_remove_address'),
     advertise: (node, now, words) => {
-        const min_interval = words.number(), max_interval = words.number(undefined, 600), lifetime = words.number(undefined, 3n * max_interval);
+        const min_interval = words.number(2n ** 16n), max_interval = words.number(2n ** 16n, 600);
+        const lifetime = words.number(2n ** 16n, 3n * max_interval);
         const hop_limit = Number(words.number(256n)), flags = words.flags('mohl');
         const [reachable_time, retrans_timer, mtu] = [words.number(), words.number(), words.number()];
         words.end();
