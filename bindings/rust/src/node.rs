@@ -62,6 +62,9 @@ pub struct Node {
 /// # Safety
 /// The library keeps a node in its own blocks of memory and has no global state, so a node may go to another thread; that its parts may is proved of
 /// the library's source. The memory functions are those of `std::alloc`, or the program promises the same of its own.
+///
+/// This holds of the archive that `make -C bindings archive` makes. **Over an archive of `dist/nd.c` it is unsound**: all nodes and
+/// [`hear`](crate::hear()) use one memory there, so calls in two threads are a data race. A program over such an archive makes all calls in one thread.
 unsafe impl Send for Node {}
 
 impl Drop for Node {
