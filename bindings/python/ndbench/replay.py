@@ -116,16 +116,15 @@ class Replay:
         return self._section_not_for(frame) if dropped.why is nd.Why.NOT_FOR_US else section_of_drop(dropped.why, frame)
 
     def _section_not_for(self, frame: bytes) -> str:
-        rows = list(self.node.addresses(self.node.last_moment()))
-        states = {row.state for row in rows if row.address.is_link_local}
+        own = {row.address.packed: row.state for row in self.node.addresses(self.node.last_moment())}
+        states = {state for address, state in own.items() if IPv6Address(address).is_link_local}
         if nd.State.TENTATIVE in states:
             return NOT_YET
         if nd.State.DUPLICATE in states:
             return DISABLED
-        assigned = {row.address.packed for row in rows if row.state in (nd.State.PREFERRED, nd.State.DEPRECATED)}
-        if nd.Policy.SELF in self.setup.options.policies and frame[22:38] in assigned:
+        if nd.Policy.SELF in self.setup.options.policies and own.get(frame[22:38]) in (nd.State.PREFERRED, nd.State.DEPRECATED):
             return BY_SELF
-        return section_not_for(self.setup.options.role, frame)
+        return section_not_for(self.setup.options.role, frame, own)
 
 
 def line_of(frame: bytes) -> str:

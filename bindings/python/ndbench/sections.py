@@ -3,7 +3,7 @@ from __future__ import annotations
 
 from typing import Dict, Optional
 
-from nd import Role, Why
+from nd import Role, State, Why
 
 from .texts import message_type
 
@@ -16,11 +16,10 @@ SECTIONS: Dict[Why, str] = {
 MULTICAST_SOURCE = "RFC 4291, 2.7"
 # The messages that a role does not take.
 NOT_TAKEN: Dict[Role, Dict[int, str]] = {Role.HOST: {133: "RFC 4861, 6.1.1"}, Role.ROUTER: {134: "RFC 4861, 6.2.7", 137: "RFC 4861, 8.2"}}
-# The destination is none of the node's own. The target of a solicitation may be none either, or tentative, and so may the destination of a packet
-# that is no message; a router does not send on what its addresses keep on the link.
-NOT_ITS_ADDRESS = "RFC 4291, 2.8"
-NOT_ITS_TARGET = "RFC 4291, 2.8; RFC 4861, 7.2.3; RFC 4862, 5.4.3"
-NOT_ITS_PACKET = {Role.HOST: "RFC 4291, 2.8; RFC 4862, 5.4", Role.ROUTER: "RFC 4291, 2.5.6 and 2.8; RFC 4862, 5.4"}
+# The destination is none of the node's own; and what its addresses keep on the link a router does not send on either.
+NOT_ITS_ADDRESS, NOT_SENT_ON = "RFC 4291, 2.8", "RFC 4291, 2.5.6 and 2.8"
+# The target of a solicitation is none of its addresses, or tentative; the destination of a packet is tentative.
+NOT_ITS_TARGET, TENTATIVE_TARGET, TENTATIVE_DESTINATION = "RFC 4861, 7.2.3", "RFC 4862, 5.4.3", "RFC 4862, 5.4"
 SOLICITATION = 135
 
 
@@ -32,9 +31,17 @@ def section_of_drop(why: Why, frame: bytes) -> str:
     return SECTIONS.get(why) or (VALIDATION[kind] if kind in VALIDATION else "our choice")
 
 
-def section_not_for(role: Role, frame: bytes) -> str:
-    """Returns the sections that ask a node without policies to drop a frame that is not for it, once its link-local address is assigned."""
+def section_not_for(role: Role, frame: bytes, own: Dict[bytes, State]) -> str:
+    """Returns the section that asks a node without policies to drop a frame that is not for it, once its link-local address is assigned. `own`: the
+    states of its addresses."""
     kind = message_type(frame)
     if kind is None:
-        return NOT_ITS_PACKET[role]
-    return NOT_TAKEN[role].get(kind) or (NOT_ITS_TARGET if kind == SOLICITATION else NOT_ITS_ADDRESS)
+        if own.get(frame[38:54]) is State.TENTATIVE:
+            return TENTATIVE_DESTINATION
+        return NOT_SENT_ON if role is Role.ROUTER else NOT_ITS_ADDRESS
+    if kind in NOT_TAKEN[role]:
+        return NOT_TAKEN[role][kind]
+    target = own.get(frame[62:78])
+    if kind == SOLICITATION and target is State.TENTATIVE:
+        return TENTATIVE_TARGET
+    return NOT_ITS_TARGET if kind == SOLICITATION and target in (None, State.DUPLICATE) else NOT_ITS_ADDRESS

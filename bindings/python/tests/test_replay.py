@@ -16,7 +16,7 @@ from ndbench.pcapng import Written, write_capture
 from ndbench.replay import line_of
 from ndbench.setup import Setup
 
-from .captures import BEGIN, advertisement, events_pcap, message_frame, pcap
+from .captures import BEGIN, advertisement, events_pcap, message_frame, pcap, prefix_option
 from .paths import example, example_events, example_frames
 from .test_judge import run
 
@@ -91,19 +91,26 @@ class Text(unittest.TestCase):
             self.assertEqual(early, ["# [our choice: its link-local address is not yet assigned]"] if first != defence else [])
 
     def test_why_a_message_or_a_packet_is_not_for_the_node(self) -> None:
-        """RFC 4291, 2.8, lists what a host recognizes as its own; RFC 4861, 6.2.7, 7.2.3 and 8.2, and RFC 4862, 5.4, ask for the others."""
+        """RFC 4291, 2.8, lists what a host recognizes as its own; RFC 4861, 6.2.7, 7.2.3 and 8.2, and RFC 4862, 5.4, ask for the others. The address
+        of the prefix is tried within a second, for a second."""
         another, own = IPv6Address("2001:db8::9").packed, IPv6Address("fe80::3656:78ff:fe9a:bcde").packed
         asked = message_frame(b"\x87" + bytes(7) + another)
         redirect = message_frame(b"\x89" + bytes(7) + another * 2)
         misdirected = message_frame(b"\x88" + bytes(7) + another, destination="fe80::9")
         claimed = message_frame(b"\x87" + bytes(7) + own, "fe80::3656:78ff:fe9a:bcde")
-        packet = asked[:20] + b"\x11" + asked[21:38] + another + asked[54:]
+        tried = IPv6Address("2001:db8::3656:78ff:fe9a:bcde").packed
+        packet, to_tried = (asked[:20] + b"\x11" + asked[21:38] + destination + asked[54:] for destination in (another, tried))
         for role, frame, section, *words in (
-                ("host", asked, "RFC 4291, 2.8; RFC 4861, 7.2.3; RFC 4862, 5.4.3"), ("host", misdirected, "RFC 4291, 2.8"),
-                ("host", packet, "RFC 4291, 2.8; RFC 4862, 5.4"), ("host", claimed, "our choice: the policy self", "--policy", "self"),
-                ("router", advertisement(), "RFC 4861, 6.2.7"), ("router", redirect, "RFC 4861, 8.2")):
+                ("host", asked, "RFC 4861, 7.2.3"), ("host", message_frame(b"\x87" + bytes(7) + tried), "RFC 4862, 5.4.3"),
+                ("host", message_frame(b"\x87" + bytes(7) + own, destination="fe80::9"), "RFC 4291, 2.8"),
+                ("host", misdirected, "RFC 4291, 2.8"), ("host", packet, "RFC 4291, 2.8"), ("host", to_tried, "RFC 4862, 5.4"),
+                ("host", claimed, "our choice: the policy self", "--policy", "self"),
+                ("router", advertisement(), "RFC 4861, 6.2.7"), ("router", redirect, "RFC 4861, 8.2"),
+                ("router", packet[:22] + own + packet[38:], "RFC 4291, 2.5.6 and 2.8")):
             with self.subTest(section):
-                lines = run(pcap([(2_000_000_000, frame)]), "replay", *HOST[2:], "--role", role, "--before", "2000", *words)[1].splitlines()
+                to_node = frame if role == "host" else bytes.fromhex("3456789abcde") + frame[6:]
+                sent = [(0, advertisement(options=prefix_option())), (1, to_node)] if role == "host" else [(0, to_node)]
+                lines = run(pcap(sent), "replay", *HOST[2:], "--role", role, "--before", "2000", *words)[1].splitlines()
                 self.assertEqual(lines[lines.index("2000 drop 19 NotForUs") + 1], f"# [{section}]")
 
     def test_time_goes_on_after_the_last_packet(self) -> None:
