@@ -18,6 +18,7 @@ import hostile  # noqa: E402
 STORED = f"{TESTS}/hostile.txt"
 VALGRIND = ["valgrind", "-q", "--error-exitcode=99", "--leak-check=full", "--errors-for-leak-kinds=definite"]
 SEED, RANDOM_FRAMES, EACH_OF_RANDOM = 4861, 1_000_000, 20
+ND_POLICY_PARTS = 1
 
 
 def stored():
@@ -150,9 +151,9 @@ def check_hostile(room, archive, build, trace):
             words = [program, "mended" if is_mended else "plain", str(n)]
             changed.append((name, is_mended, n, start(room, name, words)))
     for seed in range(SEED, SEED + seeds) if fuzz else ():
-        for number, role in ((0, "host"), (1, "router")):
+        for number, role, policies in ((0, "host", 0), (1, "router", 0), (0, "host with parts", ND_POLICY_PARTS)):
             name = f"random frames at a {role}, seed {seed}"
-            random.append((name, start(room, name, [fuzz, str(number), str(RANDOM_FRAMES), str(seed), str(EACH_OF_RANDOM)])))
+            random.append((name, start(room, name, [fuzz, str(number), str(RANDOM_FRAMES), str(seed), str(EACH_OF_RANDOM), str(policies)])))
     if trace:
         check_floods(trace)
         check_scripts(trace)

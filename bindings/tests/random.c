@@ -1,7 +1,7 @@
-/* random: random frames at a node with small limits. The arguments are the role, a number of `enum nd_role`; how many frames; the seed; and N, for
- * each Nth frame to be printed with what nd_hear says of it to a host and to a router, or 0. The frames of standard input (hostile.py) are changed:
- * other addresses, flags, lifetimes and options, random bytes, another length. Most have a good checksum. Between them time passes and packets are
- * sent.
+/* random: random frames at a node with small limits. The arguments are the role, a number of `enum nd_role`; how many frames; the seed; N, for each
+ * Nth frame to be printed with what nd_hear says of it to a host and to a router, or 0; and the policies, a sum of `enum nd_policy`, or nothing for
+ * none. The frames of standard input (hostile.py) are changed: other addresses, flags, lifetimes and options, random bytes, another length. Most have
+ * a good checksum. Between them time passes and packets are sent.
  *   It requires: no table passes its limit. After each call, with all records taken, the node holds no more memory than nd_node_bytes, three of the
  * longest packets for each neighbour and the room of the queue; during a call, no more than that and twice what it reports. A frame that is dropped
  * or refused has one record and leaves all tables as they were. A reason that nd_hear says is the node's reason. A second node, which receives none
@@ -25,7 +25,7 @@ static const char *const LIMIT_NAMES[LIMITS] = {"", "neighbours", "routers", "pr
 static const nd_limits SMALL = {.neighbours = NEIGHBOURS, .routers = ROUTERS, .waiting = WAITING};
 
 static nd_node node;
-static uint32_t role;
+static uint32_t role, policies;
 static uint64_t now = OPENED_AT;
 static uint8_t buffer[2 * LONGEST];
 static size_t held_most, peak_most, records_most, bound;
@@ -403,6 +403,7 @@ static void open_small(void)
     options.role = role;
     options.mac = role == ND_ROLE_ROUTER ? ROUTER_MAC : MAC;
     options.limits = SMALL;
+    options.policies = policies;
     bound = nd_node_bytes(&SMALL);
     require(bound > 0 && nd_open(&node, &options, sizeof options) == ND_DONE && nd_pass(&node, now) == ND_DONE, "nd_open");
     if (role == ND_ROLE_ROUTER) {
@@ -542,10 +543,11 @@ int main(int argc, char **argv)
 {
     uint64_t hash;
     size_t frames;
-    require(argc == 5, "random ROLE FRAMES SEED N < the frames of hostile.py");
+    require(argc == 5 || argc == 6, "random ROLE FRAMES SEED N [POLICIES] < the frames of hostile.py");
     role = (uint32_t)strtoul(argv[1], NULL, 10);
     frames = strtoul(argv[2], NULL, 10);
     random_state = strtoull(argv[3], NULL, 10);
+    policies = argc == 6 ? (uint32_t)strtoul(argv[5], NULL, 10) : 0;
     is_without_effect = malloc(frames + 1);
     require(is_without_effect != NULL, "memory for the frames");
     read_named();
