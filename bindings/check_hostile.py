@@ -151,7 +151,8 @@ def check_hostile(room, archive, build, trace):
             words = [program, "mended" if is_mended else "plain", str(n)]
             changed.append((name, is_mended, n, start(room, name, words)))
     for seed in range(SEED, SEED + seeds) if fuzz else ():
-        for number, role, policies in ((0, "host", 0), (1, "router", 0), (0, "host with parts", ND_POLICY_PARTS)):
+        with_parts = [(0, "host with parts", ND_POLICY_PARTS)] if seed == SEED else []
+        for number, role, policies in [(0, "host", 0), (1, "router", 0), *with_parts]:
             name = f"random frames at a {role}, seed {seed}"
             random.append((name, start(room, name, [fuzz, str(number), str(RANDOM_FRAMES), str(seed), str(EACH_OF_RANDOM), str(policies)])))
     if trace:

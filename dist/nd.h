@@ -68,9 +68,13 @@
  *     nd_next_due may equal the moment of the last call, and the loop above then turns at once.
  *
  * STATUS. Functions that return int32_t return an `enum nd_status` or a refusal. 0 and above: the
- * call took place. Below 0: it did not, and it has changed nothing, but for ND_NO_MEMORY and a
- * refusal. If several hold, the first in this order is returned: ND_INVALID, ND_CLOSED, ND_PAST,
- * ND_NO_MEMORY, a refusal.
+ * call took place. Below 0: it did not, and it has changed nothing, but for ND_NO_MEMORY, a
+ * refusal, and ND_NO_ROOM: nd_poll has written `out` then, and a question for all rows those that
+ * fit, and `count`. If several hold, the first in this order is returned: ND_INVALID, ND_CLOSED,
+ * ND_PAST, ND_NO_MEMORY while what is due is done, a refusal, ND_NO_MEMORY for what the event
+ * itself adds. Three requests precede a refusal: for the frame of nd_receive_message, before what
+ * is due; for the copy of a payload of nd_send, before ND_REFUSAL_FULL; and for the record of the
+ * refusal, if other records were not polled.
  *   A refusal is ND_REFUSED(refusal, limit), -16 or below: time has passed up to the event, what
  *   was due is done, and nothing else has changed. nd_refusal_of and nd_limit_of say why.
  *   ND_NO_MEMORY: the event has added nothing. A part of what was due may have been done, and is
@@ -126,6 +130,11 @@
  * fields are 0: the library writes zeros, and returns ND_INVALID if the caller passes anything
  * else.
  *
+ * WITH nd.c: cc -O2 program.c nd.c -lm, or an object of nd.c and -lm. With -D nd.c takes
+ * ND_MEMORY_BYTES, the bytes of all its memory, a multiple of 16 (524,288 unless that is set);
+ * ND_FRAME_BYTES (FRAMES IN); and ND_UNCHECKED: accesses to that memory are not compared with its
+ * size. The README.md next to it says more.
+ *
  * VERSION. The major number changes with any layout, number or meaning, the minor number with an
  * addition: a function, a value of an enumeration, a field in place of `reserved` or at the end of
  * nd_options. So ignore kinds and codes that you do not know. An older library refuses a newer
@@ -150,6 +159,8 @@
  *     nd_next_due and nd_lease_version ask for no memory.
  *   - ND_BUFFER_BYTES, nd_node_bytes and nd_pool_bytes are enough, and a row costs what its index
  *     is.
+ *   - nd_pass and nd_poll pass on what is proved below them: time passes whatever memory there is
+ *     (STATUS).
  * TRUSTED: the duties above, enough stack, the toolchain, and what nd.c is made by, which the
  * README.md beside it names. bindings/check compares this header with the library's source.
  */
@@ -584,8 +595,10 @@ typedef struct nd_path { /* a field is 0 where the status does not have it, but 
  *         poll_all(); // RESOLVED: send what is kept for its address first; FAILED: drop that
  *         int32_t status = nd_resolve(&node, now, &destination, path);
  *         version = nd_lease_version(&node);
- *         if (status == ND_WAITING) return keep(packet, &path->next_hop);
- *         if (status != ND_DONE) return drop(packet);
+ *         if (status != ND_DONE) {
+ *             status == ND_WAITING ? keep(packet, &path->next_hop) : drop(packet);
+ *             return poll_all(); // the solicitation of ND_WAITING is sent at once
+ *         }
  *     }
  *     transmit(packet, &path->mac);
  *
