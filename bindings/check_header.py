@@ -59,7 +59,7 @@ def without_comments(text):
 
 
 def structs_of(text):
-    """Returns the #[repr(C)] structures with their fields and types. Ghost fields have no place."""
+    """Returns the #[repr(C)] structures with their fields and types. Ghost fields take no bytes."""
     structs = {}
     for name, body in re.findall(r"#\[repr\(C\)\]\s*(?:#\[[^\n]*\]\s*)*pub struct (\w+) \{(.*?)\n\}", without_comments(text), re.S):
         fields = re.findall(r"^ +(?:pub(?:\(crate\))? )?(?!ghost\b)(\w+): ([^,{]+),$", body, re.M)

@@ -10,7 +10,7 @@ TOP = os.path.dirname(os.path.dirname(HERE))
 STAMP = f"{TOP}/dist/STAMP"
 # The frames of the examples in C, and what these print of them.
 EXAMPLES = [f"{name}.{kind}" for name in ("host", "router", "link") for kind in ("hex", "txt")]
-# The files beside the crates.
+# The files besides the crates.
 OTHERS = ["include/nd.h", "include/nd_hear.h", "include/nd_text.h", "bindings/c/memory.names", "bindings/c/pool.c", *(f"examples/{name}" for name in EXAMPLES),
           *(f"bindings/targets/{name}" for name in ("bitcode.py", "build.py", "dist.md", "dist_headers.py", "front.c", "module.c", "retarget.py", "runtime.h"))]
 

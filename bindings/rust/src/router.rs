@@ -1,4 +1,4 @@
-//! What a router is told to advertise and where it forwards.
+//! What a router is to advertise, and where it forwards.
 
 use crate::error::Error;
 use crate::numbers::Preference;

@@ -1,4 +1,4 @@
-//! Memory is refused to a node, and given back by it. The program's allocator counts what is held, and refuses what it is told to refuse.
+//! Memory is refused to a node, and given back by it. The program's allocator counts what is held, and refuses what a test asks it to refuse.
 #![cfg(feature = "memory")]
 
 use nd::*;
@@ -72,7 +72,7 @@ fn example() -> Vec<(u64, Vec<u8>)> {
 }
 
 #[test]
-fn a_node_that_is_not_opened_for_want_of_memory_holds_none() {
+fn a_node_that_is_not_opened_out_of_memory_holds_none() {
     let held = HELD.get();
     for granted in 0..1000 {
         match with(Some(granted), || Node::open(options())) {
