@@ -1,6 +1,6 @@
 -- What a search by halves keeps in a list in the order of its numbers.
 use Rattle.std.proofs.Common.{Ordering, Less, Equal, Greater, Bool, true, false, pow-suc, ◌≡◌, ℕ, ◌+◌, ◌*◌, ◌^◌, ◌/◌, ◌-◌, ◌<◌, ◌≤◌, cond, eqb, ltb, List, [], ◌∷◌, length, get_or, drop, Some, None, refl, sym, ◌∙◌, ap, subst, arith, suc, zero, add-one, inl, inr}
-use Rattle.std.specs.Ordering.{is_eq, is_lt, MatchOrdering, nat_cmp}
+use Rattle.std.specs.Ordering.{is_eq, is_gt, is_lt, MatchOrdering, nat_cmp}
 use Rattle.std.specs.Prelude.{slice_get}
 use Rattle.std.proofs.lemmas.Cmp.{ranked}
 use Rattle.std.proofs.lemmas.Option.{slice_get-get_or}
@@ -19,6 +19,14 @@ module _ (a b : ℕ) where
       by Less m y = m
       by Equal m y = absurd (true≢false (sym y))
       by Greater m y = absurd (true≢false (sym y))
+
+  pub greater : (o : Ordering) (is : Bool) → o ≡ nat_cmp a b → is ≡ is_gt o → is ≡ true → b < a
+  greater o is e t h = by o (ranked a b o e) (sym t ∙ h)
+    where
+      by : (o : Ordering) → MatchOrdering o (a < b) (a ≡ b) (b < a) → is_gt o ≡ true → b < a
+      by Less m y = absurd (true≢false (sym y))
+      by Equal m y = absurd (true≢false (sym y))
+      by Greater m y = m
 
   pub not_lower : (o : Ordering) (is : Bool) → o ≡ nat_cmp a b → is ≡ is_lt o → is ≡ false → b ≤ a
   not_lower o is e t h = by o (ranked a b o e) (sym t ∙ h)

@@ -177,7 +177,7 @@ impl<A: Allocator> Ranked<Date> for Block<A> {
     }
 }
 
-/// Removes the date at `from`, and adds one at `to - 1`, to which those between are moved down.
+/// Removes the date at place `from`, and adds one before the date at place `to`, or at the end. Each date between the two places moves down by one place.
 fn change_up(dates: &mut [Date], from: usize, to: usize, date: Date)
     requires up { from < to }
     requires within { to ≤ length dates.old }
@@ -187,7 +187,7 @@ fn change_up(dates: &mut [Date], from: usize, to: usize, date: Date)
     dates[to - 1] = date;
 }
 
-/// Removes the date at `from`, and adds one at `to`, from which those between are moved up.
+/// Removes the date at place `from`, and adds one at place `to`. Each date between the two places moves up by one place.
 fn change_down(dates: &mut [Date], from: usize, to: usize, date: Date)
     requires down { to ≤ from }
     requires within { from < length dates.old }

@@ -94,9 +94,7 @@ impl<A: Allocator> Blocks<A> {
         ensures number { length self.new.blocks + self.new.spare ≡ length self.old.blocks + self.old.spare }
     {
         let at = self.find(date);
-        let block = &mut self.used[at];
-        block.take(date);
-        self.settle(at);
+        self.take_at(at, date);
     }
 
     /// Changes a date that is in a block to one that isn't in any. There are enough blocks for all dates. Where both belong in one block, that block
@@ -114,11 +112,11 @@ impl<A: Allocator> Blocks<A> {
         ensures number { length self.new.blocks + self.new.spare ≡ length self.old.blocks + self.old.spare }
     {
         let at = self.find(old);
-        if at == self.find_from_last(new) {
+        if self.belongs(at, new) {
             let block = &mut self.used[at];
             block.change(old, new);
         } else {
-            self.take(old);
+            self.take_at(at, old);
             self.put(new);
         }
     }
@@ -136,6 +134,36 @@ impl<A: Allocator> Blocks<A> {
         }
         let block = &mut self.used[0];
         block.clear();
+    }
+
+    /// Removes a date from the block where it belongs, if it is in it.
+    fn take_at(&mut self, at: usize, date: Date)
+        requires order { Rises rank (all_of self.old.blocks) }
+        requires addresses { AllAddresses (all_of self.old.blocks) }
+        requires address { date.number < 2 ^ 128 }
+        requires kept { Kept self.old.blocks }
+        requires within { at < length self.old.blocks }
+        requires here { BelongsAt (rank date) self.old.blocks at }
+        ensures dates { all_of self.new.blocks ≡ without date.moment date.number (all_of self.old.blocks) }
+        ensures kept { Kept self.new.blocks }
+        ensures number { length self.new.blocks + self.new.spare ≡ length self.old.blocks + self.old.spare }
+    {
+        let block = &mut self.used[at];
+        block.take(date);
+        self.settle(at);
+    }
+
+    /// Returns true if a date belongs in the block at a place: the block begins no later than it, or is the first, and the next one begins after it.
+    fn belongs(&self, at: usize, date: Date) -> bool
+        requires order { Rises rank (all_of self.now.blocks) }
+        requires kept { Kept self.now.blocks }
+        requires within { at < length self.now.blocks }
+        ensures { result ≡ true → BelongsAt (rank date) self.now.blocks at }
+    {
+        if at > 0 && self.used[at].compare(&date).is_gt() {
+            return false;
+        }
+        at + 1 == self.used.len() || self.used[at + 1].compare(&date).is_gt()
     }
 
     /// Returns the place of the block where a date belongs, which `find` returns. The last block is looked at before the others are searched, since
