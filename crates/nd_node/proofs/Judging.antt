@@ -22,7 +22,7 @@ use Rattle.nd_chronicle.specs.Start.{Policies, Start}
 use Rattle.nd_chronicle.specs.Reading.{IsRead, read_outcome}
 use Rattle.nd_chronicle.specs.Happening.{Chronicle, Happening, Dropped, Up, Passed, last_moment}
 use Rattle.nd_chronicle.specs.Hearing as verdicts
-use Rattle.nd_chronicle.specs.Hearing.{FromFirstHop, NotFromFirstHop, IsForUs, IsPacketForUs, IsInTransit, IsDropped, IsTaken, IsStrange, IsMisdirected, IsPacket, IsPassing, IsStrangePacket, takes_target}
+use Rattle.nd_chronicle.specs.Hearing.{FromFirstHop, NotFromFirstHop, IsForUs, IsPacketForUs, IsInTransit, IsDropped, IsTaken, IsStrange, IsMisdirected, IsPacket, IsPassing, IsStrangePacket, Judges, Verdict, takes_target}
 use Rattle.nd_chronicle.specs.NextHop.{IsNextHop}
 use Rattle.nd_chronicle.specs.Event as events
 use Rattle.nd_chronicle.specs.Told.{items_at, items}
@@ -36,13 +36,13 @@ use Rattle.nd_node.specs.declared.node.Node.{Node}
 use Rattle.nd_node.specs.EventKept.{AddsEvent}
 use Rattle.nd_node.specs.Forwarding.{AddsForwarded}
 use Rattle.nd_node.specs.Frame.{AddsAlone, Stays}
-use Rattle.nd_node.specs.Hearing.{AddsMessage, Keeps}
+use Rattle.nd_node.specs.Hearing.{AddsMessage, Keeps, LeavesTables}
 use Rattle.nd_node.specs.NodeKept.{Stands, next_of}
 use Rattle.nd_chronicle.proofs.Hops.{one_next_hop}
 use Rattle.nd_node.proofs.Quiet.{stands_quiet}
 use Rattle.nd_node.proofs.Steps.{passed}
 
--- ---- what is told alone
+-- ---- what is reported alone
 
 abbrev pub IsQuiet : ℕ → Happening → Type 0
 IsQuiet now what = (c : Chronicle) → ((at : ℕ) → last_moment at c ≡ now) → Quiet c ((now, what) ∷ c)
@@ -165,6 +165,19 @@ one_source start c now source (bodies.Ra ra) from n = n
 one_source start c now source (bodies.Ns ns) from n = n
 one_source start c now source (bodies.Na na) from n = n
 one_source start c now source (bodies.Redirect r) from n = n.2 (sym (one_next_hop c now start r.destination (via (number_of source.0)) n.0 from n.1))
+
+-- one that is for the node, and comes from where it has to, is heard
+pub message_is_heard : (start : Start) (c : Chronicle) (now : ℕ) {frame : List ℕ} (source destination : Addr) (message : Parts) (verdict : Verdict) → IsForUs start c source destination message → FromFirstHop start c now source message.body
+    → Judges start c now frame (valid source destination message) verdict → LeavesTables verdict → ⊥
+message_is_heard start c now source destination message verdict u from (IsTaken v f) leaves = leaves
+message_is_heard start c now source destination message verdict u from (IsStrange n) leaves = n u
+message_is_heard start c now source destination message verdict u from (IsMisdirected v n) leaves = one_source start c now source message.body from n
+
+-- a packet in transit goes on
+pub packet_passes : (start : Start) (c : Chronicle) (now : ℕ) {frame : List ℕ} (packet : PacketParts) (verdict : Verdict) → IsInTransit start c frame packet → Judges start c now frame (other packet) verdict → LeavesTables verdict → ⊥
+packet_passes start c now packet verdict t (IsPacket u) leaves = t.not_ours u
+packet_passes start c now packet verdict t (IsPassing v) leaves = leaves
+packet_passes start c now packet verdict t (IsStrangePacket n stranger) leaves = stranger t
 
 -- only a Redirect has to be from the first hop
 pub from_any : (start : Start) (c : Chronicle) (now : ℕ) (source : Addr) (body : Body) → ((r : Redirect) → body ≡ bodies.Redirect r → ⊥) → FromFirstHop start c now source body

@@ -21,7 +21,7 @@ use Rattle.nd_addr.specs.Ip6.{PacketParts}
 use Rattle.nd_chronicle.specs.Start.{Policies, Start}
 use Rattle.nd_chronicle.specs.Reading.{IsRead, read_outcome}
 use Rattle.nd_chronicle.specs.Happening.{Chronicle}
-use Rattle.nd_chronicle.specs.Hearing.{IsForUs, IsInTransit, IsPacketForUs, IsHeard, Judges, IsStrange, IsMisdirected, IsStrangePacket, NotFromFirstHop, drops}
+use Rattle.nd_chronicle.specs.Hearing.{IsForUs, IsInTransit, IsPacketForUs, IsHeard, Judges, IsStrange, IsMisdirected, IsStrangePacket, NotFromFirstHop, Verdict, drops}
 use Rattle.nd_chronicle.specs.Histories.{given_or_marked}
 use Rattle.nd_steps.specs.NeighbourCache.{said_by, told_for}
 use Rattle.nd_node.specs.declared.node.Node.{Node}
@@ -60,17 +60,17 @@ pub passing_stays : (start : Start) (c : Chronicle) (now : ℕ) {frame : List �
 passing_stays start c now packet why u (IsStrangePacket n no_transit) = no_transit u
 
 -- what is read in a frame that says one thing
-pub one_reading : (start : Start) (frame : List ℕ) (role : Role) (policies : Policies) (mac : Mac) (said outcome : Outcome) → role ≡ start.role → policies ≡ start.policies → mac ≡ start.mac → ((o : Outcome) → Hears frame role o → said ≡ o)
+one_reading : (start : Start) (frame : List ℕ) (role : Role) (policies : Policies) (mac : Mac) (said outcome : Outcome) → role ≡ start.role → policies ≡ start.policies → mac ≡ start.mac → ((o : Outcome) → Hears frame role o → said ≡ o)
     → IsRead start.policies start.mac frame start.role outcome → read_outcome policies mac said ≡ outcome
 one_reading start frame role policies mac said outcome same asked own only h =
     ap (λ (o : Outcome). read_outcome policies mac o) (only h.said (subst (λ (r : Role). Hears frame r h.said) (sym same) h.by_frame))
     ∙ ap (λ (p : Policies). read_outcome p mac h.said) asked ∙ ap (λ (m : Mac). read_outcome start.policies m h.said) own ∙ sym h.as_read
 
 -- the node judges what it reads in the frame
-pub judged_by_frame : (start : Start) (c : Chronicle) (now : ℕ) (frame : List ℕ) (role : Role) (policies : Policies) (mac : Mac) (said : Outcome) (why : Why) → role ≡ start.role → policies ≡ start.policies → mac ≡ start.mac
-    → ((o : Outcome) → Hears frame role o → said ≡ o) → IsHeard start c now frame (drops why) → Judges start c now frame (read_outcome policies mac said) (drops why)
-judged_by_frame start c now frame role policies mac said why same asked own only h =
-    subst (λ (o : Outcome). Judges start c now frame o (drops why)) (sym (one_reading start frame role policies mac said h.outcome same asked own only h.by_frame)) h.by_node
+pub judged_by_frame : (start : Start) (c : Chronicle) (now : ℕ) (frame : List ℕ) (role : Role) (policies : Policies) (mac : Mac) (said : Outcome) (verdict : Verdict) → role ≡ start.role → policies ≡ start.policies → mac ≡ start.mac
+    → ((o : Outcome) → Hears frame role o → said ≡ o) → IsHeard start c now frame verdict → Judges start c now frame (read_outcome policies mac said) verdict
+judged_by_frame start c now frame role policies mac said verdict same asked own only h =
+    subst (λ (o : Outcome). Judges start c now frame o verdict) (sym (one_reading start frame role policies mac said h.outcome same asked own only h.by_frame)) h.by_node
 
 -- ---- a frame says one thing
 

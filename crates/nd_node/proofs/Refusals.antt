@@ -57,7 +57,7 @@ use Rattle.nd_chronicle.specs.Forwarding.{FateAdds, ForwardAdds, Redirects, Send
 use Rattle.nd_chronicle.specs.Full.{AdvertisementFills, Fills, MessageFills, Placed}
 use Rattle.nd_chronicle.specs.Hearing.{IsMisdirected, IsStrange, IsTaken, Judges, Verdict, IsPacket, IsPacketForUs, IsPassing, IsStrangePacket}
 use Rattle.nd_node.proofs.InTransit.{SaysRoom}
-use Rattle.nd_node.proofs.Memory.{one_reading}
+use Rattle.nd_node.proofs.Memory.{judged_by_frame}
 use Rattle.nd_node.proofs.TakenOrRefused.{fills_later}
 use Rattle.nd_chronicle.proofs.Events.{one_full}
 use Rattle.nd_node.specs.RouterAdvertisement.{advertised}
@@ -192,18 +192,12 @@ module _ (at : ℕ) where
 
 -- ---- what is full
 
--- what adds a refusal unless a table is full finds one full
-pub full_of : (now : ℕ) (why : Refusal) (c : Chronicle) (full : Option Limit) (Adds : Chronicle → Type 0) → ((d : Chronicle) → Adds d → is_refusal d ≡ false)
-    → UnlessFull now full Adds c ((now, Refused why) ∷ c) → (limit : Limit) × (full ≡ Some limit)
-full_of now why c None Adds never adds = absurd (not_refused now why c _ (never _ adds) refl)
-full_of now why c (Some limit) Adds never adds = (limit, refl)
-
 module _ (start : Start) (now key : ℕ) (packet : List ℕ) where
   placed_is : (c : Chronicle) (why : Refusal) (place : Bool) → HasPlace start c now key true place → UnlessFull now (no_place place) (Goes start c now key packet) c ((now, Refused why) ∷ c) → HasPlace start c now key true false
   placed_is c why true has adds = absurd (not_refused now why c _ (goes_adds now start key packet c _ adds) refl)
   placed_is c why false has adds = has
 
-  -- a packet to a neighbour adds a refusal alone where that has no place
+  -- a packet to a neighbour adds a refusal alone where that has no room
   pub place_refused : (c : Chronicle) → AddsRefusal now c (GoesIfPlaced start now key packet) → HasPlace start ((now, Passed) ∷ c) now key true false
   place_refused c adds = placed_is ((now, Passed) ∷ c) adds.0 adds.1.0 adds.1.1 adds.1.2
 
@@ -255,7 +249,7 @@ module _ (start : Start) (now : ℕ) (destination : Addr) where
   wish_placed key c why true has adds = absurd (not_refused now why c _ (wish_adds key c _ adds) refl)
   wish_placed key c why false has adds = has
 
-  -- the wish for a neighbour adds a refusal alone where that has no place
+  -- the wish for a neighbour adds a refusal alone where that has no room
   pub wish_refused : (key : ℕ) (c : Chronicle) → AddsRefusal now c (WantsIfPlaced start now destination key) → HasPlace start ((now, Passed) ∷ c) now key true false
   wish_refused key c adds = wish_placed key ((now, Passed) ∷ c) adds.0 adds.1.0 adds.1.1 adds.1.2
 
@@ -344,7 +338,7 @@ module _ (start : Start) (now : ℕ) (source destination : Addr) (message : Part
   message_full frame _ (IsMisdirected us other') adds = absurd (not_refused now adds.0 later _ refl adds.1)
 
 module _ (start : Start) (now : ℕ) (source : Addr) (options : List Said) (c : Chronicle) (limit : Limit) where
-  -- a solicitation from an address wants place for the asker
+  -- a solicitation from an address wants room for the asker
   pub asker_full : (ns : NeighborSolicitation) → bytes_eq source.0 unspecified_address ≡ false → MessageFills start c now source (record { body = bodies.Ns ns; options = options }) (Some limit)
       → Placed start c now (makes_way start (said c source (record { body = bodies.Ns ns; options = options }))) (Some (number_of source.0, true)) false
   asker_full ns specified fills = full (bytes_eq source.0 unspecified_address) specified fills.neighbours fills.placed fills.first
@@ -390,9 +384,7 @@ pub judged_frame : (start : Start) (c : Chronicle) (now : ℕ) (frame : List ℕ
     → ((o : Outcome) → Hears frame role o → said ≡ o) → AddsRefusal now c (FrameAdds start now frame)
     → (verdict : Verdict) × Judges start ((now, Passed) ∷ c) now frame (read_outcome policies mac said) verdict × AddsRefusal now c (VerdictAdds start now frame verdict)
 judged_frame start c now frame role policies mac said same asked own only adds =
-    let h = adds.1.heard in
-    let is = one_reading start frame role policies mac said h.outcome same asked own only h.by_frame in
-    (adds.1.verdict, subst (λ (o : Outcome). Judges start ((now, Passed) ∷ c) now frame o adds.1.verdict) (sym is) h.by_node, (adds.0, adds.1.adds))
+    (adds.1.verdict, judged_by_frame start ((now, Passed) ∷ c) now frame role policies mac said adds.1.verdict same asked own only adds.1.heard, (adds.0, adds.1.adds))
 
 -- ---- a command
 

@@ -10,7 +10,7 @@ use Rattle.nd_decode.specs.declared.options.Options.{Options}
 use Rattle.nd_chronicle.specs.Start.{Start}
 use Rattle.nd_chronicle.specs.Happening.{Chronicle, Passed, last_moment}
 use Rattle.nd_chronicle.specs.Reading.{read_options}
-use Rattle.nd_chronicle.specs.Hearing.{hears, takes_target}
+use Rattle.nd_chronicle.specs.Hearing.{Verdict, drops, goes_on, goes_up, hears, takes_target}
 use Rattle.nd_chronicle.specs.Event.{VerdictAdds}
 use Rattle.nd_chronicle.specs.Answer.{Answer, answer_after}
 use Rattle.nd_out.specs.declared.out.Out.{Out}
@@ -32,6 +32,13 @@ pub record AddsMessage {R A : Type 0} (stream : R → Stream) (old new : Node R 
   pub each : (start : Start) (c : Chronicle) → Stands stream start old c → last_moment start.at c ≤ now → takes_target c source message.body ≡ true
       → (d : Chronicle) × VerdictAdds start now [] (hears source destination message) ((now, Passed) ∷ c) d × Stands stream start new d × Tells c d before after
       × (answer ≡ answer_after d false)
+
+-- What is made of a frame changes no table: it is dropped, or its packet goes to the upper layer.
+abbrev pub LeavesTables : Verdict → Type 0
+LeavesTables (drops why) = Unit {0}
+LeavesTables (goes_up packet) = Unit {0}
+LeavesTables (goes_on packet) = ⊥
+LeavesTables (hears source destination message) = ⊥
 
 -- all is as before, except rings that may be in reserve
 pub record Keeps {R A : Type 0} (old new : Node R A) : Type 0 where

@@ -11,12 +11,12 @@ ghost use Rattle.nd_table.specs.Moment.{IsMoment};
 ghost use Rattle.nd_chronicle.specs.Start.{Start};
 ghost use Rattle.nd_chronicle.specs.Happening.{Chronicle, Dropped, Passed, last_moment};
 ghost use Rattle.nd_chronicle.specs.Reading.{IsRead};
-ghost use Rattle.nd_chronicle.specs.Hearing.{Judges, Verdict, drops};
+ghost use Rattle.nd_chronicle.specs.Hearing.{IsHeard, Judges, Verdict, drops};
 ghost use Rattle.nd_chronicle.specs.Event as events;
 ghost use Rattle.nd_chronicle.specs.Event.{EventAdds, VerdictAdds};
 ghost use Rattle.nd_node.specs.EventKept.{AddsEvent};
 ghost use Rattle.nd_node.specs.Frame.{AddsAlone, Stays};
-ghost use Rattle.nd_node.specs.Hearing.{parts_read};
+ghost use Rattle.nd_node.specs.Hearing.{LeavesTables, parts_read};
 ghost use Rattle.nd_node.specs.Memory.{AddsNoName, AddsRefusal, AsksForNone};
 ghost use Rattle.nd_node.specs.Answer.{answer_of};
 
@@ -34,7 +34,7 @@ use std::alloc::{AllocError, Allocator};
 pub struct Reception {
     /// How it took the event.
     pub answer: Answer,
-    /// False if nothing of the node has changed but the moment up to which time has passed: the frame was dropped, or its packet went to the upper layer.
+    /// False if the frame was dropped, or its packet went to the upper layer: nothing of the node has changed then but the moment up to which time has passed.
     pub changes_tables: bool,
 }
 
@@ -55,6 +55,7 @@ impl<R: Rng + Drop, A: Allocator + Clone> Node<R, A> {
         requires by_frame { Hears frame.now self.old.role (other (packet_parts packet)) }
         ensures adds { IfOk result (λ reception. AddsEvent R.stream self.old self.new outs.old.items outs.new.items now (events.Receives frame.now) (answer_of reception.answer)) }
         ensures leaves { IfOk result (λ reception. reception.changes_tables ≡ false → self.new ≡ record self.old { last = now }) }
+        ensures idle { (verdict : Verdict) (start : Start) (c : Chronicle) → Stands R.stream start self.old c → last_moment start.at c ≤ now → Judges start ((now, Passed) ∷ c) now frame.now (other (packet_parts packet.entry)) verdict → LeavesTables verdict → IfOk result (λ reception. reception.changes_tables ≡ false) }
         ensures stays { OnErr result (Stays R.stream self.old self.new) }
         ensures told { OnErr result (outs.new.items ≡ outs.old.items) }
         ensures refused { (verdict : Verdict) (start : Start) (c : Chronicle) → Stands R.stream start self.old c → last_moment start.at c ≤ now → Judges start ((now, Passed) ∷ c) now frame.now (other (packet_parts packet.entry)) verdict → AddsRefusal now c (VerdictAdds start now frame.now verdict) → vec_len outs.old < vec_capacity outs.old → IsOk result }
@@ -113,6 +114,7 @@ impl<R: Rng + Drop, A: Allocator + Clone> Node<R, A> {
         requires settled { now < next_of self.old }
         ensures adds { IfOk result (λ reception. (frame : List ℕ) → IsRead self.old.policies self.old.mac frame self.old.role (valid heard.now.source heard.now.destination (parts_read self.old heard.now.message)) → AddsEvent R.stream self.old self.new outs.old.items outs.new.items now (events.Receives frame) (answer_of reception.answer)) }
         ensures leaves { IfOk result (λ reception. reception.changes_tables ≡ false → self.new ≡ record self.old { last = now }) }
+        ensures idle { (frame : List ℕ) (verdict : Verdict) (start : Start) (c : Chronicle) → Stands R.stream start self.old c → last_moment start.at c ≤ now → Judges start ((now, Passed) ∷ c) now frame (valid heard.now.source heard.now.destination (parts_read self.old heard.now.message)) verdict → LeavesTables verdict → IfOk result (λ reception. reception.changes_tables ≡ false) }
         ensures stays { OnErr result (Stays R.stream self.old self.new) }
         ensures told { OnErr result (outs.new.items ≡ outs.old.items) }
         ensures refused { (frame : List ℕ) (verdict : Verdict) (start : Start) (c : Chronicle) → Stands R.stream start self.old c → last_moment start.at c ≤ now → Judges start ((now, Passed) ∷ c) now frame (valid heard.now.source heard.now.destination (parts_read self.old heard.now.message)) verdict → AddsRefusal now c (VerdictAdds start now frame verdict) → vec_len outs.old < vec_capacity outs.old → IsOk result }
@@ -145,6 +147,7 @@ impl<R: Rng + Drop, A: Allocator + Clone> Node<R, A> {
         requires settled { now < next_of self.old }
         ensures adds { IfOk result (λ reception. AddsEvent R.stream self.old self.new outs.old.items outs.new.items now (events.Receives frame.now) (answer_of reception.answer)) }
         ensures leaves { IfOk result (λ reception. reception.changes_tables ≡ false → self.new ≡ record self.old { last = now }) }
+        ensures idle { (verdict : Verdict) (start : Start) (c : Chronicle) → Stands R.stream start self.old c → last_moment start.at c ≤ now → IsHeard start ((now, Passed) ∷ c) now frame.now verdict → LeavesTables verdict → IfOk result (λ reception. reception.changes_tables ≡ false) }
         ensures stays { OnErr result (Stays R.stream self.old self.new) }
         ensures told { OnErr result (outs.new.items ≡ outs.old.items) }
         ensures refused { (start : Start) (c : Chronicle) → Stands R.stream start self.old c → last_moment start.at c ≤ now → AddsRefusal now c (EventAdds start now (events.Receives frame.now)) → vec_len outs.old < vec_capacity outs.old → IsOk result }

@@ -79,6 +79,14 @@ module _ (heard : Result Reception AllocError) where
       by (Ok reception) same' given' = given' same'
       by (Err e) same' given' = absurd (true≢false same')
 
+  -- what is so where no table has changed, is so where the node took a frame that changes none
+  pub idle_of : (P : Type 0) (r : Result Answer AllocError) → r ≡ answer_in heard → IfOk heard (λ reception. reception.changes_tables ≡ false) → (changes_tables heard ≡ false → P) → OnOk r P
+  idle_of P r is idle given = subst (λ (x : Result Answer AllocError). OnOk x P) (sym is) (by heard idle given)
+    where
+      by : (h : Result Reception AllocError) → IfOk h (λ reception. reception.changes_tables ≡ false) → (changes_tables h ≡ false → P) → OnOk (answer_in h) P
+      by (Ok reception) idle' given' = given' idle'
+      by (Err e) idle' given' = tt
+
 -- ---- an event
 
 module _ {R A : Type 0} (stream : R → Stream) (old new : Node R A) where

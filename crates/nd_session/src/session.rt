@@ -1,16 +1,18 @@
 //! A session: its start, its events, and its queue.
 
-ghost use Rattle.std.specs.Prelude.{◌≡◌, ℕ, ◌<◌, ◌≤◌, ◌+◌, ◌↔◌, List, [], None, true, false, IfOk, IfSome, IsOk, IsSome, IsSomeAnd, IsTrue, OnOk, OnErr, drop, max, vec_capacity, option_copied, slice_get};
+ghost use Rattle.std.specs.Prelude.{◌≡◌, ℕ, ◌<◌, ◌≤◌, ◌+◌, ◌↔◌, List, [], ◌∷◌, None, true, false, IfOk, IfSome, IsOk, IsSome, IsSomeAnd, IsTrue, OnOk, OnErr, drop, max, vec_capacity, option_copied, slice_get};
 ghost use Rattle.nd_table.specs.Moment.{IsMoment};
 ghost use Rattle.nd_addr.specs.Frame.{headers_length};
 ghost use Rattle.nd_compose.specs.Frames.{longest_message};
 ghost use Rattle.nd_compose.specs.Room.{HasRoomFor};
 ghost use Rattle.nd_chronicle.specs.Event as events;
-ghost use Rattle.nd_chronicle.specs.Happening.{Chronicle, Sent};
+ghost use Rattle.nd_chronicle.specs.Happening.{Chronicle, Passed, Sent, last_moment};
+ghost use Rattle.nd_chronicle.specs.Hearing.{IsHeard, Verdict};
 ghost use Rattle.nd_chronicle.specs.History.{beginning};
 ghost use Rattle.nd_chronicle.specs.Start.{Start};
 ghost use Rattle.nd_out.specs.Out.{happening};
 ghost use Rattle.nd_node.specs.Event.{event_of};
+ghost use Rattle.nd_node.specs.Hearing.{LeavesTables};
 ghost use Rattle.nd_node.specs.Node.{starting, last_of, with_policies};
 ghost use Rattle.nd_node.specs.NodeKept.{Stands, next_of};
 ghost use Rattle.nd_node.specs.Time.{Advances, IsInHand, Leads, Onward, Passes, longest_due};
@@ -198,6 +200,9 @@ impl Session {
         ensures takes { Takes now (events.Receives frame.now) result self.old self.new }
         ensures ready { (start : Start) (c : Chronicle) → Stands stream_of_source start self.old.node c → IsReady self.old → IsReady self.new }
         ensures leases { KeepsLeases self.old self.new }
+
+        // A frame that is dropped, and one whose packet goes to the upper layer, end no lease.
+        ensures idle { (verdict : Verdict) (start : Start) (c : Chronicle) → Stands stream_of_source start self.old.node c → last_moment start.at c ≤ now → now < next_of self.old.node → IsHeard start ((now, Passed) ∷ c) now frame.now verdict → LeavesTables verdict → OnOk result (self.new.paths.leases ≡ self.old.paths.leases) }
     {
         if let Some(past) = self.past(now) {
             return Ok(past);

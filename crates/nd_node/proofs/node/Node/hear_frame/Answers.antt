@@ -13,6 +13,7 @@ use Rattle.nd_node.proofs.Judging.{dropped_by_frame}
 use Rattle.nd_node.proofs.Memory.{judged_by_frame, nameless, no_other}
 use Rattle.nd_node.proofs.Refusals.{judged_frame}
 use Rattle.nd_node.specs.declared.answer.Answer.TheVariants.{Done}
+use Rattle.nd_node.specs.declared.frame.Reception.{Reception}
 use Rattle.nd_node.proofs.Reporting.{answered}
 use Rattle.nd_node.proofs.node.Node.hear_frame.Goals as goal
 
@@ -38,7 +39,7 @@ returns-in-Other-clause-quiet g c = λ start c' s le asks.
     let packet = c.in-Other.packet in
     let only = subst (λ (r : Hearing). (o : Outcome) → Hears c.args.frame.now c.args.self.now.role o → outcome r ≡ o) c.in-Other.is c.hear.ensures.only in
     ⊎_elim
-    (λ d. c.hear_packet.ensures.quiet d.why start c' s le (judged_by_frame start ((c.args.now, Passed) ∷ c') c.args.now c.args.frame.now c.args.self.now.role c.args.self.now.policies c.args.self.now.mac (other (packet_parts packet)) d.why s.role s.policies s.mac only d.heard) (omega (arith, d.told)))
+    (λ d. c.hear_packet.ensures.quiet d.why start c' s le (judged_by_frame start ((c.args.now, Passed) ∷ c') c.args.now c.args.frame.now c.args.self.now.role c.args.self.now.policies c.args.self.now.mac (other (packet_parts packet)) (drops d.why) s.role s.policies s.mac only d.heard) (omega (arith, d.told)))
     (λ n. absurd (no_other c.args.self.now c.args.now c.args.frame.now _ (packet_parts packet) only n))
     asks
 
@@ -52,7 +53,7 @@ returns-in-Valid-clause-quiet g c = λ start c' s le asks.
     ⊎_elim
     (λ d. c.judge_message.ensures.dropped c.args.frame.now d.why start c' s le
     (subst (λ (b : Body). Judges start ((c.args.now, Passed) ∷ c') c.args.now c.args.frame.now (read b) (drops d.why)) (sym c.read_body.ensures)
-    (judged_by_frame start ((c.args.now, Passed) ∷ c') c.args.now c.args.frame.now c.args.self.now.role policies c.args.self.now.mac said d.why s.role s.policies s.mac only d.heard)) (omega (arith, d.told)))
+    (judged_by_frame start ((c.args.now, Passed) ∷ c') c.args.now c.args.frame.now c.args.self.now.role policies c.args.self.now.mac said (drops d.why) s.role s.policies s.mac only d.heard)) (omega (arith, d.told)))
     (λ n. (let such = nameless c.args.self.now c.args.now c.args.frame.now _ heard.source heard.destination (parts heard.message) only n in
     c.judge_message.ensures.quiet (read_advertisement policies such.ra) (c.read_body.ensures ∙ ap (read_body policies) such.body) such.adds))
     asks
@@ -71,3 +72,23 @@ returns-in-Valid-clause-refused g c = λ start c' s le adds place.
     let only = subst (λ (r : Hearing). (o : Outcome) → Hears c.args.frame.now c.args.self.now.role o → outcome r ≡ o) c.in-Valid.is c.hear.ensures.only in
     let j = judged_frame start c' c.args.now c.args.frame.now c.args.self.now.role c.args.self.now.policies c.args.self.now.mac said s.role s.policies s.mac only adds in
     c.judge_message.ensures.refused c.args.frame.now j.0 start c' s le (subst (λ (b : Body). Judges start ((c.args.now, Passed) ∷ c') c.args.now c.args.frame.now (read b) j.0) (sym c.read_body.ensures) j.1) j.2 place
+
+pub returns-in-Drop-clause-idle : goal.returns-in-Drop-clause-idle
+returns-in-Drop-clause-idle g c = λ verdict start c' s le heard leaves.
+    IfOk-weaker c.drop_unheard.result _ _ (λ r is. ap (λ (x : Reception). x.changes_tables) is) c.drop_unheard.ensures.answer
+
+pub returns-in-Other-clause-idle : goal.returns-in-Other-clause-idle
+returns-in-Other-clause-idle g c = λ verdict start c' s le heard leaves.
+    let only = subst (λ (r : Hearing). (o : Outcome) → Hears c.args.frame.now c.args.self.now.role o → outcome r ≡ o) c.in-Other.is c.hear.ensures.only in
+    c.hear_packet.ensures.idle verdict start c' s le
+    (judged_by_frame start ((c.args.now, Passed) ∷ c') c.args.now c.args.frame.now c.args.self.now.role c.args.self.now.policies c.args.self.now.mac (other (packet_parts c.in-Other.packet)) verdict s.role s.policies s.mac only heard) leaves
+
+pub returns-in-Valid-clause-idle : goal.returns-in-Valid-clause-idle
+returns-in-Valid-clause-idle g c = λ verdict start c' s le is_heard leaves.
+    let heard = c.in-Valid.heard in
+    let said = valid heard.source heard.destination (parts heard.message) in
+    let read = λ (b : Body). valid heard.source heard.destination (record { body = b; options = options_read c.args.self.now heard.message.options }) in
+    let only = subst (λ (r : Hearing). (o : Outcome) → Hears c.args.frame.now c.args.self.now.role o → outcome r ≡ o) c.in-Valid.is c.hear.ensures.only in
+    c.judge_message.ensures.idle c.args.frame.now verdict start c' s le
+    (subst (λ (b : Body). Judges start ((c.args.now, Passed) ∷ c') c.args.now c.args.frame.now (read b) verdict) (sym c.read_body.ensures)
+    (judged_by_frame start ((c.args.now, Passed) ∷ c') c.args.now c.args.frame.now c.args.self.now.role c.args.self.now.policies c.args.self.now.mac said verdict s.role s.policies s.mac only is_heard)) leaves

@@ -1,17 +1,18 @@
 use Rattle.std.proofs.Common.{◌≡◌, ◌∷◌, ◌+◌, ◌++◌, ℕ, List, take, length, false, refl, sym, ◌∙◌, ap}
 use Rattle.std.proofs.lemmas.Bool.{true≢false}
-use Rattle.std.proofs.lemmas.Result.{on_err_weaker}
+use Rattle.std.proofs.lemmas.Result.{IfOk-weaker, on_err_weaker}
 use Rattle.nd_addr.specs.Ip6.{PacketParts, packet_parts, ipv6_header_length, payload_length_of}
 use Rattle.nd_addr.specs.Places.{packet_in}
 use Rattle.nd_chronicle.specs.Happening.{Up, Passed}
 use Rattle.nd_chronicle.specs.Hearing.{IsPacketForUs}
 use Rattle.nd_node.proofs.Growing.{on_err_of}
 use Rattle.nd_node.proofs.Reporting.{answered}
-use Rattle.nd_node.proofs.Judging.{goes_up, in_transit_later, is_not, packet_goes_on, packet_goes_up, packet_is_strange, up_to_payload, stays_keeps, stays_same}
+use Rattle.nd_node.proofs.Judging.{goes_up, in_transit_later, is_not, packet_goes_on, packet_goes_up, packet_passes, packet_is_strange, up_to_payload, stays_keeps, stays_same}
 use Rattle.nd_node.proofs.Memory.{packet_stays, passing_stays}
 use Rattle.nd_node.proofs.Refusals.{ours_left, passing_refused}
 use Rattle.nd_chronicle.specs.Event.{packet_bytes}
 use Rattle.nd_node.specs.declared.answer.Answer.TheVariants.{Done}
+use Rattle.nd_node.specs.declared.frame.Reception.{Reception}
 use Rattle.nd_node.proofs.node.Node.hear_packet.Goals as goal
 
 pub returns-then-is_in_transit-clause-adds : goal.returns-then-is_in_transit-clause-adds
@@ -79,3 +80,14 @@ pub returns-in_err-extend_from_slice-clause-refused : goal.returns-in_err-extend
 returns-in_err-extend_from_slice-clause-refused g c = λ verdict start c' s le judged adds place.
     let ours = (c.is_packet_for_us.ensures start c' (packet_parts c.args.packet) s refl).0 c.if-not-is_packet_for_us.false in
     absurd (ours_left start c.args.now c.args.frame.now (packet_parts c.args.packet) c' verdict (record { destination_is = ours.destination_is; up = ours.up }) judged adds)
+
+pub returns-then-is_in_transit-clause-idle : goal.returns-then-is_in_transit-clause-idle
+returns-then-is_in_transit-clause-idle g c = λ verdict start c' s le judged leaves.
+    let packet : PacketParts = packet_parts c.args.packet in
+    let stranger = is_not c.is_packet_for_us.result (IsPacketForUs start c' packet) (c.is_packet_for_us.ensures start c' packet s refl) c.if-not-is_packet_for_us.true in
+    let passes = in_transit_later start c' c.args.now c.args.frame.now packet ((c.is_in_transit.ensures start c' packet s refl stranger).0 c.if-is_in_transit.true) in
+    absurd (packet_passes start ((c.args.now, Passed) ∷ c') c.args.now packet verdict passes judged leaves)
+
+pub returns-then-not-is_packet_for_us-clause-idle : goal.returns-then-not-is_packet_for_us-clause-idle
+returns-then-not-is_packet_for_us-clause-idle g c = λ verdict start c' s le judged leaves.
+    IfOk-weaker c.drop_unheard.result _ _ (λ r is. ap (λ (x : Reception). x.changes_tables) is) c.drop_unheard.ensures.answer

@@ -5,13 +5,15 @@ use Rattle.std.proofs.lemmas.Result.{IfOk-weaker}
 use Rattle.nd_chronicle.specs.Event as events
 use Rattle.nd_node.specs.Answer.{answer_of}
 use Rattle.nd_node.specs.Node.{last_of}
+use Rattle.nd_node.specs.NodeKept.{Stands}
 use Rattle.nd_node.specs.Time.{Leads, Onward, Passes}
 use Rattle.nd_random.specs.Source.{stream_of_source}
 use Rattle.nd_session.specs.Leases.{KeepsLeases}
 use Rattle.nd_session.specs.Paths.{AreRemembered}
+use Rattle.nd_session.specs.Slots.{Slots}
 use Rattle.nd_session.specs.Ready.{IsReady}
 use Rattle.nd_session.specs.declared.session.Session.{Session}
-use Rattle.nd_session.proofs.Behind.{adds_behind, answered_of, event_taken, failed_of, left_alone, on_err}
+use Rattle.nd_session.proofs.Behind.{adds_behind, answered_of, event_taken, failed_of, idle_of, left_alone, on_err}
 use Rattle.nd_session.proofs.Keeping.{event_ready}
 use Rattle.nd_session.proofs.Lasting.{keeps_where}
 use Rattle.nd_session.proofs.Remembered.{remembers_where}
@@ -59,3 +61,10 @@ pub returns-clause-leases : goal.returns-clause-leases
 returns-clause-leases c =
     keeps_where c.changes_tables.result c.args.self.now _ _ c.args.now (subst (λ (s : Session). KeepsLeases c.args.self.now s) (sym c.self.view_is) c.in_ok-settle.ensures.leases) c.forget_where.ensures.least
     c.forget_where.ensures.grows (λ same. left_alone c.hear_frame-heard.result _ (sym c.changes_tables.ensures ∙ same) c.hear_frame-heard.ensures.leaves)
+
+pub returns-clause-idle : goal.returns-clause-idle
+returns-clause-idle c = λ verdict start history s le before heard leaves.
+    let same = c.self.view_is ∙ c.in_ok-settle.ensures.idle before in
+    idle_of c.hear_frame-heard.result _ c.answer_in.result c.answer_in.ensures
+    (c.hear_frame-heard.ensures.idle verdict start history (subst (λ (x : Session). Stands stream_of_source start x.node history) (sym same) s) le heard leaves)
+    (λ idle. ap (λ (p : Slots). p.leases) (c.forget_where.ensures.kept (c.changes_tables.ensures ∙ idle)) ∙ ap (λ (x : Session). x.paths.leases) same)
