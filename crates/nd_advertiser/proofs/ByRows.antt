@@ -8,7 +8,7 @@ use Rattle.nd_advertiser.specs.Advertising.{advertised_by, answer_of, began_of, 
 use Rattle.nd_advertiser.specs.Offers.{offers_of}
 use Rattle.nd_advertiser.specs.Calls.{settings_in, wants_draw}
 use Rattle.nd_advertiser.specs.Table.{Table, Advertising, Stands}
-use Rattle.nd_advertiser.specs.Contents.{contents, contents_of, last_contents, last_contents_of}
+use Rattle.nd_advertiser.specs.Contents.{contents, contents_of}
 
 settings_kept : (b : Bool) (a : Advertising) → settings_in (if b then Some a else None) ≡ (if b then a.settings else None)
 settings_kept true a = refl
@@ -19,9 +19,6 @@ settings_are table history s = ap settings_in s.advertising ∙ settings_kept (i
 
 pub contents_are : (mac : Mac) (table : Table) (history : List Row) → Stands table history → option_map (contents mac table.offers) (settings_in table.advertising) ≡ contents_of mac history
 contents_are mac table history s = ap (λ os. option_map (contents mac os) (settings_in table.advertising)) s.offers ∙ ap (option_map (contents mac (offers_of history))) (settings_are table history s)
-
-pub last_contents_are : (mac : Mac) (table : Table) (history : List Row) → Stands table history → option_map (last_contents mac table.offers) (settings_in table.advertising) ≡ last_contents_of mac history
-last_contents_are mac table history s = ap (λ os. option_map (last_contents mac os) (settings_in table.advertising)) s.offers ∙ ap (option_map (last_contents mac (offers_of history))) (settings_are table history s)
 
 few_sent : (n : ℕ) → (min max_initial_rtr_advertisements n == 0) ≡ (n == 0)
 few_sent n = grind (arith, nat_tests)

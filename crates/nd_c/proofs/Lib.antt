@@ -2,4 +2,3 @@ pub mod Filled
 pub mod Filling
 pub mod Nth
 pub mod Products
-pub mod Unchanged

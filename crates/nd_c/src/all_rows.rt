@@ -1,6 +1,6 @@
 //! All rows of each table, for a list of the caller's. The definitions are in `specs/AllRows.antt`. None takes memory.
 
-ghost use Rattle.std.specs.Prelude.{◌≡◌, ◌++◌, ◌⊎◌, ◌≤◌, List, None, Some, drop, length, map};
+ghost use Rattle.std.specs.Prelude.{◌≡◌, ◌++◌, ◌⊎◌, List, None, Some, drop, length, map};
 ghost use Rattle.std.specs.Iterator.{IsFinite, Yields};
 ghost use Rattle.nd_c.specs.AllRows.{TellsAll};
 ghost use Rattle.nd_c.specs.Rows.{AddressAt, NameAt, NeighbourAt, OfferAt, PrefixAt, RedirectAt, RouteAt, RouterAt, ServerAt};

@@ -1,7 +1,6 @@
 //! What a node reports: the caller takes each record by a call.
 
-ghost use Rattle.std.specs.Prelude.{◌≡◌, ◌<◌, ◌≤◌, ◌++◌, ◌∷◌, [], ℕ, List, None, Some, IsSomeAnd, drop, length};
-ghost use Rattle.nd_out.specs.declared.out.Out as reports;
+ghost use Rattle.std.specs.Prelude.{◌≡◌, [], None, Some, IsSomeAnd, length};
 ghost use Rattle.nd_session.specs.declared.session.Session.{Session};
 ghost use Rattle.nd_c.specs.Poll.{Polls};
 ghost use Rattle.nd_c.specs.Status.{closed};

@@ -1,5 +1,5 @@
 //! The row at an index of each table, by what happened at the node. The definitions are in `specs/Rows.antt`. None takes memory.
-ghost use Rattle.std.specs.Prelude.{◌≡◌, ◌<◌};
+ghost use Rattle.std.specs.Prelude.{◌<◌};
 ghost use Rattle.nd_node.specs.NodeKept.{next_of};
 ghost use Rattle.nd_c.specs.Rows.{AddressAt, AdvertisingOf, CountsOf, HopTo, NameAt, NeighbourAt, NeighbourOf, OfferAt, ParametersOf, PrefixAt, RedirectAt, RouteAt, RouterAt, ServerAt};
 

@@ -1,5 +1,5 @@
 -- What happens leaves the histories of the tables that it isn't said to change.
-use Rattle.std.proofs.Common.{◌≡◌, ℕ, Bool, true, false, List, ◌∷◌, refl, sym}
+use Rattle.std.proofs.Common.{◌≡◌, ℕ, true, false, List, ◌∷◌, refl}
 use Rattle.std.proofs.lemmas.Bool.{true≢false}
 use Rattle.nd_addr.specs.declared.addr.Addr.{Addr}
 use Rattle.nd_addr.specs.Prefix.{PrefixValue}
@@ -20,7 +20,7 @@ never is = absurd (true≢false is)
 
 -- ---- the messages that add nothing
 
--- what is told by Router Advertisements alone
+-- what is reported by Router Advertisements alone
 leaves_by : {A : Type 0} (then' : Body → A) (same : A) (body : Body) → is_advertisement body ≡ false
     → then' bodies.Rs ≡ same → ((ns : _) → then' (bodies.Ns ns) ≡ same) → ((na : _) → then' (bodies.Na na) ≡ same) → ((r : _) → then' (bodies.Redirect r) ≡ same) → then' body ≡ same
 leaves_by then' same bodies.Rs is rs ns na r = rs

@@ -4,7 +4,7 @@ ghost use Rattle.std.specs.Prelude.{◌≡◌, ◌≤◌, IfOk, length};
 ghost use Rattle.byteorder.specs.Endian.{big_bytes};
 ghost use Rattle.nd_addr.specs.Checksum.{with_sum};
 ghost use Rattle.nd_addr.specs.Room.{HasRoom, Puts};
-ghost use Rattle.nd_c_types.specs.Message.{bytes_in, frame_of, header_of, is_message, no_mac};
+ghost use Rattle.nd_c_types.specs.Message.{bytes_in, frame_of, header_of, is_message};
 
 use nd_addr::{
     Addr, HEADERS_LENGTH, Ip6, Mac, NEXT_HEADER_ICMPV6, SUM_AT, put_bytes, put_headers, sum_for,

@@ -1,4 +1,4 @@
--- One thing falls due first, and a walk leads to one chronicle.
+-- One thing is due first, and a walk leads to one chronicle.
 use Rattle.std.proofs.Common.{◌≡◌, ℕ, List, Option, Some, None, refl, sym, ◌∙◌, ap, subst, arith}
 use Rattle.nd_neighbour.specs.Due as neighbours_due
 use Rattle.nd_neighbour.proofs.Unique as neighbours

@@ -114,7 +114,7 @@ module _ (start : Start) (c : Chronicle) (now : ℕ) where
   one_full source message (bodies.Redirect r) a b h k = h.first ∙ ap no_place (one_placed (makes_way start (said c source message)) (needs c source message message.body) h.neighbours k.neighbours h.placed k.placed) ∙ sym k.first
 
   module _ (source destination : Addr) (message : Parts) where
-    -- the message behind the place for a neighbour, and behind it the failure of one that gave way
+    -- the message behind the room for a neighbour, and behind it the failure of one that gave way
     abbrev heard_behind : Option ℕ → Chronicle → Chronicle
     heard_behind gone placed = failing_for now gone (neighbour_history c) ((now, Heard source destination message) ∷ placed)
 
@@ -141,7 +141,7 @@ module _ (start : Start) (c : Chronicle) (now : ℕ) where
         one_reply (asked.sent_alone_to start now (number_of source.0) b) (number_of source.0) (answer_frame (is_router start.role) start.mac target source) b d e
         (one_room_for (λ gone placed. answering target d gone placed) (said c source message) h.gone k.gone h.placed k.placed h.room k.room h.answer) k.answer
 
-    -- behind the place for a neighbour a function says the rest
+    -- behind the room for a neighbour a function says the rest
     one_behind : (then' : Chronicle → Chronicle) (d e : Chronicle)
         → ((placed : Chronicle) × PlaceFor start c now (said c source message) placed × (d ≡ then' placed))
         → ((placed : Chronicle) × PlaceFor start c now (said c source message) placed × (e ≡ then' placed)) → d ≡ e

@@ -1,4 +1,4 @@
--- An own address other than the link-local one is known only where that one is assigned, and it stays so.
+-- One of the node's addresses other than the link-local one is known only where that one is assigned, and it stays so.
 use Rattle.std.proofs.Common.{◌≡◌, ℕ, Bool, true, false, cond, eqb, List, [], ◌∷◌, Some, None, refl, sym, ◌∙◌, ap, subst, inl, inr}
 use Rattle.std.specs.Prelude.{◌≢◌, ◌==◌, ◌&&◌, ◌||◌, not, nat_lt, MatchBool}
 use Rattle.std.specs.List.{AllByRecursion}
@@ -29,12 +29,12 @@ use Rattle.nd_chronicle.proofs.Growth.{runs_grows}
 use Rattle.nd_chronicle.proofs.Pasts.{history_past}
 use Rattle.nd_chronicle.proofs.OwnRows.{Brings, Nothing, Conflicts, Announces, SetsKnown, FormsSet, EndsKnown, BringsDue, NoRow, ItsRow, delay_same, event_brings, comes_brings}
 
--- The own address never ends, and any other is known only where it is assigned.
+-- The node's address never ends, and any other is known only where it is assigned.
 record Grounded (own : ℕ) (history : List Row) : Type 0 where
   lasts : valid_end (story own history) ≡ None
   first : (key : ℕ) → key ≢ own → is_known (story key history) ≡ true → is_assigned (story own history) ≡ true
 
--- The same with one more row, and where the own address was assigned, it still is.
+-- The same with one more row, and where the node's address was assigned, it still is.
 record Rests (own : ℕ) (row : Row) (history : List Row) : Type 0 where
   grounded : Grounded own (row ∷ history)
   stays : is_assigned (story own history) ≡ true → is_assigned (story own (row ∷ history)) ≡ true
@@ -57,7 +57,7 @@ module _ (own : ℕ) where
 -- ---- one more row
 
 module _ (own at key : ℕ) (kind : RowKind) (history : List Row) (g : Grounded own history) where
-  -- of another address that is known already, or where the own one is assigned
+  -- of another address that is known already, or where the node's is assigned
   beside : eqb key own ≡ false → (is_known (story key ((at, key, kind) ∷ history)) ≡ true → is_assigned (story own history) ≡ true) → Rests own (at, key, kind) history
   beside differ rests =
       let same : story own ((at, key, kind) ∷ history) ≡ story own history = other_story own key at kind history differ in
@@ -72,7 +72,7 @@ module _ (own at key : ℕ) (kind : RowKind) (history : List Row) (g : Grounded 
         stays = λ up. ap is_assigned same ∙ up;
       }
 
-  -- of the own address, which stays assigned and never ends
+  -- of the node's address, which stays assigned and never ends
   itself : key ≡ own → is_end kind ≡ false → ((s : Story) → valid_end ((at, kind) ∷ s) ≡ valid_end s)
       → (is_assigned (story own history) ≡ true → is_assigned ((at, kind) ∷ story own history) ≡ true) → Rests own (at, key, kind) history
   itself is goes lasting on =
@@ -95,7 +95,7 @@ module _ (own at key : ℕ) (kind : RowKind) (history : List Row) (g : Grounded 
       not_both : (s : Story) → is_tentative s ≡ true → is_assigned s ≡ true → ⊥
       not_both s t a = let p = tentative_parts s t in true≢false (sym a ∙ rw (p.0, p.1, p.2) refl)
 
--- what falls due
+-- what is due
 at_turn : (transmits own m : ℕ) (falls : Falls) (history : List Row) → FirstDue transmits history m (Some falls) → Grounded own history → Rests own (due_row m falls) history
 at_turn transmits own m (Ends key) history first g = elim (cases_Bool (eqb key own)) [
   | inl e ↦ absurd (let due = subst (λ (k : ℕ). valid_end (story k history) ≡ Some m) (eqb-true key own e) first.due.1 in let no : ⊥ = let l = g.lasts in cc in no)
@@ -106,7 +106,7 @@ at_turn transmits own m (Assigns key) history first g = of_tentative own m key A
 
 -- ---- a node
 
--- an own address is known
+-- one of the node's addresses is known
 pub own_known : (s : Story) → (is_tentative s || is_assigned s) ≡ true → is_known s ≡ true
 own_known s h = by_parts (is_known s) (not (has_conflict s)) (was_assigned s) h
   where
@@ -150,7 +150,7 @@ module _ (start : Start) where
     up_options [] c f s = s
     up_options (info ∷ infos) c f s = up_options infos (then_option start now to_all info c) f.1 (up_option (is_taken info) info c refl f.0 s)
 
-  -- ---- whatever happens
+  -- ---- in all cases
 
   stands_due : {c d : Chronicle} {m : ℕ} → BringsDue start.transmits m c d → Stands (address_history c) → Stands (address_history d)
   stands_due (NoRow same) s = subst Stands (sym same) s

@@ -1,4 +1,4 @@
--- Whatever happens, a chronicle grows, and its text with it.
+-- A chronicle only grows, and its text with it.
 use Rattle.std.proofs.Common.{◌≡◌, ℕ, Bool, true, false, List, [], ◌∷◌, ◌++◌, Option, Some, refl, sym, ◌∙◌, ap, subst}
 use Rattle.std.proofs.lemmas.List.{append-nil, append_assoc}
 use Rattle.std.specs.Prelude.{MatchBool, nat_lt}
@@ -25,7 +25,7 @@ use Rattle.nd_chronicle.specs.History.{Walk, over, adds, passes, Runs}
 use Rattle.nd_chronicle.specs.Told.{text, lines_of}
 use Rattle.nd_chronicle.proofs.Keeping.{is_plain, neighbour_keeps, releasing_keeps, leaving_keeps, advertising_keeps, event_keeps}
 
--- it is no solicitation for an own address
+-- it is no solicitation for one of the node's addresses
 abbrev pub solicits : Happening → Bool
 solicits (Address key addresses.Solicited) = true
 solicits _ = false
@@ -68,7 +68,7 @@ grows g = record { newer = g.newer; all = g.all }
 pub grows_further : {c d e : Chronicle} → Grows c d → Grows d e → Grows c e
 grows_further {c = c} g h = record { newer = h.newer ++ g.newer; all = h.all ∙ ap (λ (x : Chronicle). h.newer ++ x) g.all ∙ sym (append_assoc h.newer g.newer c) }
 
--- a plain row is no solicitation for an own address
+-- a plain row is no solicitation for one of the node's addresses
 plain_solicits_none : (what : Happening) → is_plain what ≡ true → solicits what ≡ false
 plain_solicits_none (Address key kind) is = absurd (let never : ⊥ = cc in never)
 plain_solicits_none what is = refl
@@ -90,7 +90,7 @@ module _ (at : ℕ) {c : Chronicle} where
     pub advertising_grows : (settings : Option Settings) (d : Chronicle) → GrowsAt at c d → GrowsAt at c (advertising_by start at settings d)
     advertising_grows settings d g = advertising_keeps start at (GrowsAt at c) plain_grows settings d g
 
--- what falls due adds rows of its moment
+-- what is due adds rows of its moment
 pub comes_grows : (at : ℕ) (start : Start) (what : What) (c : Chronicle) → Grows c (comes start at what c)
 comes_grows at start (RouterEnds key) c = grows (grows_by {at = at} _ refl (stays at c))
 comes_grows at start (AddressFalls (addresses_due.Ends key)) c = grows (grows_by {at = at} _ refl (stays at c))
@@ -128,7 +128,7 @@ module _ (start : Start) where
   runs_grows (event ∷ history) c d h =
       grows_further (follows_grows (nat_lt event.0 (last_moment start.at c)) c event.0 _ event.1 h.0 (last_moment start.at c) h.1) (runs_grows history h.0 d h.2)
 
--- what is told of more is told behind
+-- what is reported of more is reported behind
 pub text_grows : (newer c : Chronicle) → text (newer ++ c) ≡ text c ++ text newer
 text_grows [] c = sym (append-nil (text c))
 text_grows (row ∷ newer) c = ap (λ (told : List ℕ). told ++ lines_of row) (text_grows newer c) ∙ append_assoc (text c) (text newer) (lines_of row)

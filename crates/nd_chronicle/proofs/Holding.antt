@@ -1,4 +1,4 @@
--- How an own address came to be held, in rows of the chronicle, at each of its places.
+-- How one of the node's addresses came to be held, in rows of the chronicle, at each of its places.
 use Rattle.std.proofs.Common.{◌≡◌, inl, inr, ℕ, ◌+◌, ◌*◌, ◌<◌, ◌≤◌, Bool, true, false, List, [], ◌∷◌, refl, sym, ◌∙◌, ap, subst, arith, ⊎_elim}
 use Rattle.std.proofs.lemmas.Bool.{true≢false}
 use Rattle.std.specs.Prelude.{◌&&◌, not}

@@ -62,7 +62,7 @@ use Rattle.nd_chronicle.specs.Event as events
 use Rattle.nd_chronicle.specs.Event.{Event, Clearable, packet_bytes, HeardAdds, InPart, MessageAdds, PartAdds, VerdictAdds, PacketAdds, SendAdds, refusal_of_packet, ClearAdds, clearing, all_leaving, EventAdds}
 use Rattle.nd_chronicle.specs.Due.{then_neighbour}
 
--- it is no row of an own address, no message that was heard, no refusal and no settings of a router
+-- it is no row of one of the node's addresses, no message that was heard, no refusal and no settings of a router
 abbrev pub is_plain : Happening → Bool
 is_plain (Heard source destination message) = false
 is_plain (Address key kind) = false
@@ -232,7 +232,7 @@ module _ (start : Start) (at : ℕ) (Kept : Chronicle → Type 0) (plain : (what
     -- ---- a message is heard
 
     module _ (source destination : Addr) (message : Parts) where
-      -- from ::, for an own address
+      -- from ::, for one of the node's addresses
       tries : (target : Addr) → message.body ≡ bodies.Ns (record { target = target }) → (c : Chronicle) (assigned : Bool) → is_assigned c target.0 ≡ assigned → Kept c
           → (frame : List ℕ) → Kept (cond assigned ((at, Sent frame) ∷ (at, Heard source destination message) ∷ c) ((at, Address (number_of target.0) addresses.Conflict) ∷ (at, Heard source destination message) ∷ c))
       tries target body c true is k frame = plain _ _ refl (listens source destination message c rivalless k)
@@ -320,7 +320,7 @@ module _ (start : Start) (at : ℕ) (Kept : Chronicle → Type 0) (plain : (what
       answered_keeps None packet c k = k
       answered_keeps (Some mac) packet c k = plain _ c refl k
 
-      -- there is place for an asker that has no address
+      -- there is room for an asker that has no address
       named_by_place : (way unnamed : Bool) (key : ℕ) → Placed start c at way (if unnamed then None else Some (key, true)) false → unnamed ≡ false
       named_by_place way true key placed = absurd (let no : ⊥ = cc in no)
       named_by_place way false key placed = refl

@@ -1,4 +1,4 @@
--- The number of an own address is that of an address, and of no multicast address.
+-- The number of one of the node's addresses is that of an address, and of no multicast address.
 use Rattle.std.proofs.Common.{◌≡◌, ℕ, ◌/◌, ◌^◌, Bool, true, false, cond, eqb, List, [], ◌∷◌, ◌++◌, length, take, slice_index, refl, sym, ◌∙◌, ap, subst, arith, inl, inr}
 use Rattle.std.specs.Prelude.{◌==◌, ◌&&◌, not, nat_lt, nat_eq, MatchBool, bit_xor}
 use Rattle.std.specs.List.{AllByRecursion}
@@ -157,7 +157,7 @@ known_usable key ((at, k, kind) ∷ history) all known = elim (cases_Bool (eqb k
   | inr e ↦ known_usable key history all.1 (sym (ap is_known (other_story key k at kind history e)) ∙ known)
 ]
 
--- ---- whatever happens
+-- ---- in all cases
 
 module _ (start : Start) (mac : AreBytes 6 start.mac.0) where
   module _ (now : ℕ) (to_all : Bool) where

@@ -1,4 +1,4 @@
--- What happens to the own addresses: what comes, and what falls due, brings them few rows, and most of it none.
+-- What happens to the own addresses: what comes, and what is due, brings them few rows, and most of it none.
 use Rattle.std.proofs.Common.{◌≡◌, ℕ, Bool, true, false, cond, List, [], ◌∷◌, Option, Some, None, refl, sym, ◌∙◌, ap, subst}
 use Rattle.std.specs.Prelude.{MatchBool, MatchOption, map, bytes_eq, ◌||◌, ◌&&◌, ◌==◌, ◌≢◌, not}
 use Rattle.std.specs.List.{AllByRecursion}
@@ -328,7 +328,7 @@ module _ (start : Start) (now : ℕ) (event : Event) (c : Chronicle) where
   ignoring_same [] c = refl
   ignoring_same (limit ∷ limits) c = ignoring_same limits ((now, Ignored limit) ∷ c)
 
-  -- what adds no row of an own address
+  -- what adds no row of one of the node's addresses
   brings_further : {d e : Chronicle} → Same d e → Brings start now event c d → Brings start now event c e
   brings_further same (Nothing is) = Nothing (same ∙ is)
   brings_further same (Conflicts key tentative is) = Conflicts key tentative (same ∙ is)
@@ -508,9 +508,9 @@ event_brings start now (events.Sets own) c d h =
 event_brings start now (events.Withdraws address) c d h =
     brings_withdrawn start now (events.Withdraws address) c (number_of address.0) (number_of address.0 == link_local_key start) (states.is_known (story_of c (number_of address.0))) refl refl d h
 
--- ---- what falls due
+-- ---- what is due
 
--- What falls due brings the own addresses no row, or it is of one of them and brings its own.
+-- What is due brings the own addresses no row, or it is of one of them and brings its own.
 pub data BringsDue (transmits m : ℕ) (c d : Chronicle) : Type 0 where
   NoRow : Same c d → BringsDue transmits m c d
   ItsRow : (falls : Falls) → addresses_due.FirstDue transmits (address_history c) m (Some falls) → address_history d ≡ due_row m falls ∷ address_history c → BringsDue transmits m c d

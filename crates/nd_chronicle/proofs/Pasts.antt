@@ -1,4 +1,4 @@
--- Where the rows of own addresses stand in a chronicle, and what stands above a solicitation for one.
+-- Where the rows of own addresses are in a chronicle, and what stands above a solicitation for one.
 use Rattle.std.proofs.Common.{◌≡◌, ℕ, Bool, true, false, List, [], ◌∷◌, ◌++◌, refl, sym, ◌∙◌, ap, subst, inl, inr}
 use Rattle.std.specs.Prelude.{MatchBool, nat_lt}
 use Rattle.nd_addr.specs.Number.{addr_at}
@@ -64,7 +64,7 @@ history_past d ((at, Address k kd) ∷ c) (inr p) = inr (history_past d c p)
 history_past d ((at, what) ∷ c) (inl e) = subst (λ (h : List addresses.Row). Past h (address_history c)) (sym (ap address_history e)) (past_self (address_history c))
 history_past d ((at, what) ∷ c) (inr p) = history_past d c p
 
--- ---- each solicitation for an own address is sent
+-- ---- each solicitation for one of the node's addresses is sent
 
 pub record Paired (start : Start) (c : Chronicle) : Type 0 where
   pub each : (m key : ℕ) (below : Chronicle) → Past ((m, Address key addresses.Solicited) ∷ below) c → Past (solicited_with start m key below) c

@@ -1,4 +1,4 @@
--- One neighbour makes place, and a packet goes one way, as does what a caller is told.
+-- One neighbour gives way, and a packet goes one way, as does what is reported to a caller.
 use Rattle.std.proofs.Common.{◌≡◌, ℕ, Bool, true, false, List, [], ◌∷◌, length, Option, Some, None, refl, sym, ◌∙◌, ap, arith}
 use Rattle.std.specs.Prelude.{MatchBool, ◌&&◌, not}
 use Rattle.nd_addr.specs.declared.addr.Addr.{Addr}

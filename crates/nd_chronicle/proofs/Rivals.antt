@@ -1,4 +1,4 @@
--- What it brings to hear that another node tries an own address, or has it.
+-- What it brings to hear that another node tries one of the node's addresses, or has it.
 use Rattle.std.proofs.Common.{◌≡◌, ℕ, Bool, true, false, List, ◌∷◌, None, refl, sym, ap, subst, inl, inr}
 use Rattle.std.specs.Prelude.{◌||◌, ◌&&◌}
 use Rattle.nd_addr.specs.declared.addr.Addr.{Addr}
@@ -33,7 +33,7 @@ module _ (start : Start) (c : Chronicle) (now : ℕ) (frame : List ℕ) (address
   abbrev as_read : Parts → Parts
   as_read message = read_message start.policies start.mac message
 
-  -- a solicitation from :: for an own address
+  -- a solicitation from :: for one of the node's addresses
   tried_by : (message : Parts) → message.body ≡ bodies.Ns (record { target = address }) → is_own c address.0 ≡ true → is_awake start c unspecified (bodies.Ns (record { target = address })) ≡ true
       → is_foreign start (is_assigned c) unspecified ≡ true → Hears frame start.role (valid unspecified (solicited_node address) message)
       → FrameAdds start now frame c (then_tried start now address ((now, Heard unspecified (solicited_node address) (as_read message)) ∷ c))

@@ -1,4 +1,4 @@
--- No address is assigned untried: each row of the own addresses comes where it may come, whatever happens.
+-- No address is assigned untried: each row of the own addresses comes where it may come, in all cases.
 use Rattle.std.proofs.Common.{◌≡◌, ℕ, suc, ◌<◌, ◌≤◌, Bool, true, false, cond, List, [], ◌∷◌, ◌++◌, Some, None, refl, sym, ◌∙◌, ap, subst, arith, ⊎_elim}
 use Rattle.std.proofs.lemmas.Bool.{cases_lt}
 use Rattle.std.proofs.lemmas.Bool.Decides.{nat_tests}
@@ -58,7 +58,7 @@ module _ (transmits : ℕ) where
   fine_before : {c : Chronicle} {m n : ℕ} → n ≤ m → Fine c m → Fine c n
   fine_before le f = record { history = f.history; none = record { none = λ moment falls due. let h = f.none.none moment falls due in omega (arith, h, le) } }
 
-  -- what falls due came at its turn
+  -- what is due came at its turn
   fine_turn : (c : Chronicle) (m : ℕ) (falls : Falls) → addresses_due.FirstDue transmits (address_history c) m (Some falls) → Fine c m → MayCome transmits (due_row m falls) (address_history c)
   fine_turn c m (Ends key) first f = first.due.0
   fine_turn c m (Solicits key) first f = record { first = first; none_before = f.none.none }

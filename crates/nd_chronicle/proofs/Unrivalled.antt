@@ -1,4 +1,4 @@
--- Each own address is formed with the RetransTimer in force, and a message that has a conflict with a tentative one makes it a duplicate at once.
+-- Each of the node's addresses is formed with the RetransTimer in force, and a message that has a conflict with a tentative one makes it a duplicate at once.
 use Rattle.std.proofs.Common.{◌≡◌, inl, inr, ℕ, Bool, true, false, List, [], ◌∷◌, Option, Some, None, refl, sym, ◌∙◌, ap, subst}
 use Rattle.std.specs.Prelude.{MatchBool, nat_lt}
 use Rattle.nd_addr.specs.declared.addr.Addr.{Addr}
@@ -21,7 +21,7 @@ use Rattle.nd_chronicle.specs.Event.{Event, EventAdds}
 use Rattle.nd_chronicle.specs.History.{Walk, over, adds, passes, Runs, beginning, first_delay, with_reachable_time}
 use Rattle.nd_chronicle.proofs.Keeping.{is_plain, Rivalless, Targets, neighbour_keeps, advertising_keeps, event_keeps}
 
--- an own address is formed with the RetransTimer in force
+-- one of the node's addresses is formed with the RetransTimer in force
 abbrev InForce : Happening → Chronicle → Type 0
 InForce (Address key (addresses.Formed delay retrans lifetimes)) c = retrans ≡ retrans_timer c
 InForce _ c = Unit {0}

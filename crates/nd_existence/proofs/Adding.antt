@@ -70,7 +70,7 @@ use Rattle.nd_chronicle.specs.Advertising.{planning, wants_answer, ceasing, full
 use Rattle.nd_chronicle.specs.Forwarding.{key_of as hop_key, better_hop_frame, frame_as_it_came, frame_sent_on, SendsOn, redirect_to, FateAdds}
 use Rattle.nd_chronicle.specs.Hearing.{Verdict, hears, goes_up, goes_on, drops}
 use Rattle.nd_chronicle.specs.Shown as tables
-use Rattle.nd_chronicle.specs.Shown.{Table, AreRows, neighbour_row, router_row, prefix_row, address_row, server_row, search_row, redirect_row, parameter_row, advertise_rows, route_rows}
+use Rattle.nd_chronicle.specs.Shown.{Table, AreRows, neighbour_row, router_row, prefix_row, address_row, server_row, search_row}
 use Rattle.nd_chronicle.specs.Event as events
 use Rattle.nd_chronicle.specs.Event.{Event, Clearable, packet_bytes, HeardAdds, InPart, MessageAdds, PartAdds, VerdictAdds, FrameAdds, packet_frame, PacketAdds, refusal_of_packet, SendAdds, forgetting, clearing, all_leaving, ClearAdds, EventAdds}
 use Rattle.nd_chronicle.specs.Parts.{Filling, Taken, TakenOfAdvertisement, TakenOfMessage, IsTakenInPart, as_placed, ignoring, options_taken, passed_over}
@@ -86,7 +86,7 @@ given_not_full : (limit now key at mac : ℕ) (mark : Option Bool) (h : List Row
 given_not_full limit now key at mac mark h full =
     true≢false (sym (ap is_present (cond-true (eqb key key) ((at, neighbours.Given mac mark) ∷ story key h) (story key h) (eq-eqb key key refl))) ∙ full.absent)
 
--- packets that are released are no rows of the neighbours, nor is what a caller is told
+-- packets that are released are no rows of the neighbours, nor is what is reported to a caller
 sending_rows : (at mac : ℕ) (packets : List (List ℕ)) (c : Chronicle) → neighbour_history (sending at mac packets c) ≡ neighbour_history c
 sending_rows at mac [] c = refl
 sending_rows at mac (packet ∷ packets) c = sending_rows at mac packets _
@@ -164,7 +164,7 @@ module _ (start : Start) (plain : start.policies.speakers ≡ false) (c : Chroni
   message options body = record { body = body; options = options }
 
   module _ (source destination : Addr) (options : List Said) where
-    -- behind the place for a neighbour
+    -- behind the room for a neighbour
     behind : (body : Body) (then' : Chronicle → Chronicle) → Placed start c now false (entering (said c source (message options body))) true
         → (d : Chronicle) × ((made : Chronicle) × PlaceFor start c now (said c source (message options body)) made × (d ≡ then' made))
     behind body then' p = let f = place_for (said c source (message options body)) p in (then' f.0, (f.0, f.1, refl))
@@ -378,7 +378,7 @@ module _ (start : Start) (plain : start.policies.speakers ≡ false) (c : Chroni
     heard_adds body None f = f refl
     heard_adds body (Some limit) f = unless_whole body limit start.policies.parts
 
-    -- where there is place for its neighbour
+    -- where there is room for its neighbour
     placed_if_none : (place : Bool) (rest : Option Limit) (need : Option (ℕ × Bool)) → Placed start c now false need place → cond place rest (Some Neighbours) ≡ None → Placed start c now false need true
     placed_if_none true rest need p none = p
     placed_if_none false rest need p none = absurd (let never : ⊥ = cc in never)

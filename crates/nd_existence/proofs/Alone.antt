@@ -1,4 +1,4 @@
--- A router that hears of no other node, and is told nothing: what comes of the link-local address that it tries.
+-- A router that hears of no other node, and is given no command: what comes of the link-local address that it tries.
 use Rattle.std.proofs.Common.{◌≡◌, ℕ, suc, ◌+◌, ◌<◌, ◌≤◌, Bool, true, false, List, [], ◌∷◌, Option, Some, None, refl, sym, ◌∙◌, ap, subst, arith, ⊎_elim, inl, inr, eqb}
 use Rattle.std.specs.Prelude.{◌&&◌, not, is_some, if◌then◌else◌}
 use Rattle.std.proofs.lemmas.Bool.{true≢false, cases_lt, cases_Bool, eqb-true}
@@ -127,18 +127,6 @@ module _ (start : Start) where
     ahead = λ trying. absurd (let s = story_of c own in not_both (is_known s) (has_conflict s) (was_assigned s) holds trying);
   }
 
-  pub alone_before : (c : Chronicle) (m n : ℕ) → n ≤ m → Alone c m → Alone c n
-  alone_before c m n le x = record {
-    neighbours = x.neighbours;
-    off = x.off;
-    only = x.only;
-    formed = x.formed;
-    unrivalled = x.unrivalled;
-    lasting = x.lasting;
-    few = x.few;
-    ahead = λ trying. let h = x.ahead trying in omega (arith, h, le);
-  }
-
   step_later : (n : ℕ) → step_at forming n ≤ step_at forming (n + 1)
   step_later n = omega arith
 
@@ -184,7 +172,7 @@ module _ (start : Start) where
       off_still true = x.off
       off_still false = x.off
 
-  -- ---- what falls due
+  -- ---- what is due
 
   -- a row that is plain and no row of an address; the assignment, behind all solicitations; or a solicitation, not before that moment
   pub data Comes (at m : ℕ) (c d : Chronicle) : Type 0 where

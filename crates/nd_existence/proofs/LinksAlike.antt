@@ -1,4 +1,4 @@
--- A walk over routers of one link-layer address that are told nothing: what they send, and when.
+-- A walk over routers of one link-layer address that are given no commands: what they send, and when.
 use Rattle.std.proofs.Common.{◌≡◌, ◌≢◌, ◌⊎◌, inl, inr, ℕ, suc, ◌+◌, ◌*◌, ◌^◌, ◌<◌, ◌≤◌, Bool, true, false, [], ◌∷◌, ◌++◌, length, Some, refl, sym, ◌∙◌, ap, subst, arith, ⊎_elim}
 use Rattle.std.specs.Prelude.{◌==◌, ◌%◌, is_some}
 use Rattle.byteorder.specs.Endian.{big_bytes}
@@ -134,7 +134,7 @@ module _ (mac : Mac) (bytes : AreBytes 6 mac.0) (late : ℕ) (origin : Log) (ask
     pub same : (i : ℕ) → start_of i log ≡ start_of i origin
     pub asked : Asked asking asker least end log
 
-  -- what falls due at a node
+  -- what is due at a node
   module _ (log : Log) (node : ℕ) (start : Start) (what : What) (rows : Chronicle) (moment end m : ℕ) (within : moment ≤ end) (is : start_of node log ≡ Some start)
       (due : Due start (chronicle_of node log) moment (Some what)) (gives : comes start moment what (chronicle_of node log) ≡ rows ++ chronicle_of node log) (low : least ≤ m) (g : Walked end log m) where
     abbrev c : Chronicle

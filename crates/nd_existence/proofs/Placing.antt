@@ -1,4 +1,4 @@
--- Each neighbour has place or hasn't, and a packet to one that has place goes, as one that has place is wanted.
+-- Each neighbour has room or hasn't, and a packet to one that has room goes, as one that has room is wanted.
 use Rattle.std.proofs.Common.{◌≡◌, ℕ, Bool, true, false, ltb, List, ◌∷◌, length, Option, Some, None, refl, sym, ◌∙◌, ap, subst, arith, ◌⊎◌, inl, inr}
 use Rattle.std.specs.Prelude.{MatchBool, ◌&&◌, ◌||◌, not, is_some}
 use Rattle.std.specs.Option.{option_to_list}
@@ -7,7 +7,7 @@ use Rattle.nd_packet.specs.Waiting.{replaced}
 use Rattle.std.proofs.lemmas.Bool.Decides.{nat_tests}
 use Rattle.std.proofs.lemmas.Bool.{cond-false, true≢false, cases_Bool}
 use Rattle.nd_neighbour.specs.History as neighbours
-use Rattle.nd_neighbour.specs.History.{Row, Story, story}
+use Rattle.nd_neighbour.specs.History.{Row, story}
 use Rattle.nd_neighbour.specs.Place.{MakesPlace, HadPlace, Pushed, Prepares, pushing, WouldBeFull}
 use Rattle.nd_neighbour.specs.PlaceKept.{stalest, has_place}
 use Rattle.nd_neighbour.specs.Room.{HasRoom}
@@ -27,7 +27,7 @@ use Rattle.nd_chronicle.specs.Happening.{Chronicle, Limit, Neighbours, Refused, 
 use Rattle.nd_chronicle.specs.Histories.{neighbour_history}
 use Rattle.nd_chronicle.specs.InForce.{retrans_timer}
 use Rattle.nd_chronicle.specs.Packet as packets
-use Rattle.nd_chronicle.specs.Packet.{HasPlace, HavePlace, Goes, GoesIfPlaced, no_place, with_pushed, then_packet}
+use Rattle.nd_chronicle.specs.Packet.{HasPlace, HavePlace, Goes, GoesIfPlaced, with_pushed, then_packet}
 use Rattle.nd_chronicle.specs.Refused.{UnlessFull}
 use Rattle.nd_chronicle.specs.Resolve.{Wants, WantsIfPlaced, then_wanted, wanting_of}
 use Rattle.nd_existence.proofs.Tables.{nodes_of, nodes_stand}
@@ -35,7 +35,7 @@ use Rattle.nd_existence.proofs.Deciding.{option_cases}
 use Rattle.nd_existence.proofs.Walking.{losing_keeps}
 
 module _ (limit now key : ℕ) (h : List Row) where
-  -- a new neighbour has no place, or has one
+  -- a new neighbour has no room, or has one
   pub full_or_not : WouldBeFull limit now key h ⊎ (WouldBeFull limit now key h → ⊥)
   full_or_not =
       let ns = nodes_of h in
@@ -48,7 +48,7 @@ module _ (limit now key : ℕ) (h : List Row) where
         ]
       ]
 
-  -- who makes place, where there is place
+  -- who makes room, where there is room
   place_of_absent : is_present (story key h) ≡ false → (WouldBeFull limit now key h → ⊥) → (pushed : Option ℕ) × MakesPlace limit now h (pushing now pushed h)
   place_of_absent absent never =
       let ns = nodes_of h in
@@ -92,7 +92,7 @@ module _ (start : Start) (c : Chronicle) (now key : ℕ) where
   placed_or_not (inl full) = (false, (refl, full))
   placed_or_not (inr not_full) = (true, λ e. not_full)
 
-  -- there is place for it or isn't
+  -- there is room for it or isn't
   pub place_told : (enters : Bool) → (place : Bool) × HasPlace start c now key enters place
   place_told true = placed_or_not (full_or_not start.limits.neighbours now key (neighbour_history c))
   place_told false = (true, λ e. absurd (true≢false (sym e)))

@@ -12,7 +12,7 @@ use Rattle.nd_slaac.specs.Due as addresses
 use Rattle.nd_slaac.specs.Dates as dates
 use Rattle.nd_table.specs.Keyed as keyed
 
--- a neighbour for which something falls due takes a turn
+-- a neighbour for which something is due takes a turn
 pub neighbour_turns : (now : ℕ) (ns : List NeighbourEntry) (n : NeighbourEntry) → cache.Rises ns → neighbours.due_in now ns ≡ Some n
     → (new : List NeighbourEntry) × neighbours.Turns now ns new (neighbours.falls n)
 neighbour_turns now ns n r first =

@@ -40,9 +40,6 @@ parted_or (x ∷ xs) = elim (eqb_tells x 32) [
 
 -- ---- any two parts
 
-nothing_behind : (b : List ℕ) → [] ≡ b → b ≡ []
-nothing_behind b e = sym e
-
 nothing_first : (a b : List ℕ) → [] ≡ a ++ b → (a ≡ []) × (b ≡ [])
 nothing_first [] b e = (refl, sym e)
 nothing_first (x ∷ a) b e = absurd (let no : ⊥ = cc in no)

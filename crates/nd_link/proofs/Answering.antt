@@ -190,7 +190,7 @@ module _ {W R A : Type 0} (stream : R → Stream) where
   pub told_nothing : (old : Link W R A) (x y : List (Told A)) (now : ℕ) → y ≡ x → TellsOf stream old x y (Onward now)
   told_nothing old x y now same = record { each = λ log s. (log, λ e w. w, subst (Tells log log x) (sym same) (told_same log x)) }
 
-  -- nothing is told behind the milliseconds that passed
+  -- nothing is reported behind the milliseconds that passed
   pub told_so_far : (old mid : Link W R A) (x y z : List (Told A)) (now : ℕ) → Leads stream old mid x y (Onward now) → z ≡ y → TellsOf stream old x z (Onward now)
   told_so_far old mid x y z now passed same = record { each = λ log s. let m = passed.each log s in (m.0, m.1, subst (Tells log m.0 x) (sym same) m.3) }
 

@@ -139,7 +139,7 @@ module _ {R A : Type 0} (stream : R → Stream) (old new : List (Node R A)) (log
         };
   }
 
--- where the nodes stand in a vector
+-- where the nodes are in a vector
 pub passed_in : {R A : Type 0} (stream : R → Stream) (now but : ℕ) (nodes : Vec (Node R A) A) (before after : List (Node R A)) → before ≡ nodes.items → OthersPass stream now but before after
     → OthersPass stream now but nodes.items (with_items nodes after).items
 passed_in stream now but nodes before after e p =

@@ -12,7 +12,7 @@ use Rattle.nd_chronicle.specs.Happening.{Chronicle, Sent}
 use Rattle.nd_link_log.specs.Event as links
 use Rattle.nd_link_log.specs.Event.{AddsDelivery, AddsRows, max_nodes}
 use Rattle.nd_link_log.specs.Log as logs
-use Rattle.nd_link_log.specs.Log.{Log, Adds, Carries, Entry, NoFrame, NoNode, Own, Refuses, adding, nodes, sent}
+use Rattle.nd_link_log.specs.Log.{Log, Adds, Carries, Entry, Refuses, adding, nodes, sent}
 use Rattle.nd_link_log.proofs.Frames.{one_frame}
 use Rattle.nd_node.specs.Limits.{usual_limits}
 use Rattle.nd_link.specs.declared.link.Link.{Link}
@@ -54,7 +54,7 @@ module _ (now : ℕ) (why : logs.Refusal) (node : ℕ) (event : events.Event) (l
   carried_left number (row ∷ rows) e = not_refused now why log (adding node (row ∷ rows) (Carries node now number ∷ log)) refl e
 
 module _ {W R A : Type 0} (stream : R → Stream) (link : Link W R A) (now : ℕ) (why : logs.Refusal) (log : Log) (s : Stands stream link log) where
-  -- a node starts where there is a place for it
+  -- a node starts where there is room for it
   pub start_left : (role : Role) (mac : Mac) (transmits : ℕ) (words : Stream) → length link.nodes.items < max_nodes → Happens now (links.Starts role mac transmits words) log (Refuses now why ∷ reached now log) → ⊥
   start_left role mac transmits words few h =
       let place = lt-ltb (nodes (reached now log)) max_nodes (let e = count_reached stream link now log s in omega (arith, e, few)) in

@@ -1,4 +1,4 @@
--- What a node tells is what the link tells of its rows, and holds the frames that it sent.
+-- What a node reports is what the link reports of its rows, and holds the frames that it sent.
 use Rattle.std.proofs.Common.{◌≡◌, ℕ, List, [], ◌∷◌, ◌++◌, map, append-nil, append_assoc, refl, sym, ◌∙◌, ap}
 use Rattle.std.proofs.lemmas.List.{append_cancel_left, map-append}
 use Rattle.std.proofs.lemmas.Grind.{flat_map-append}
@@ -47,7 +47,7 @@ reports_told : (node : ℕ) (told : List (ℕ × Happening)) → map (at_node no
 reports_told node [] = refl
 reports_told node (row ∷ told) = map-append (at_node node) (items_at row) (flat_map items_at told) ∙ ap (λ l. node_reports node row ++ l) (reports_told node told)
 
--- what a node hands out with its rows is what the link reports of them
+-- what a node reports with its rows is what the link reports of them
 pub reports_of_rows : {A : Type 0} (node : ℕ) (c rows : Chronicle) (outs : List (ℕ × Out A)) (log : Log) → effects.Tells c (rows ++ c) [] outs
     → reports (adding node rows log) ≡ reports log ++ flat_map (node_reports node) (happenings outs)
 reports_of_rows node c rows outs log t =
@@ -67,7 +67,7 @@ pub frames_of_rows : {A : Type 0} (node : ℕ) (c rows : Chronicle) (outs : List
     → frames (adding node rows log) ≡ frames log ++ of_sender node (frames_in (happenings outs))
 frames_of_rows node c rows outs log t = frames_with node rows log ∙ ap (λ l. frames log ++ of_sender node l) (rows_sent c rows outs t)
 
--- nothing is told of nothing
+-- nothing is reported of nothing
 pub none_told : {A B : Type 0} (told : List (LinkTold B)) (node : ℕ) (outs : List (ℕ × Out A)) → outs ≡ [] → TellsReports told told (flat_map (node_reports node) (happenings outs))
 none_told told node outs e = record { newer = []; reports_are = sym (ap (λ o. flat_map (node_reports node) (happenings o)) e); all = sym (append-nil told) }
 

@@ -14,7 +14,7 @@ use Rattle.nd_link.specs.Told.{Tells, TellsReports, told_reports}
 use Rattle.nd_link.specs.Time.{Leads, Onward, Passes, Turns}
 use Rattle.nd_link.proofs.Standing.{idle_at}
 
--- ---- what is told
+-- ---- what is reported
 
 pub told_same : {A : Type 0} (log : Log) (told : List (Told A)) → Tells log log told told
 told_same log told = record { newer = []; told = sym (append-nil (reports log)); all = sym (append-nil told) }

@@ -4,7 +4,6 @@ ghost use Rattle.std.specs.Prelude.{◌≡◌, ◌≢◌, ◌<◌, ◌≤◌, �
 ghost use Rattle.nd_table.specs.Moment.{IsMoment};
 ghost use Rattle.nd_node.specs.Event.{event_of};
 ghost use Rattle.nd_link_log.specs.Log.{Log};
-ghost use Rattle.nd_link_log.specs.Event as links;
 ghost use Rattle.nd_link.specs.Arrival.{Arrives, IsRefused, reached};
 ghost use Rattle.nd_link.specs.Due.{AreSettled};
 ghost use Rattle.nd_link.specs.Link.{Stands};

@@ -49,14 +49,6 @@ impl<W: Wire, R: Rng + Drop, A: Allocator + Copy> Link<W, R, A> {
         }
     }
 
-    /// Returns the number of nodes that have started, at most `MAX_NODES`.
-    pub fn node_count(&self) -> usize
-        ensures count { result ≡ vec_len self.now.nodes }
-        ensures few { result ≤ max_nodes }
-    {
-        self.nodes.len()
-    }
-
     /// Returns the number of calls of its wire that failed, up to the greatest number of 64 bits.
     pub fn failures(&self) -> u64
         ensures { result ≡ W.failed self.now.wire }

@@ -62,7 +62,7 @@ past_of i d (entry ∷ log) p = ⊎_elim
     by (Reaches at) q = q
     by (Refuses at why) q = q
 
--- a row of a chronicle stands in the log
+-- a row of a chronicle is in the log
 pub record Lifted (i at : ℕ) (what : Happening) (c : Chronicle) (log : Log) : Type 0 where
   pub below : Log
   pub there : Past (Adds i at what ∷ below) log

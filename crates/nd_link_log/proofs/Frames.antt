@@ -1,4 +1,4 @@
--- A frame is told by its number.
+-- A frame is determined by its number.
 use Rattle.std.proofs.Common.{◌≡◌, ℕ, suc, ◌≤◌, Bool, true, false, List, [], ◌∷◌, sym, ◌∙◌, ap, subst, arith, ⊎_elim}
 use Rattle.std.specs.Prelude.{if◌then◌else◌}
 use Rattle.nd_table.specs.History.{Past}

@@ -1,4 +1,4 @@
--- Whatever happens on a link, its log grows.
+-- The log of a link only grows.
 use Rattle.std.proofs.Common.{◌≡◌, inr, ℕ, zero, suc, Bool, true, false, List, [], ◌∷◌, ◌++◌, sym, ap, subst, ⊎_elim}
 use Rattle.std.specs.Prelude.{◌==◌, nat_lt, MatchBool}
 use Rattle.nd_table.specs.History.{Past}

@@ -12,7 +12,7 @@ use Rattle.nd_link_log.proofs.Chronicles.{row_of, start_with}
 use Rattle.nd_link_log.proofs.Moments.{EachAt, RisesTo, due_at, rises_with}
 use Rattle.nd_link_log.proofs.Nodes.{Numbered, RowsThere, is_there, numbered_with, there_with}
 
--- Its moments rise up to this one, its nodes are numbered, and who has a row is there; and if what is handed in is bytes, each frame that was
+-- Its moments rise up to this one, its nodes are numbered, and who has a row is there; and if what is passed in is bytes, each frame that was
 -- carried brought what it had to.
 pub record Kept (Bytes : Type 0) (log : Log) (at : ℕ) : Type 0 where
   pub rises : RisesTo at log

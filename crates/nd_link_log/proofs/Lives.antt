@@ -20,7 +20,7 @@ use Rattle.nd_link_log.specs.History.{Walk, over, adds, passes}
 use Rattle.nd_link_log.proofs.Chronicles.{other_rows, own_rows, start_with}
 use Rattle.nd_link_log.proofs.Moments.{each_in, newest_moment}
 
--- It is the chronicle of a history of the node, up to a moment; and if what is handed in is bytes, so are its events, and it solicits once or more
+-- It is the chronicle of a history of the node, up to a moment; and if what is passed in is bytes, so are its events, and it solicits once or more
 -- often for an address.
 pub record Lives (Bytes : Type 0) (start : Start) (c : Chronicle) (last : ℕ) : Type 0 where
   pub mac : Bytes → AreBytes 6 start.mac.0

@@ -82,7 +82,7 @@ pub gained_at : (at : ℕ) (rows c d : Chronicle) → GrowsAt at c d → d ≡ r
 gained_at at rows c d g e = subst (EachAt at) (append_cancel_right g.newer rows c (sym g.all ∙ e)) (each_in at g.newer g.each)
 
 module _ (start : Start) (at : ℕ) (c : Chronicle) where
-  -- what falls due is of its moment
+  -- what is due is of its moment
   pub due_at : (what : What) (rows : Chronicle) → comes start at what c ≡ rows ++ c → EachAt at rows
   due_at (RouterEnds key) rows e = gained_at at rows c _ (grows_by {at = at} _ refl (stays at c)) e
   due_at (AddressFalls (addresses_due.Ends key)) rows e = gained_at at rows c _ (grows_by {at = at} _ refl (stays at c)) e

@@ -6,7 +6,7 @@ use Rattle.std.proofs.lemmas.Bool.Decides.{Decides-eqb}
 use Rattle.nd_table.proofs.Tests.{by_false}
 use Rattle.nd_chronicle.specs.Start.{Limits, Start, no_policies}
 use Rattle.nd_chronicle.specs.Happening as chronicle
-use Rattle.nd_chronicle.specs.Happening.{Chronicle, Passed, Sent}
+use Rattle.nd_chronicle.specs.Happening.{Chronicle, Sent}
 use Rattle.nd_chronicle.specs.Event as nodes
 use Rattle.nd_chronicle.specs.Event.{EventAdds}
 use Rattle.nd_chronicle.specs.History as node
@@ -25,7 +25,7 @@ use Rattle.nd_link_log.proofs.Seen.{Seen, Nothing, Refused, Started, Came, Carri
 use Rattle.nd_link_log.proofs.Sound.{empty, late, stands_follows}
 use Rattle.nd_link_log.proofs.Standing.{Reaching, Stands, reaching}
 
--- nothing of what is handed in is said to be bytes
+-- nothing of what is passed in is said to be bytes
 abbrev Between : Log → Type 0
 Between log = Stands ⊥ log
 

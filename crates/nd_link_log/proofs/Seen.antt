@@ -12,7 +12,7 @@ use Rattle.nd_link_log.specs.Log.{Log, Refusal, NoNode, NoFrame, Own, Full, Begi
 use Rattle.nd_link_log.specs.Event.{Event, Passes, Starts, Comes, Delivers, AddsRows, AddsDelivery, EventHappens, max_nodes}
 use Rattle.nd_link_log.specs.Bytes.{IsOfBytes}
 
--- what is handed in may be bytes
+-- what is passed in may be bytes
 pub data Seen (Bytes : Type 0) (now : ℕ) (before d : Log) : Type 0 where
   -- nothing
   Nothing : d ≡ before → Seen Bytes now before d

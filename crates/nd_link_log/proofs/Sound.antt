@@ -67,7 +67,7 @@ module _ (Bytes : Type 0) (limits : Limits) where
   }
 
 module _ (limits : Limits) (events : List (ℕ × Event)) (log : Log) (runs : IsLog limits events log) where
-  -- what is handed in and sent is bytes
+  -- what is passed in and sent is bytes
   abbrev pub AreBytes : Type 0
   AreBytes = AreOfBytes events × SendsBytes log
 

@@ -27,7 +27,7 @@ falls_by key None w u (Some r) ws = refl
 falls_by key (Some mac) w None r ws = refl
 falls_by key (Some mac) w (Some u) r ws = refl
 
--- a neighbour for which something falls due is in the table
+-- a neighbour for which something is due is in the table
 same_moment : (m now : ℕ) → Some m ≡ Some now → m ≡ now
 same_moment m now e = cc
 

@@ -195,7 +195,7 @@ stalest_in now (x ∷ ns) n r h = elim (longer_is (if_stale now x) (stalest now 
 pub some_stale : (ns : List NeighbourEntry) (history : List Row) → Stands ns history → (now : ℕ) (n : NeighbourEntry) → stalest now ns ≡ Some n → IsStale history now n.key
 some_stale ns history s now n h = (stale_by_entry ns history s now n.key n (stalest_in now ns n s.order h) (stalest_is_stale now ns n h)).0
 
--- what makes place
+-- what makes room
 module _ (limit now key : ℕ) (old mid : List NeighbourEntry) (history : List Row) (s : Stands old history) (absent : entry_in key old ≡ None) where
   pub place_made : Places limit now old mid → (made : List Row) × MakesPlace limit now history made × Stands mid made × (entry_in key mid ≡ None)
   place_made (Enough few is) = (history, HadPlace old s few refl, subst (λ (l : List NeighbourEntry). Stands l history) (sym is) s, ap (entry_in key) is ∙ absent)

@@ -78,7 +78,7 @@ module _ (limit now key : ℕ) (old seen : List NeighbourEntry) (same : seen ≡
   pub came_in : (change : NeighbourEntry → NeighbourEntry) (m e : NeighbourEntry) (mid new : List NeighbourEntry) → e ≡ m → Places limit now old mid → new ≡ insert mid (place_in e.key mid) e → Gives limit now key change m old new
   came_in change m e mid new e_is places is = Came mid not_there places (is ∙ ap (λ (x : NeighbourEntry). insert mid (place_in x.key mid) x) e_is)
 
--- no ring is in hand
+-- no ring is in reserve
 pub no_rings : (n : ℕ) → (0 < n → false ≡ true) → n ≡ 0
 no_rings zero h = refl
 no_rings (suc n) h = absurd (true≢false (sym (h (omega arith))))

@@ -30,7 +30,7 @@ all_full room [] packet full = let e : 1 - room ≡ 1 = omega (arith, full) in r
 all_full room (a ∷ more) packet full =
     let e : length ((a ∷ more) ++ packet ∷ []) - room ≡ 1 = omega (arith, full, length-append more (packet ∷ [])) in rw e refl
 
--- a packet that comes to wait, and those that waited, are those that wait then and the one that had to make place
+-- a packet that comes to wait, and those that waited, are those that wait then and the one that had to make room
 pub nothing_lost : (room : ℕ) (waiting : List (List ℕ)) (packet : List ℕ) → length waiting ≤ room → waiting ++ packet ∷ [] ≡ option_to_list (replaced room waiting packet) ++ then_waits room waiting packet
 nothing_lost room waiting packet few = elim (cases_lt (length waiting) room) [
   | inl lt ↦

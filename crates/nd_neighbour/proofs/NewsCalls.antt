@@ -1,4 +1,4 @@
--- What news do to the table that stands for the history, and what is told of them.
+-- What news do to the table that stands for the history, and what is reported of them.
 use Rattle.std.proofs.Common.{◌≡◌, ℕ, Bool, true, false, cond, eqb, ltb, List, [], ◌∷◌, Option, Some, None, refl, sym, ◌∙◌, ap, ◌≤◌, length, arith}
 use Rattle.std.specs.Prelude.{◌&&◌, not, is_some}
 use Rattle.std.proofs.lemmas.Bool.{cond-true, cond-false}
@@ -70,7 +70,7 @@ altered_there key at mac mark old new n found (There i m lt is there new_is) =
     (λ s p known. when_given key at s p mac mark ∙ ap (λ (x : NeighbourEntry). Some (given at mac mark x)) (sym known))
 altered_there key at mac mark old new n found (NotThere none new_is) = let e : Some n ≡ None = sym found ∙ none in absurd (cc)
 
--- nothing has to make place for a neighbour that is there
+-- nothing has to make room for a neighbour that is there
 pub no_place_needed : (limit now key : ℕ) (enters : Bool) (history : List Row) → is_present (story key history) ≡ true → Prepares limit now enters key history history
 no_place_needed limit now key true history p = rw p refl
 no_place_needed limit now key false history p = refl
@@ -123,7 +123,7 @@ cond_same : {X : Type 0} (b : Bool) (x : X) → cond b x x ≡ x
 cond_same true x = refl
 cond_same false x = refl
 
--- what is told of a change is what the history says
+-- what is reported of a change is what the history says
 module _ (key at : ℕ) (h : RowKind) (change : NeighbourEntry → NeighbourEntry) (old : List NeighbourEntry) (makes : (s : Story) → is_present s ≡ true → entry_of key ((at, h) ∷ s) ≡ Some (change (the_entry key s))) where
   changed_entry : (s : Story) → is_present s ≡ true → change (the_entry key s) ≡ the_entry key ((at, h) ∷ s)
   changed_entry s p = (entry_present key ((at, h) ∷ s) (change (the_entry key s)) (makes s p)).1

@@ -1,4 +1,4 @@
--- Nothing that happens to a neighbour falls due in the past.
+-- Nothing that happens to a neighbour is due in the past.
 use Rattle.std.proofs.Common.{◌≡◌, ℕ, ◌+◌, ◌≤◌, Bool, true, false, cond, eqb, leb, List, [], ◌∷◌, Option, Some, None, refl, sym, ◌∙◌, ap, subst, arith, inl, inr}
 use Rattle.std.specs.Prelude.{is_some, not}
 use Rattle.std.proofs.lemmas.Bool.{true≢false, cond_both, cases_Bool}
@@ -119,7 +119,7 @@ module _ (now : ℕ) where
     | inr absent ↦ let e : is_some (mac_of s) ≡ false = ap is_some (absent_mac s absent) in absurd (true≢false (sym h ∙ e))
   ]
 
-  -- whatever happens now, what falls due for the neighbour doesn't fall due before now
+  -- in all cases now, what is due for the neighbour isn't due before now
   story_later : (kind : RowKind) (s : Story) → is_end kind ≡ false → (is_present s ≡ true → now ≤ due_of s) → is_present ((now, kind) ∷ s) ≡ true → now ≤ due_of ((now, kind) ∷ s)
   story_later (Given mac mark) s e le p = given_later mac mark (mac_of s) (evidence_of s) (use_of s) (resolution_of s) (λ known. le (mac_present s known))
   story_later (Advertised flags mac reachable) s e le p = rw p (advertised_later flags mac reachable (mac_of s) (evidence_of s) (use_of s) (resolution_of s) (le p))
@@ -133,7 +133,7 @@ module _ (now : ℕ) where
   story_later (Confirmed reachable) s e le p = confirmed_later reachable (mac_of s) (evidence_of s) (use_of s) (resolution_of s) (le p)
   story_later (Forgot why) s e le p = absurd (true≢false e)
 
--- what happens now makes nothing fall due in the past
+-- what happens now makes nothing due in the past
 pub still_none : (history : List Row) (now key : ℕ) (kind : RowKind) → NoneOverdue history now → NoneOverdue ((now, key, kind) ∷ history) now
 still_none history now key kind none = record {
   none = λ moment k. cond_both (eqb key k) (cond (is_end kind) [] ((now, kind) ∷ story k history)) (story k history)

@@ -1,4 +1,4 @@
--- The dates that are kept beside the neighbours, where one of these changes, comes or goes.
+-- The dates that are kept besides the neighbours, where one of these changes, comes or goes.
 use Rattle.std.proofs.Common.{◌≡◌, ℕ, ◌<◌, ◌≤◌, Bool, true, false, cond, eqb, List, length, get_or, set, Option, Some, None, refl, sym, ◌∙◌, ap, subst, arith, ◌-◌, suc, inl, inr}
 use Rattle.std.specs.Prelude.{slice_get, IfSome, IfNone}
 use Rattle.std.specs.List.{remove}
@@ -66,7 +66,7 @@ module _ (key i : ℕ) (ns new : List NeighbourEntry) (n : NeighbourEntry) (plan
         room = omega (arith, room, shorter, ap length new_is, same);
       }
 
--- the neighbour that makes place isn't the one that comes
+-- the neighbour that makes room isn't the one that comes
 pub absent_then : (limit now key : ℕ) (old mid : List NeighbourEntry) → Rises old → entry_in key old ≡ None → Places limit now old mid → entry_in key mid ≡ None
 absent_then limit now key old mid r absent (Enough lt is) = ap (entry_in key) is ∙ absent
 absent_then limit now key old mid r absent (Went i n many lt at_i stalest is) =

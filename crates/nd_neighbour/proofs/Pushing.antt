@@ -1,4 +1,4 @@
--- Who is pushed out, if anyone is.
+-- Who is evicted, if anyone is.
 use Rattle.std.proofs.Common.{◌≡◌, ℕ, Bool, true, false, List, Option, Some, None}
 use Rattle.std.specs.Prelude.{◌&&◌, not, MatchBool}
 use Rattle.nd_neighbour.specs.History.{Row, story}

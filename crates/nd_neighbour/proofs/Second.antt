@@ -57,7 +57,7 @@ was_there k ns i m d r lt same h = elim (cases_Bool (eqb m.key k)) [
   | inr e ↦ sym (ap is_some (at_key-set address k ns i m d r lt same ∙ cond-false (eqb m.key k) (Some m) (entry_in k ns) e)) ∙ h
 ]
 
--- the second one is in the list, or has place in it
+-- the second one is in the list, or has room in it
 abbrev place_after : ℕ → ℕ → ℕ → List NeighbourEntry → Bool
 place_after limit now next ns = is_some (entry_in next ns) || (ltb (length ns) limit || list_any (λ n. is_stale n.stage now) ns)
 
@@ -173,7 +173,7 @@ module _ (limit now key next retrans room : ℕ) (packet : List ℕ) (old : List
     unfolding entered the_asked
     entered_stale h = any_inserted (λ n. is_stale n.stage now) (λ n. is_stale n.stage now) (λ n f. f) mid (place_of address key mid) the_asked (place_of-le address key mid) refl h
 
-  -- there was place
+  -- there was room
   enough_on : (o : Option NeighbourEntry) → stalest now old ≡ o → place_behind limit now key next old o ≡ true → place_after limit now next (entered old) ≡ true
   enough_on None is h = elim (or_cases (eqb key next) _ h) [
     | inl e ↦ in_after limit now next (entered old) (in_entered old (inl (eqb-true key next e)))
@@ -280,7 +280,7 @@ module _ (limit now key next retrans room : ℕ) (packet : List ℕ) (old : List
       ∙ or_right (ltb (length old) limit) _ (went_back i n many lt at first r
       (subst (λ (l : List NeighbourEntry). place_after limit now next l ≡ true) (is ∙ ap (put_in address (asked_entry key now retrans room packet)) gone) h))
 
--- whether the first has place
+-- whether the first has room
 module _ (limit now key : ℕ) (ns : List NeighbourEntry) where
   first_has : has_first limit now key ns ≡ true → NoPlace limit now key ns → ⊥
   first_has h np = elim (or_cases (is_some (entry_in key ns)) _ h) [
@@ -320,7 +320,7 @@ module _ (limit now key : ℕ) (ns : List NeighbourEntry) where
         ]
   ]
 
--- what makes place is one thing
+-- what makes room is one thing
 one_place : (limit now : ℕ) (history a b : List Row) → MakesPlace limit now history a → MakesPlace limit now history b → a ≡ b
 one_place limit now history a b (HadPlace ns s few is) (HadPlace ms t few' is') = is ∙ sym is'
 one_place limit now history a b (HadPlace ns s few is) (Pushed ms k t many longest is') =
@@ -379,7 +379,7 @@ module _ (limit now key : ℕ) (ns : List NeighbourEntry) (history : List Row) (
     (λ room. let first = first_back (Some next) room in and_from (has_first limit now key ns) _ first (second_back 0 0 [] first next room)),
   )
 
--- a second one that had room has place afterwards
+-- a second one that had room has room afterwards
 pub leaves_room : (limit now key retrans room : ℕ) (packet : List ℕ) (old new : List NeighbourEntry) → Gives limit now key (λ n. used now retrans packet n) (asked_entry key now retrans room packet) old new → LeavesRoom limit now key old new
 leaves_room limit now key retrans room packet old new gives = record {
   has = λ next h. placed limit now next new (gives_on limit now key next retrans room packet old new gives (second_so (has_first limit now key old) _ h));

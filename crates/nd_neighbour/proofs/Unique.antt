@@ -33,7 +33,7 @@ one_longest history now a b h k = elim (h.longest b k.stale) [
   | inr e ↦ elim (k.longest a h.stale) [ inl lt ↦ let f = e.0 in absurd (omega arith) | inr f ↦ omega (arith, e.1, f.1) ]
 ]
 
--- there is no place by what is kept exactly where there is none by the history
+-- there is no room by what is kept exactly where there is none by the history
 no_stalest : (limit now : ℕ) (ns : List NeighbourEntry) (b : Bool) (o : Option NeighbourEntry) → (b || is_some o) ≡ false → (b ≡ false) × (o ≡ None)
 no_stalest limit now ns true o h = absurd (true≢false h)
 no_stalest limit now ns false None h = (refl, refl)

@@ -1,22 +1,17 @@
--- No entry has room for more packets than the limit, whatever happens to the neighbours.
-use Rattle.std.proofs.Common.{◌≡◌, ℕ, zero, suc, ◌<◌, ◌≤◌, Bool, cond, eqb, ltb, List, [], ◌∷◌, length, get_or, set, Option, Some, None, sym, subst, arith, ◌&&◌, true, false, Result, Ok, Err}
+-- No entry has room for more packets than the limit, for all that happens to the neighbours.
+use Rattle.std.proofs.Common.{◌≡◌, ℕ, zero, suc, ◌<◌, ◌≤◌, Bool, cond, eqb, List, [], ◌∷◌, length, get_or, set, Option, Some, None, sym, subst, arith, false, Result, Ok, Err}
 use Rattle.std.specs.Prelude.{nat_le, OnOk, OnErr}
 use Rattle.std.specs.List.{remove, insert}
 use Rattle.std.proofs.lemmas.Bool.{cond_both}
-use Rattle.nd_neighbour.specs.declared.news.Flags.{Flags}
 use Rattle.nd_neighbour.specs.declared.unreachability_detection.Probing.{Probing}
-use Rattle.nd_neighbour.specs.EntryKept.{NeighbourEntry, Stage, Resolving, Known, with_mark, stale_entry, reachable_entry}
+use Rattle.nd_neighbour.specs.EntryKept.{NeighbourEntry, Stage, Resolving, Known, with_mark, stale_entry}
 use Rattle.nd_neighbour.specs.Rings.{room_of, RoomWithin}
 use Rattle.nd_neighbour.specs.TableKept.{place_in, Alters, NotThere, There}
 use Rattle.nd_neighbour.specs.PlaceKept.{Places, Enough, Went, Gives, Was, Came}
-use Rattle.nd_neighbour.specs.Removal.{Removes, WasNot, Gone}
 use Rattle.nd_neighbour.specs.LinkLayerAddressKept.{given, given_to, mark_or}
-use Rattle.nd_neighbour.specs.NeighborAdvertisementKept.{advertised, advertised_to, conforming}
-use Rattle.nd_neighbour.specs.ReachabilityConfirmationKept.{confirmed, confirmed_to}
+use Rattle.nd_neighbour.specs.ReachabilityConfirmationKept.{confirmed}
 use Rattle.nd_neighbour.specs.SendingKept.{known_used, used, used_to}
 use Rattle.nd_neighbour.specs.WantingKept.{wished, wished_to}
-use Rattle.nd_neighbour.specs.Due.{Falls}
-use Rattle.nd_neighbour.specs.DueKept.{Turns, falls, stays, solicited, solicited_to}
 
 module _ (room : ℕ) where
   fits_cond : (b : Bool) (n m : NeighbourEntry) → room_of n.stage ≤ room → room_of m.stage ≤ room → room_of (cond b n m).stage ≤ room
@@ -52,23 +47,6 @@ module _ (room : ℕ) where
   given_fits at mac router n (Resolving retrans sent wanted waiting) h = omega arith
   given_fits at mac router n (Known known confirmed since probing) h = fits_cond (eqb mac known) (with_mark router n) (stale_entry n.key router at mac) h (omega arith)
 
-  conforming_fits : (flags : Flags) (at reachable mac : ℕ) (changed : Bool) (n : NeighbourEntry) → room_of n.stage ≤ room → room_of (conforming flags at reachable mac changed n).stage ≤ room
-  conforming_fits flags at reachable mac changed n h =
-      fits_cond flags.solicited (reachable_entry n.key flags.router at mac reachable) (cond changed (stale_entry n.key flags.router at mac) (with_mark flags.router n))
-      (omega arith) (fits_cond changed (stale_entry n.key flags.router at mac) (with_mark flags.router n) (omega arith) h)
-
-  advertised_fits : (flags : Flags) (mac : Option ℕ) (at reachable : ℕ) (n : NeighbourEntry) (k : Stage) → room_of n.stage ≤ room → room_of (advertised_to k flags mac at reachable n).stage ≤ room
-  advertised_fits flags None at reachable n (Resolving retrans sent wanted waiting) h = h
-  advertised_fits flags (Some mac) at reachable n (Resolving retrans sent wanted waiting) h = conforming_fits flags at reachable mac true n h
-  advertised_fits flags None at reachable n (Known known confirmed since probing) h = conforming_fits flags at reachable known false n h
-  advertised_fits flags (Some mac) at reachable n (Known known confirmed since probing) h =
-      fits_cond (eqb mac known) _ _ (conforming_fits flags at reachable known false n h)
-      (fits_cond flags.overrides _ _ (conforming_fits flags at reachable mac true n h) (fits_cond (confirmed && ltb at since) (stale_entry n.key n.router at known) n (omega arith) h))
-
-  confirmed_fits : (at reachable : ℕ) (n : NeighbourEntry) (k : Stage) → room_of n.stage ≤ room → room_of (confirmed_to k at reachable n).stage ≤ room
-  confirmed_fits at reachable n (Resolving retrans sent wanted waiting) h = h
-  confirmed_fits at reachable n (Known mac confirmed since probing) h = omega arith
-
   known_fits : (mac : ℕ) (confirmed : Bool) (since : ℕ) (probing : Option Probing) (at retrans : ℕ) (n : NeighbourEntry) → room_of n.stage ≤ room → room_of (known_used mac confirmed since probing at retrans n).stage ≤ room
   known_fits mac confirmed since None at retrans n h = fits_cond (nat_le since at) _ _ (omega arith) h
   known_fits mac confirmed since (Some p) at retrans n h = h
@@ -80,11 +58,6 @@ module _ (room : ℕ) where
   wished_fits : (at retrans : ℕ) (n : NeighbourEntry) (k : Stage) → room_of k ≤ room → room_of n.stage ≤ room → room_of (wished_to k at retrans n).stage ≤ room
   wished_fits at retrans n (Resolving r t b ws) k h = k
   wished_fits at retrans n (Known mac c since p) k h = known_fits mac c since p at retrans n h
-
-  solicited_fits : (at : ℕ) (n : NeighbourEntry) (k : Stage) → room_of k ≤ room → room_of n.stage ≤ room → room_of (solicited_to k at n).stage ≤ room
-  solicited_fits at n (Resolving r t b ws) k h = k
-  solicited_fits at n (Known mac c since None) k h = h
-  solicited_fits at n (Known mac c since (Some p)) k h = omega arith
 
   -- ---- the table
 
@@ -110,47 +83,14 @@ module _ (room : ℕ) where
   news_within limit now key mac mark old new (Ok x) gives same h = given_in limit now key mac mark old new gives h
   news_within limit now key mac mark old new (Err e) gives same h = subst (RoomWithin room) (sym same) h
 
-  -- an advertisement
-  pub advertised_within : (key now : ℕ) (flags : Flags) (mac : Option ℕ) (reachable : ℕ) (old new : List NeighbourEntry) → Alters key (λ n. advertised now flags mac reachable n) old new → RoomWithin room old → RoomWithin room new
-  advertised_within key now flags mac reachable old new alters h =
-      altered_within key (λ n. advertised now flags mac reachable n) old new (λ n fit. advertised_fits flags mac now reachable n n.stage fit) alters h
-
   -- a message that gives none
   pub marked_within : (key : ℕ) (router : Bool) (old new : List NeighbourEntry) → Alters key (λ n. with_mark router n) old new → RoomWithin room old → RoomWithin room new
   marked_within key router old new alters h = altered_within key (λ n. with_mark router n) old new (λ n fit. fit) alters h
-
-  -- a confirmation
-  pub confirmed_within : (key now reachable : ℕ) (old new : List NeighbourEntry) → Alters key (λ n. confirmed now reachable n) old new → RoomWithin room old → RoomWithin room new
-  confirmed_within key now reachable old new alters h =
-      altered_within key (λ n. confirmed now reachable n) old new (λ n fit. confirmed_fits now reachable n n.stage fit) alters h
-
-  -- a packet to a neighbour that is there, and to a new one
-  pub used_within : (key now retrans : ℕ) (packet : List ℕ) (old new : List NeighbourEntry) → Alters key (λ n. used now retrans packet n) old new → RoomWithin room old → RoomWithin room new
-  used_within key now retrans packet old new alters h =
-      altered_within key (λ n. used now retrans packet n) old new (λ n fit. used_fits now retrans packet n n.stage fit fit) alters h
 
   pub begun_within : (limit now key retrans : ℕ) (packet : List ℕ) (m : NeighbourEntry) (old new : List NeighbourEntry) → room_of m.stage ≤ room → Gives limit now key (λ n. used now retrans packet n) m old new → RoomWithin room old → RoomWithin room new
   begun_within limit now key retrans packet m old new fit gives h =
       given_within limit now key (λ n. used now retrans packet n) m old new (λ n fits. used_fits now retrans packet n n.stage fits fits) fit gives h
 
-  -- a wish for the address of a neighbour that is there, and of a new one
-  pub wished_within : (key now retrans : ℕ) (old new : List NeighbourEntry) → Alters key (λ n. wished now retrans n) old new → RoomWithin room old → RoomWithin room new
-  wished_within key now retrans old new alters h =
-      altered_within key (λ n. wished now retrans n) old new (λ n fit. wished_fits now retrans n n.stage fit fit) alters h
-
   pub begun_by_wish_within : (limit now key retrans : ℕ) (m : NeighbourEntry) (old new : List NeighbourEntry) → room_of m.stage ≤ room → Gives limit now key (λ n. wished now retrans n) m old new → RoomWithin room old → RoomWithin room new
   begun_by_wish_within limit now key retrans m old new fit gives h =
       given_within limit now key (λ n. wished now retrans n) m old new (λ n fits. wished_fits now retrans n n.stage fits fits) fit gives h
-
-  -- a neighbour goes
-  pub removed_within : (key : ℕ) (old new : List NeighbourEntry) → Removes key old new → RoomWithin room old → RoomWithin room new
-  removed_within key old new (WasNot none is) h = subst (RoomWithin room) (sym is) h
-  removed_within key old new (Gone i n lt at_i found is) h = subst (RoomWithin room) (sym is) (within_remove old i h)
-
-  -- something is due
-  pub turned_within : (now : ℕ) (old new : List NeighbourEntry) (what : Falls) → Turns now old new what → RoomWithin room old → RoomWithin room new
-  turned_within now old new what t h =
-      subst (RoomWithin room) (sym t.new_is)
-      (cond_both (stays (falls t.entry)) (set old t.at (solicited now t.entry)) (remove old t.at) (RoomWithin room)
-      (λ _. let fit = fits_at old t.at t.entry t.within t.is h in within_set old t.at (solicited now t.entry) (solicited_fits now t.entry t.entry.stage fit fit) h)
-      (λ _. within_remove old t.at h))

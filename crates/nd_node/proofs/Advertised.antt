@@ -675,7 +675,7 @@ module _ {R A : Type 0} (stream : R → Stream) (old new : Node R A) (before aft
   in_time =
       all_later new now (settled_before now (router_list.next_end new.routers.entries) t.routers_settled) addresses_in_time neighbours_in_time solicits_in_time advertises_in_time draws_in_time
 
-  -- ---- what is told
+  -- ---- what is reported
 
   items_begun : items begun ≡ items ((now, Heard source destination (advertised ra options)) ∷ c)
   items_begun = message_adds.told ∙ ap (λ (x : List (ℕ × Told)). x ++ items_at (now, Heard source destination (advertised ra options))) others.told

@@ -77,7 +77,7 @@ silent_news limit now entries (Some (news.Marked addr router)) times key flags m
 
 -- ---- the rows
 
--- rows of an own address, or of a router, and what they leave as it was
+-- rows of one of the node's addresses, or of a router, and what they leave as it was
 record Conflicted (now : ℕ) (b : Bool) (key : ℕ) (c d : Chronicle) : Type 0 where
   apart : Apart c d
   routers : router_history d ≡ router_history c

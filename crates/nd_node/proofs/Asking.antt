@@ -1,4 +1,4 @@
--- A solicitation from an address for an own one, and the chronicle that a node stands for.
+-- A solicitation from an address for one of the node's own, and the chronicle that a node stands for.
 use Rattle.std.proofs.Common.{◌≡◌, ℕ, ◌<◌, ◌≤◌, Bool, true, false, ◌||◌, List, [], ◌∷◌, ◌++◌, Option, Some, None, refl, sym, ◌∙◌, ap, subst, arith}
 use Rattle.std.specs.Prelude.{◌↔◌, bytes_eq, if◌then◌else◌, is_some, MatchBool, MatchOption}
 use Rattle.std.specs.Option.{option_map}
@@ -39,7 +39,7 @@ use Rattle.nd_chronicle.specs.Told.{items_at, items}
 use Rattle.nd_out.specs.declared.out.Out.{Out}
 use Rattle.nd_out.specs.Out.{happening}
 use Rattle.nd_steps.specs.NeighbourCache.{said_by}
-use Rattle.nd_steps.proofs.Placing.{enters, given_placed}
+use Rattle.nd_steps.proofs.Placing.{enters}
 use Rattle.nd_steps.proofs.Telling.{one, one_told, Tells-then}
 use Rattle.nd_chronicle.specs.Answer as answers
 use Rattle.nd_chronicle.proofs.Answering.{goes_done}
@@ -95,37 +95,26 @@ module _ (times : Times) (source : Addr) (ns : NeighborSolicitation) (options : 
   pub of_asker : IsOfAsker (number_of source.0) news
   of_asker = said_of_asker times (number_of source.0) news (first_slla options) (bytes_eq source.0 unspecified_address) is
 
--- a neighbour has no place
+-- a neighbour has no room
 pub would_be_full : {R A : Type 0} (stream : R → Stream) (start : Start) (node : Node R A) (c : Chronicle) (now key : ℕ) → FullByHistory → Stands stream start node c
     → has_room node.neighbours.limit now key None node.neighbours.entries ≡ false → WouldBeFull start.limits.neighbours now key (neighbour_history c)
 would_be_full stream start node c now key law s room =
     let none : NoPlace node.neighbours.limit now key node.neighbours.entries = no_room (entry_in key node.neighbours.entries) (has_place node.neighbours.limit now node.neighbours.entries) room in
     subst (λ (limit : ℕ). WouldBeFull limit now key (neighbour_history c)) s.limits.neighbours ((law node.neighbours.limit now key node.neighbours.entries (neighbour_history c) s.neighbours).0 none)
 
--- a neighbour has place
+-- a neighbour has room
 pub has_place_for : {R A : Type 0} (stream : R → Stream) (start : Start) (node : Node R A) (c : Chronicle) (now key : ℕ) → RoomIsPlace → FullByHistory → Stands stream start node c
     → has_room node.neighbours.limit now key None node.neighbours.entries ≡ true → packets.HasPlace start ((now, Passed) ∷ c) now key true true
 has_place_for stream start node c now key room_is_place full_by_history s has = λ enters would.
     room_is_place node.neighbours.limit now key None node.neighbours.entries has
     ((full_by_history node.neighbours.limit now key node.neighbours.entries (neighbour_history c) s.neighbours).1 (subst (λ (limit : ℕ). WouldBeFull limit now key (neighbour_history c)) (sym s.limits.neighbours) would))
 
--- the asker has place where the neighbour of the news has
+-- the asker has room where the neighbour of the news has
 pub asker_placed : (start : Start) (c : Chronicle) (now key : ℕ) (way : Bool) (n : News) (times : Times) (place : Bool) → IsOfAsker key (Some n)
     → full.Placed start c now way (full.entering (Some (said_by times n))) place → full.Placed start c now way (Some (key, true)) place
 asker_placed start c now key way n times place of h =
     subst (λ (k : ℕ). full.Placed start c now way (Some (k, true)) place) of.0
     (subst (λ (b : Bool). full.Placed start c now way (Some (news_key n, b)) place) (enters n times ∙ of.1) h)
-
--- and one of which nothing is said where there is room
-pub silent_placed : RoomIsPlace → FullByHistory → (start : Start) (c : Chronicle) (now limit key : ℕ) (entries : List neighbour_entries.NeighbourEntry) (place : Bool) → limit ≡ start.limits.neighbours
-    → neighbours.Stands entries (neighbour_history c) → place ≡ has_room limit now key None entries → full.Placed start c now false (Some (key, true)) place
-silent_placed room law start c now limit key entries place limit_is s is =
-    subst (λ (l : ℕ). MatchBool place (true ≡ true → WouldBeFull l now key (neighbour_history c) → ⊥) ((true ≡ true) × WouldBeFull l now key (neighbour_history c))) limit_is
-    (given_placed law room limit now key entries (neighbour_history c) place s is)
-
--- an asker of which something is said has an entry then, and so room
-pub entered_room : (limit now key : ℕ) (entries : List neighbour_entries.NeighbourEntry) → is_some (entry_in key entries) ≡ true → has_room limit now key None entries ≡ true
-entered_room limit now key entries is = ap (λ b. b || has_place limit now entries) is
 
 -- ---- an answer
 
@@ -206,7 +195,7 @@ module _ (start : Start) (now : ℕ) (source destination : Addr) (ns : NeighborS
 module _ {R A : Type 0} (stream : R → Stream) (old : Node R A) (now : ℕ) (source destination : Addr) (ns : NeighborSolicitation) (options : List Said)
     (from : bytes_eq source.0 unspecified_address ≡ false) (settled : now < next_of old) (times : Times) (news : Option News)
     (news_is : option_map (said_by times) news ≡ said_of_neighbour source (bodies.Ns ns) options times.reachable) (reachable_is : times.reachable ≡ old.params.reachable_time) where
-  -- whether the asker has place, once time has passed
+  -- whether the asker has room, once time has passed
   pub place_later : (start : Start) (c : Chronicle) (place : Bool) → Stands stream start old c
       → full.Placed start c now (makes_way start (option_map (said_by times) news)) (Some (number_of source.0, true)) place
       → full.Placed start ((now, Passed) ∷ c) now (makes_way start (said ((now, Passed) ∷ c) source (solicitation ns options))) (Some (number_of source.0, true)) place
@@ -215,7 +204,7 @@ module _ {R A : Type 0} (stream : R → Stream) (old : Node R A) (now : ℕ) (so
       (said_is stream old now source destination (bodies.Ns ns) options settled times news news_is reachable_is start c s)
       (passed_placed start c now (makes_way start (option_map (said_by times) news)) (Some (number_of source.0, true)) place h)
 
-  -- ---- there is no place
+  -- ---- there is no room
 
   pub refused : old.policies.parts ≡ false → (new : Node R A) (x y : List (ℕ × Out A))
       → ((start : Start) (c : Chronicle) → Stands stream start old c → full.Placed start c now (makes_way start (option_map (said_by times) news)) (Some (number_of source.0, true)) false)
@@ -233,7 +222,7 @@ module _ {R A : Type 0} (stream : R → Stream) (old : Node R A) (now : ℕ) (so
         );
   }
 
-  -- ---- there is place: the answer goes to the asker behind what the solicitation says
+  -- ---- there is room: the answer goes to the asker behind what the solicitation says
 
   pub answered : (mid new : Node R A) (gone : Option ℕ) (x z w : List (ℕ × Out A))
       → ((start : Start) (c : Chronicle) → Stands stream start old c → full.Placed start c now (makes_way start (option_map (said_by times) news)) (Some (number_of source.0, true)) true)

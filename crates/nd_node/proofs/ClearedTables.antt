@@ -52,9 +52,9 @@ use Rattle.nd_node.proofs.Standing.{Apart, Still, apart_then, stands_at}
 use Rattle.nd_node.proofs.Steps.{passed}
 use Rattle.nd_node.proofs.Turns.{addresses_before, neighbours_before}
 
--- ---- prefixes, redirects, servers and names: nothing is told
+-- ---- prefixes, redirects, servers and names: nothing is reported
 
--- a row that concerns these alone, and that isn't told
+-- a row that concerns these alone, and that isn't reported
 record Silent (now : ℕ) (what : Happening) : Type 0 where
   parameters : (c : Chronicle) → parameter_history ((now, what) ∷ c) ≡ parameter_history c
   neighbours : (c : Chronicle) → neighbour_history ((now, what) ∷ c) ≡ neighbour_history c
@@ -183,7 +183,7 @@ module _ {R A : Type 0} (stream : R → Stream) (old new : Node R A) (outs : Lis
 
 -- ---- the neighbours, and what waits for them
 
--- packets that wait are told as lost, one list behind the other
+-- packets that wait are reported as lost, one list behind the other
 lost_both : (at : ℕ) (xs ys : List (List ℕ)) → lost_at at Forgotten (xs ++ ys) ≡ lost_at at Forgotten xs ++ lost_at at Forgotten ys
 lost_both at [] ys = refl
 lost_both at (x ∷ xs) ys = ap (λ l. (at, Lost Forgotten x) ∷ l) (lost_both at xs ys)

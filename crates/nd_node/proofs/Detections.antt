@@ -1,4 +1,4 @@
--- A solicitation from :: for an own address, and the chronicle that a node stands for.
+-- A solicitation from :: for one of the node's addresses, and the chronicle that a node stands for.
 use Rattle.std.proofs.Common.{◌≡◌, ℕ, ◌<◌, ◌≤◌, Bool, true, false, ◌&&◌, ◌||◌, List, [], ◌∷◌, ◌++◌, append-nil, append_assoc, Some, None, refl, sym, ◌∙◌, ap, subst, arith}
 use Rattle.std.specs.Prelude.{◌↔◌, bytes_eq, if◌then◌else◌, MatchBool, not}
 use Rattle.rand_core.specs.Stream.{Stream}
@@ -87,7 +87,7 @@ the_other true tentative tried e not_tentative = refl
 the_other false false tried e not_tentative = let no : ⊥ = cc in absurd no
 the_other false true tried e not_tentative = let no : ⊥ = cc in absurd no
 
--- ---- what it adds, and what is told
+-- ---- what it adds, and what is reported
 
 adds_by : (start : Start) (now : ℕ) (source destination : Addr) (ns : NeighborSolicitation) (options : List Said) (c d : Chronicle) → bytes_eq source.0 unspecified_address ≡ true
     → d ≡ then_tried start now ns.target ((now, Heard source destination (solicitation ns options)) ∷ c)
@@ -104,12 +104,12 @@ adds_by start now source destination ns options c d from is = (
     placed_alone : Placed start c now way (if bytes_eq source.0 unspecified_address then None else Some (number_of source.0, true)) true
     placed_alone = subst (λ (b : Bool). Placed start c now way (if b then None else Some (number_of source.0, true)) true) (sym from) refl
 
--- a row that isn't told, and two that are
+-- a row that isn't reported, and two that are
 two : {A : Type 0} (before first second : List A) → ((before ++ []) ++ first) ++ second ≡ before ++ (first ++ (second ++ []))
 two before first second =
     ap (λ b. (b ++ first) ++ second) (append-nil before) ∙ (append_assoc before first second ∙ ap (λ l. before ++ (first ++ l)) (sym (append-nil second)))
 
--- two are handed out
+-- two are reported
 two_more : {A : Type 0} (x room y z : List (ℕ × Out A)) (at : ℕ) (first second : Out A) → room ≡ x → y ≡ room ++ (at, first) ∷ [] → z ≡ y ++ (at, second) ∷ []
     → happenings z ≡ happenings x ++ (at, happening first) ∷ (at, happening second) ∷ []
 two_more x room y z at first second same f s =

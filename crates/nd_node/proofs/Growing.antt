@@ -1,8 +1,6 @@
 -- Reports that come behind others, and a frame among them.
-use Rattle.std.proofs.Common.{◌≡◌, ℕ, ◌≤◌, List, [], ◌∷◌, ◌++◌, append-nil, append_assoc, Option, Some, None, arith, refl, sym, ◌∙◌, ap, inl, inr, ⊎_elim}
-use Rattle.std.specs.Prelude.{◌⊎◌, IfSome, IsSomeAnd, Result, Ok, Err, OnErr}
-use Rattle.nd_compose.specs.Room.{HasRoomFor}
-use Rattle.nd_compose.specs.declared.frame_room.FrameRoom.{FrameRoom}
+use Rattle.std.proofs.Common.{◌≡◌, ℕ, List, [], ◌∷◌, ◌++◌, append-nil, append_assoc, Option, Some, None, refl, sym, ◌∙◌, ap, inl, inr, ⊎_elim}
+use Rattle.std.specs.Prelude.{◌⊎◌, IfSome, Result, Ok, Err, OnErr}
 use Rattle.nd_chronicle.specs.Happening.{Happening, Sent}
 use Rattle.nd_out.specs.declared.out.Out.{Out}
 use Rattle.nd_steps.specs.Outputs.{Grows, HasFrame, SendsFrame, happenings}
@@ -14,11 +12,6 @@ has_frame_behind first later (before, after, at, frame, is) =
 pub has_frame_before : (first later : List (ℕ × Happening)) → HasFrame first → HasFrame (first ++ later)
 has_frame_before first later (before, after, at, frame, is) =
     (before, after ++ later, at, frame, ap (λ l. l ++ later) is ∙ append_assoc before ((at, Sent frame) ∷ after) later)
-
--- room for a message is room for a shorter one
-pub for_shorter : {A : Type 0} (room : Option (FrameRoom A)) (m n : ℕ) → m ≤ n → IsSomeAnd room (λ r. HasRoomFor r n) → IsSomeAnd room (λ r. HasRoomFor r m)
-for_shorter None m n le there = there
-for_shorter (Some r) m n le there = omega (arith, le, there)
 
 pub on_err_of : {X E P : Type 0} (r : Result X E) → P → OnErr r P
 on_err_of (Ok x) p = tt

@@ -23,7 +23,7 @@ use Rattle.nd_node.specs.Parts.{AddsInPart}
 use Rattle.nd_node.proofs.RouterRows.{IgnoresPart, aside, stands_aside}
 use Rattle.nd_node.proofs.Turns.{advertisement_before}
 
--- ---- what is told of the limits
+-- ---- what is reported of the limits
 
 told_of_limits : (now : ℕ) (limits : List Limit) (c : Chronicle) → items (ignoring now limits c) ≡ items c ++ flat_map items_at (at_moment now (map (λ l. Ignored l) limits))
 told_of_limits now [] c = sym (append-nil (items c))

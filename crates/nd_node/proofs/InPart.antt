@@ -129,7 +129,7 @@ sender_in_place node now place said source ra times news taken is taken_is =
     ap (λ (mac : Option Mac). given_or_marked (number_of source.0) mac (Some true)) (sym (slla_stays (limits_of node) node.addresses.mac now (filling_of node now) read)) in
     taken_is ∙ (ap (said_in_place place) (is ∙ same) ∙ sym (said_without source (bodies.Ra ra) kept times.reachable place))
 
--- there is place for news that let no neighbour enter
+-- there is room for news that let no neighbour enter
 pub placed_or_out : (speakers : Bool) (limit now : ℕ) (news taken : Option News) (entries : List NeighbourEntry) (place : Bool) → (place ≡ true → HasPlaceOrWay speakers limit now news entries) → (place ≡ true → taken ≡ news)
     → (place ≡ false → IfSome taken (λ n. lets_enter n ≡ false)) → HasPlaceOrWay speakers limit now taken entries
 placed_or_out speakers limit now news taken entries true has same out = subst (λ (n : Option News). HasPlaceOrWay speakers limit now n entries) (sym (same refl)) (has refl)

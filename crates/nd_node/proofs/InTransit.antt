@@ -60,11 +60,11 @@ placed_by (Some n) place never = refl
 placed_by None true never = refl
 placed_by None false never = absurd (never (refl, refl))
 
--- a second neighbour that had room before a packet to the first has place after it
+-- a second neighbour that had room before a packet to the first has room after it
 pub place_left : (limit now key next : ℕ) (old new : List neighbour_entries.NeighbourEntry) → LeavesRoom limit now key old new → has_room limit now key (Some next) old ≡ true → has_room limit now next None new ≡ true
 place_left limit now key next old new leaves room = placed_by (entry_in next new) (has_place limit now new) (λ none. leaves.has next room none)
 
--- and the first one has place
+-- and the first one has room
 pub first_placed : (limit now key next : ℕ) (entries : List neighbour_entries.NeighbourEntry) → has_room limit now key (Some next) entries ≡ true → has_room limit now key None entries ≡ true
 first_placed limit now key next entries room = first_so (has_first limit now key entries) (has_second limit now key next entries) room
 

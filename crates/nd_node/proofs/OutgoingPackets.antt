@@ -41,7 +41,7 @@ use Rattle.nd_node.proofs.Judging.{IsQuiet, alone, next_later, stays_keeps}
 use Rattle.nd_node.proofs.Steps.{passed}
 use Rattle.nd_node.proofs.Quiet.{refused_is_quiet}
 
--- ---- what is told alone
+-- ---- what is reported alone
 
 lost_is_quiet : (now : ℕ) (why : Loss) (packet : List ℕ) → IsQuiet now (Lost why packet)
 lost_is_quiet now why packet c is = record {
@@ -88,7 +88,7 @@ module _ {R A : Type 0} (stream : R → Stream) (old new : Node R A) (x y : List
 -- ---- to a neighbour
 
 module _ {R A : Type 0} (stream : R → Stream) (old new : Node R A) (x y : List (ℕ × Out A)) (now key : ℕ) (packet : List ℕ) (settled : now < next_of old) where
-  -- it has no place
+  -- it has no room
   pub refused_full : FullByHistory → has_room old.neighbours.limit now key None old.neighbours.entries ≡ false → AddsAlone stream old new x y now (Refused (Full Neighbours))
       → AddsToNeighbour stream old new x y now key packet (answers.Refused (Full Neighbours))
   refused_full law room adds = record {
@@ -103,7 +103,7 @@ module _ {R A : Type 0} (stream : R → Stream) (old new : Node R A) (x y : List
         );
   }
 
-  -- it has place
+  -- it has room
   pub goes_to : (mid : Node R A) (room : List (ℕ × Out A)) → Keeps (record old { last = now }) mid → room ≡ x → RoomIsPlace → FullByHistory
       → has_room old.neighbours.limit now key None old.neighbours.entries ≡ true → Leads stream mid new room y (PacketGoes now key packet)
       → AddsToNeighbour stream old new x y now key packet answers.Done

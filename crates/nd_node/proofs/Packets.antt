@@ -42,7 +42,7 @@ use Rattle.nd_node.specs.Time.{Leads}
 use Rattle.nd_node.proofs.Beside.{Beside, Same, beside_neighbour, beside_quiet, beside_sent, beside_then, stands_neighbours}
 use Rattle.nd_node.proofs.Turns.{neighbours_before}
 
--- ---- a neighbour that is pushed out
+-- ---- a neighbour that is evicted
 
 pub pushed_addresses : (at : ℕ) (pushed : Option ℕ) (c : Chronicle) → address_history (with_pushed at pushed c) ≡ address_history c
 pushed_addresses at None c = refl
@@ -52,7 +52,7 @@ pub pushed_beside : (at : ℕ) (pushed : Option ℕ) (c : Chronicle) → Beside 
 pushed_beside at None c = record { parameters = refl; routers = refl; prefixes = refl; servers = refl; names = refl; redirects = refl; assigned = λ k. refl; solicited = refl; router = λ start'. refl; stream = λ start. refl }
 pushed_beside at (Some key) c = beside_neighbour at key (rows.Forgot rows.PushedOut) c (λ h. refl) (λ h. refl)
 
--- nothing is told of it
+-- nothing is reported of it
 pub pushed_items : (at : ℕ) (pushed : Option ℕ) (c : Chronicle) → items (with_pushed at pushed c) ≡ items c
 pushed_items at None c = refl
 pushed_items at (Some key) c = append-nil (items c)
@@ -61,9 +61,9 @@ pub pushed_later : NoneOverdueStill → (at : ℕ) (pushed : Option ℕ) (histor
 pushed_later still at None history none = none
 pushed_later still at (Some key) history none = still history at key (rows.Forgot rows.PushedOut) none
 
--- ---- what is told
+-- ---- what is reported
 
--- a row that is told, and rows that aren't around it
+-- a row that is reported, and rows that aren't around it
 below_silent : {A : Type 0} (t u row : List A) → u ≡ t → (u ++ row) ++ [] ≡ t ++ (row ++ [])
 below_silent t u row same = append-nil (u ++ row) ∙ (ap (λ l. l ++ row) same ∙ one t row)
 
@@ -127,7 +127,7 @@ module _ {R A : Type 0} (stream : R → Stream) (start : Start) (old new : Node 
 
 module _ {R A : Type 0} (stream : R → Stream) (old new : Node R A) (x y : List (ℕ × Out A)) (now key retrans room : ℕ) (packet : List ℕ) (still : NoneOverdueStill) (table : OverdueByTable) (one_is_pushed : OneGoes)
     (last : old.last ≡ now) (same : Same old new) (is : new.addresses ≡ old.addresses) (may : MayRemember old.choice new.choice old.neighbours.entries new.neighbours.entries) where
-  -- the packet goes, and is told
+  -- the packet goes, and is reported
   pub packet_leads : retrans ≡ old.params.retrans_timer → room ≡ old.neighbours.waiting
       → GainsPacket old.neighbours.limit now key retrans room packet old.neighbours.entries new.neighbours.entries
       → (mac : Mac) → mac ≡ old.mac → (own : Addr) → own ≡ addr_at (link_local_of old.addresses.mac)

@@ -50,7 +50,7 @@ use Rattle.nd_node.proofs.Standing.{Apart}
 use Rattle.nd_chronicle.proofs.Events.{one_placed}
 use Rattle.nd_node.proofs.Turns.{advertisement_before}
 
--- a message that wants place for a neighbour alone, concerns the neighbours and the redirects alone, and has something happen behind it
+-- a message that wants room for a neighbour alone, concerns the neighbours and the redirects alone, and has something happen behind it
 pub record IsPlain (now : ℕ) (source destination : Addr) (body : Body) (options : List Said) (behind : Start → Chronicle → Chronicle → Chronicle) : Type 0 where
   pub needs_is : (c : Chronicle) → needs c source (message_of body options) body ≡ entering (said c source (message_of body options))
   pub fills : (start : Start) (c : Chronicle) (limit : Option Limit) → MessageFills start c now source (message_of body options) limit → Fills start c now source (message_of body options) body limit
@@ -110,7 +110,7 @@ passed_placed start c now false (Some need) false h = h
 pub placed_later : (start : Start) (c : Chronicle) (now : ℕ) (o : Option (ℕ × rows.RowKind)) (place : Bool) → Placed start c now (makes_way start o) (entering o) place → Placed start ((now, Passed) ∷ c) now (makes_way start o) (entering o) place
 placed_later start c now o place h = passed_placed start c now (makes_way start o) (entering o) place h
 
--- what is told of a chronicle is told of one with the same items
+-- what is reported of a chronicle is reported of one with the same items
 told_too : {A : Type 0} {c d : Chronicle} {x z : List (ℕ × Out A)} (e : Chronicle) → items e ≡ items d → Tells c d x z → Tells c e x z
 told_too e same t = record { newer = t.newer; told = same ∙ t.told; outs = t.outs }
 
@@ -161,7 +161,7 @@ module _ {R A : Type 0} (stream : R → Stream) (old : Node R A) (now : ℕ) (so
   this_is : (start : Start) (c : Chronicle) → Stands stream start old c → option_map (said_by times) news ≡ said c source (message_of body options)
   this_is start c s = said_is stream old now source destination body options settled times news news_is reachable_is start c s
 
-  -- its target has no place
+  -- its target has no room
   pub message_refused : (new : Node R A) (x y : List (ℕ × Out A)) → old.policies.parts ≡ false
       → ((start : Start) (c : Chronicle) → Stands stream start old c → Placed start c now (makes_way start (option_map (said_by times) news)) (entering (option_map (said_by times) news)) false)
       → AddsAlone stream old new x y now (Refused (Full Neighbours))
@@ -180,7 +180,7 @@ module _ {R A : Type 0} (stream : R → Stream) (old : Node R A) (now : ℕ) (so
         );
   }
 
-  -- its target has place, so that no table is full
+  -- its target has room, so that no table is full
   pub none_full : ((start : Start) (c : Chronicle) → Stands stream start old c → Placed start c now (makes_way start (option_map (said_by times) news)) (entering (option_map (said_by times) news)) true)
       → (start : Start) (c : Chronicle) (limit : Limit) → Stands stream start old c → MessageFills start ((now, Passed) ∷ c) now source (message_of body options) (Some limit) → ⊥
   none_full placed start c limit s fills =
@@ -218,7 +218,7 @@ module _ {R A : Type 0} (stream : R → Stream) (old : Node R A) (now : ℕ) (so
           );
     }
 
--- what is told of a chronicle is told with reports that say the same
+-- what is reported of a chronicle is reported with reports that say the same
 told_alike : {A : Type 0} (c d : Chronicle) (x z w : List (ℕ × Out A)) → happenings w ≡ happenings z ++ [] → Tells c d x z → Tells c d x w
 told_alike c d x z w is t = record { newer = t.newer; told = t.told; outs = is ∙ (append-nil (happenings z) ∙ t.outs) }
 

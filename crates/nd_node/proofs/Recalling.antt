@@ -31,7 +31,7 @@ use Rattle.nd_node.specs.declared.node.Node.{Node}
 abbrev pub Recalls : {R A : Type 0} → ℕ → Node R A → Type 0
 Recalls at node = Remembers at node.choice node.addresses.addresses node.prefixes.entries node.neighbours.entries node.routers
 
--- no own address has come or gone
+-- none of the node's addresses has come or gone
 abbrev pub AsOwn : List Address → List Address → Type 0
 AsOwn old new = (key : ℕ) → counted_in Own (address_in key new) ≡ counted_in Own (address_in key old)
 
@@ -129,7 +129,7 @@ pub forgot_redirects : (b : Bool) (a c : Table) → c ≡ (if b then record a { 
 forgot_redirects true a c is = ap (λ (t : Table). t.redirects) is
 forgot_redirects false a c is = ap (λ (t : Table). t.redirects) is
 
--- a holder of an own address, news of a neighbour, and a router that may leave
+-- a holder of one of the node's addresses, news of a neighbour, and a router that may leave
 module _ {R A : Type 0} (old new : Node R A) (at now : ℕ) (le : at ≤ now) (r : Recalls at old) (prefixes : new.prefixes ≡ old.prefixes)
     (first second : Table) (tentative left : Bool) (holds : first ≡ (if tentative then record old.choice { memory = forgotten old.choice.memory } else old.choice))
     (may : MayRemember first second old.neighbours.entries new.neighbours.entries) (leaves : MatchBool left (new.choice.memory ≡ forgotten second.memory) ((new.choice ≡ second) × (new.routers ≡ old.routers)))

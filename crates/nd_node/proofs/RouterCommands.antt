@@ -55,7 +55,7 @@ one_more_fits false answer is ok = refl
 one_more_fits true answer is ok = absurd (let no : false ≡ true = sym (ap is_ok is) ∙ ok in let never : ⊥ = cc in never)
 
 module _ {R A : Type 0} (stream : R → Stream) (old new : Node R A) (now : ℕ) (settled : now < next_of old) (role : old.role ≡ Router) where
-  -- ---- a table changes, and nothing is told
+  -- ---- a table changes, and nothing is reported
 
   module _ (r : RouterTables A) (is : new ≡ record old { last = now; router = r }) (outs : List (ℕ × Out A)) where
     abbrev base : Node R A
@@ -119,7 +119,7 @@ module _ {R A : Type 0} (stream : R → Stream) (old new : Node R A) (now : ℕ)
 
 -- ---- it ceases to advertise
 
--- what is told of it
+-- what is reported of it
 abbrev pub told_end : Bool → Option (List ℕ) → List Happening
 told_end tells made = if tells then advertised_by made else []
 

@@ -59,7 +59,7 @@ passed stream start old new c now s le settled is = rw is (record {
   in_time = omega (arith, settled);
 })
 
--- ---- what is told alone
+-- ---- what is reported alone
 
 shown_is_quiet : (at : ℕ) (rows : List (List ℕ)) (c : Chronicle) → ((start : ℕ) → last_moment start c ≡ at) → Quiet c ((at, Shown rows) ∷ c)
 shown_is_quiet at rows c now = record {
@@ -155,7 +155,7 @@ asked_of : (last now : ℕ) (event : events.Event) (start : Start) (c d : Chroni
 asked_of last now event start c d is lt =
     ap answers.Past is ∙ sym (ap (λ (late : Bool). if late then answers.Past (last_moment start.at c) else answers.answer_after d (answers.is_packet event)) (lt-ltb now (last_moment start.at c) (omega (arith, lt, is))))
 
--- one that comes too late is told alone, and answered so
+-- one that comes too late is reported alone, and answered so
 pub too_late : {R A : Type 0} (stream : R → Stream) (node : Node R A) (x y : List (ℕ × Out A)) (now : ℕ) (event : events.Event) (out : Out A) → happening out ≡ TooLate node.last → now < node.last
     → y ≡ x ++ (now, out) ∷ [] → Leads stream node node x y (FollowsBy now event (answers.Past node.last))
 too_late stream node x y now event out out_is lt told = record {

@@ -33,7 +33,7 @@ use Rattle.nd_node.specs.NodeKept.{Stands}
 use Rattle.nd_node.specs.RouterAdvertisement.{advertised, TakesAdvertisement}
 use Rattle.nd_node.specs.Frame.{AddsAlone}
 
--- one is handed out, which is told as this
+-- one is reported, which is reported as this
 pub tells_one : {A : Type 0} (c : Chronicle) (now : ℕ) (told_is what : Happening) (x y : List (ℕ × Out A)) (out : Out A) → happening out ≡ told_is → items_at (now, what) ≡ items_at (now, told_is) → y ≡ x ++ (now, out) ∷ []
     → Tells c ((now, what) ∷ (now, Passed) ∷ c) x y
 tells_one c now told_is what x y out out_is same is = record {

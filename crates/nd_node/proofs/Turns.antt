@@ -98,7 +98,7 @@ solicitation_date stream start node c s =
     ∙ (ap (λ n. date_by start.role (assigned_at (link_local_key start) (address_history c)) n node.solicitations.heard) s.solicitations.sent
     ∙ ap (λ h. date_by start.role (assigned_at (link_local_key start) (address_history c)) (solicited_routers c) h) s.solicitations.heard))
 
--- what falls due for an address makes none due in the past
+-- what is due for an address makes none due in the past
 pub addressed_later : (role : Role) (link_local now : ℕ) (falls : addresses_due.Falls) (s : Solicitations) → NotBefore now (next_solicitation role s) → NotBefore now (next_solicitation role (after_address link_local now falls s))
 addressed_later role link_local now (addresses_due.Ends key) s h = h
 addressed_later role link_local now (addresses_due.Solicits key) s h = h
@@ -226,7 +226,7 @@ module _ {R A : Type 0} (stream : R → Stream) (start : Start) (old new : Node 
       (all_later new now later (rw addresses' (addresses_before old now not_past)) (rw neighbours' (neighbours_before old now not_past)) (rw (turns.role, solicitations') (solicitation_before old now not_past))
       (rw (turns.role, side) (advertisement_before old now not_past)) (rw params' (redraw_before old now not_past)))
 
-  -- an own address ended, or its detection took a step
+  -- one of the node's addresses ended, or its detection took a step
   address_row : (falls : addresses_due.Falls) → new.routers ≡ old.routers → new.choice.redirects ≡ old.choice.redirects → Recalls now new
       → addresses.GainsRow old.addresses.addresses new.addresses.addresses (addresses_due.due_row now falls) → address_dates.NoneBefore new.addresses.addresses now
       → new.neighbours ≡ old.neighbours → new.params ≡ old.params → new.solicitations ≡ after_address (link_local_key start) now falls old.solicitations → NotesAddress (link_local_key start) now falls old.router new.router → stream new.generator ≡ stream old.generator
@@ -246,7 +246,7 @@ module _ {R A : Type 0} (stream : R → Stream) (start : Start) (old new : Node 
       (all_later new now (rw routers' (routers_before old now not_past)) later (rw neighbours' (neighbours_before old now not_past))
       (rw (turns.role, solicitations') (addressed_later old.role (link_local_key start) now falls old.solicitations (solicitation_before old now not_past))) (rw turns.role side.1) (rw params' (redraw_before old now not_past)))
 
-  -- a step of a detection leaves the address an own one
+  -- a step of a detection leaves the address one of the node's own
   detects : (falls : addresses_due.Falls) → ends falls ≡ false → (history : List address_rows.Row) → (k : ℕ) → counts Own (address_rows.story k (addresses_due.due_row now falls ∷ history)) ≡ counts Own (address_rows.story k history)
   detects (addresses_due.Ends key) e history = let never : ⊥ = cc in absurd never
   detects (addresses_due.Solicits key) e history = own_row now key address_rows.Solicited history refl (λ st. refl) (λ st. refl)

@@ -33,7 +33,7 @@ use Rattle.nd_node.specs.Node.{NextDue}
 use Rattle.nd_node.specs.NodeKept.{Stands}
 use Rattle.nd_node.specs.Time.{Leads, Advances, Comes, Passes, Onward}
 
--- the newest moment is that of what fell due
+-- the newest moment is that of what was due
 pub last_of : (start : Start) (c : Chronicle) (at : ℕ) (what : What) → Due start c at (Some what) → last_moment start.at (comes start at what c) ≡ at
 last_of start c at (RouterEnds key) due = refl
 last_of start c at (AddressFalls (addresses.Ends key)) due = refl
@@ -64,7 +64,7 @@ made_after start c now mac own tables mac_is own_is s =
     ∙ ap (option_map (router_advertisement_frame start.mac (link_local start)))
     (contents_are start.mac tables.advertiser (advertising_history start (comes start now RouterAdvertises c)) s ∙ still_advertised start c now (advertised_by_history (advertising_history start c))))
 
--- with the Router Advertisement that is sent where one is due, what is told is that of the chronicle
+-- with the Router Advertisement that is sent where one is due, what is reported is that of the chronicle
 told_of_due : {A : Type 0} (start : Start) (c : Chronicle) (now : ℕ) (mac : Mac) (own : Addr) (tables : RouterTables A) (what : What) → mac ≡ start.mac → own ≡ link_local start
     → advertising.Stands tables.advertiser (advertising_history start (comes start now what c))
     → told_of mac own (advertised_by (frame_in mac own tables)) what ≡ told_of start.mac (link_local start) (advertised start c) what

@@ -60,7 +60,7 @@ use Rattle.nd_node.proofs.Quiet.{refused_is_quiet}
 use Rattle.nd_node.proofs.Steps.{passed}
 use Rattle.nd_node.proofs.Turns.{neighbours_before}
 
--- a path that is told concerns no table
+-- a path that is reported concerns no table
 pub path_is_quiet : (now : ℕ) (destination : Addr) (way : Way) → IsQuiet now (Path destination way)
 path_is_quiet now destination way c is = record {
   parameters = refl;
@@ -77,9 +77,9 @@ path_is_quiet now destination way c is = record {
   last = λ start. sym (is start);
 }
 
--- ---- what is told
+-- ---- what is reported
 
--- two rows that are told, and rows that aren't around the first
+-- two rows that are reported, and rows that aren't around the first
 two_told : {A : Type 0} (t u a b : List A) → u ≡ t → (((u ++ []) ++ a) ++ []) ++ b ≡ t ++ (a ++ (b ++ []))
 two_told t u a b same =
     ap (λ l. l ++ b) (append-nil ((u ++ []) ++ a) ∙ ap (λ l. l ++ a) (append-nil u ∙ same))
@@ -142,7 +142,7 @@ module _ {R A : Type 0} (stream : R → Stream) (start : Start) (destination : A
 
 module _ {R A : Type 0} (stream : R → Stream) (old new : Node R A) (x y : List (ℕ × Out A)) (now : ℕ) (destination : Addr) (key retrans room : ℕ) (still : NoneOverdueStill) (table : OverdueByTable) (one_is_pushed : OneGoes)
     (last : old.last ≡ now) (same : Same old new) (is : new.addresses ≡ old.addresses) (may : MayRemember old.choice new.choice old.neighbours.entries new.neighbours.entries) where
-  -- the neighbour is wanted, and the path is told
+  -- the neighbour is wanted, and the path is reported
   pub wish_leads : retrans ≡ old.params.retrans_timer → room ≡ old.neighbours.waiting
       → GainsWish old.neighbours.limit now key retrans room old.neighbours.entries new.neighbours.entries
       → (mac : Mac) → mac ≡ old.mac → (own : Addr) → own ≡ addr_at (link_local_of old.addresses.mac)
@@ -217,7 +217,7 @@ answer_alone stream old new x y now destination (resolutions.Refused refusal) se
 -- ---- of a neighbour
 
 module _ {R A : Type 0} (stream : R → Stream) (old new : Node R A) (x y : List (ℕ × Out A)) (now : ℕ) (destination : Addr) (key : ℕ) (settled : now < next_of old) where
-  -- it has no place
+  -- it has no room
   pub wish_refused_full : FullByHistory → has_room old.neighbours.limit now key None old.neighbours.entries ≡ false → AddsAlone stream old new x y now (Refused (Full Neighbours))
       → AddsWish stream old new x y now destination key (answers.Refused (Full Neighbours))
   wish_refused_full law room adds = record {
@@ -232,7 +232,7 @@ module _ {R A : Type 0} (stream : R → Stream) (old new : Node R A) (x y : List
         );
   }
 
-  -- it has place
+  -- it has room
   pub wish_taken : (mid : Node R A) (room : List (ℕ × Out A)) → Keeps (record old { last = now }) mid → room ≡ x → RoomIsPlace → FullByHistory
       → has_room old.neighbours.limit now key None old.neighbours.entries ≡ true → Leads stream mid new room y (WishTold now destination key)
       → AddsWish stream old new x y now destination key answers.Done

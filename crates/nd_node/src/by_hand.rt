@@ -1,6 +1,6 @@
 //! Addresses that are given by hand, and withdrawn (RFC 4862, section 5.4).
 
-ghost use Rattle.std.specs.Prelude.{◌≡◌, ◌<◌, ◌≤◌, IfOk, IsOk, OnErr, vec_capacity, vec_len};
+ghost use Rattle.std.specs.Prelude.{◌≡◌, ◌<◌, IfOk, IsOk, OnErr, vec_capacity, vec_len};
 ghost use Rattle.nd_table.specs.Moment.{IsMoment};
 ghost use Rattle.nd_chronicle.specs.Event as events;
 ghost use Rattle.nd_node.specs.Answer.{answer_of};

@@ -1,4 +1,4 @@
--- The dates that are kept beside the routers, where one of these comes, goes or is refreshed.
+-- The dates that are kept besides the routers, where one of these comes, goes or is refreshed.
 use Rattle.std.proofs.Common.{get_or, drop, suc, ◌≡◌, ℕ, ◌<◌, ◌≤◌, true, cond, eqb, List, [], ◌∷◌, ◌++◌, length, Option, Some, None, refl, sym, ◌∙◌, ap, subst, arith, inl, inr, ◌⊎◌}
 use Rattle.std.specs.Prelude.{slice_get, IfSome, IfNone, is_some, map, option_and_then, nat_le}
 use Rattle.std.proofs.Math.Seq.{drop-cons}

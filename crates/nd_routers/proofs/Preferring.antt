@@ -1,13 +1,13 @@
 -- The preferences of the routers of a list, where one of these comes, goes or is refreshed.
-use Rattle.std.proofs.Common.{◌≡◌, ℕ, ◌<◌, ◌≤◌, Bool, true, false, cond, eqb, List, [], ◌∷◌, ◌++◌, length, map, Option, Some, None, refl, sym, ◌∙◌, ap, arith, inl, inr}
-use Rattle.std.specs.Prelude.{is_some, filter, not, ◌&&◌}
+use Rattle.std.proofs.Common.{◌≡◌, ℕ, ◌<◌, ◌≤◌, Bool, true, false, cond, eqb, List, [], ◌∷◌, ◌++◌, length, map, Option, Some, refl, sym, ◌∙◌, ap, arith, inl, inr}
+use Rattle.std.specs.Prelude.{is_some, not, ◌&&◌}
 use Rattle.std.proofs.lemmas.Bool.{cases_Bool, cond-true, cond-false, eqb-true, eq-eqb}
 use Rattle.std.proofs.lemmas.Bool.Decides.{nat_tests, eqb_tells}
 use Rattle.nd_addr.specs.declared.preference.Preference.{Preference}
 use Rattle.nd_table.specs.declared.lasting.Lasting.{Lasting}
 use Rattle.nd_table.specs.Listing.{announced, end_in, renewed, told, without}
 use Rattle.nd_table.proofs.Behind.{open_all}
-use Rattle.nd_table.proofs.Finding.{Has, Has-head, Has-tail, end_in-filter-none, one_longer}
+use Rattle.nd_table.proofs.Finding.{one_longer}
 use Rattle.nd_table.specs.Ends.{end_time}
 use Rattle.nd_routers.specs.declared.preferred.Preferred.{Preferred}
 use Rattle.nd_routers.specs.History.{RouterRow, Heard, preference_of}
@@ -174,24 +174,6 @@ found_among f key (e ∷ es) h = elim (cases_Bool (eqb e.key key)) [
       cond-false (eqb e.key key) (f e.key) (preference_among key (paired f es)) behind
       ∙ found_among f key es (sym (ap (λ (o : Option (Option ℕ)). is_some o) (cond-false (eqb e.key key) (Some e.end) (end_in same key es) behind)) ∙ h)
 ]
-
--- the routers of a part of the list are told with the preferences of the history
-pub by_preferences : {X : Type 0} (f : ℕ → Preference) (told_as : Lasting ℕ → Preference → X) (all es : List (Lasting ℕ)) → ((k : ℕ) → Has same eqb_tells es k → Has same eqb_tells all k)
-    → map (λ (e : Lasting ℕ). told_as e (preference_among e.key (paired f all))) es ≡ map (λ (e : Lasting ℕ). told_as e (f e.key)) es
-by_preferences f told_as all [] within = refl
-by_preferences f told_as all (e ∷ es) within =
-    ap (λ (p : Preference). told_as e p ∷ map (λ (x : Lasting ℕ). told_as x (preference_among x.key (paired f all))) es) (found_among f e.key all (within e.key (Has-head same eqb_tells e es)))
-    ∙ ap (λ l. told_as e (f e.key) ∷ l) (by_preferences f told_as all es (λ k h. within k (Has-tail same eqb_tells e es k h)))
-
--- those that are left of a list are in it
-pub within_filter : (p : Lasting ℕ → Bool) (es : List (Lasting ℕ)) (k : ℕ) → Has same eqb_tells (filter p es) k → Has same eqb_tells es k
-within_filter p es k h = by (end_in same k es) refl
-  where
-    by : (o : Option (Option ℕ)) → end_in same k es ≡ o → is_some (end_in same k es) ≡ true
-    by (Some end) is = ap (λ (x : Option (Option ℕ)). is_some x) is
-    by None is =
-        let none : is_some (end_in same k (filter p es)) ≡ false = ap (λ (x : Option (Option ℕ)). is_some x) (end_in-filter-none same eqb_tells p k es is) in
-        let never : ⊥ = cc in absurd never
 
 -- ---- a router that says again what it said
 

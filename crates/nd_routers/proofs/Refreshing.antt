@@ -1,4 +1,4 @@
--- Prefixes that are refreshed: what is on the link is told by them alone.
+-- Prefixes that are refreshed: what is on the link is determined by them alone.
 use Rattle.std.proofs.Common.{◌≡◌, ℕ, Bool, List, [], ◌∷◌, refl, sym, ◌∙◌, ap}
 use Rattle.std.specs.Prelude.{◌||◌}
 use Rattle.std.specs.List.{list_any}

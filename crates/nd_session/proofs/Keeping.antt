@@ -1,4 +1,4 @@
--- What keeps a session ready: room that is in hand stays, and a frame stays in the queue until it is taken.
+-- What keeps a session ready: room that is in reserve stays, and a frame stays in the queue until it is taken.
 use Rattle.std.proofs.Common.{◌≡◌, ◌≤◌, ℕ, List, [], ◌∷◌, ◌++◌, append-nil, append_assoc, drop, reverse, Option, Some, Ok, Err, arith, refl, sym, ◌∙◌, ap, subst, inl, inr, ⊎_elim}
 use Rattle.std.specs.Prelude.{◌⊎◌, IfOk, IsSomeAnd, OnErr, Result, is_none, slice_get, true, false}
 use Rattle.std.proofs.lemmas.List.{map-append, reverse-reverse}

@@ -92,7 +92,7 @@ module _ (node : Node Source Global) (now : ℕ) (destination to : Addr) (mac : 
             (subst (λ (o : Option ℕ). LeftGoesOn now t o (left_kept node t destination)) (sym left_is) (left_lasts node now t destination from (subst (λ (q : PathSeen). t < q.until) is until))),
       )
 
-  -- it is remembered beside the others
+  -- it is remembered besides the others
   pub remembers_one : (old new : Slots) → new.version ≡ old.version
       → ((q : LeasedPath) → Contains new.paths q → Contains old.paths q ⊎ (q ≡ record { destination = destination; to = to; mac = mac; state = state; reachable_until = end; from = now; until = p.until; version = old.version }))
       → AreRemembered old node → AreRemembered new node

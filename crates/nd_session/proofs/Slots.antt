@@ -1,5 +1,5 @@
 -- What the slots hold when one is written.
-use Rattle.std.proofs.Common.{◌≡◌, ◌≢◌, ◌<◌, ℕ, false, eqb, List, Contains, length, set, refl, sym, ◌∙◌, subst, inl, inr}
+use Rattle.std.proofs.Common.{◌≡◌, ◌≢◌, ◌<◌, ℕ, false, eqb, List, Contains, length, set, sym, ◌∙◌, subst, inl, inr}
 use Rattle.std.specs.Prelude.{◌⊎◌}
 use Rattle.std.proofs.lemmas.Bool.{cases_Bool, eq-eqb, eqb-true, true≢false}
 use Rattle.std.proofs.lemmas.Grind.{get_or-set_at}
@@ -14,7 +14,3 @@ there_or_written xs i y p lt (k, within, is) = elim (cases_Bool (eqb k i)) [
   | inl same ↦ inr (sym is ∙ get_or-set_at xs i k y p (eqb-true k i same) lt)
   | inr other ↦ inl (k, subst (λ (n : ℕ). k < n) (length-set xs i y) within, sym (get_or-set_other xs i k y p (told_apart k i other)) ∙ is)
 ]
-
--- what was written is there
-pub written_there : {X : Type 0} (xs : List X) (i : ℕ) (y : X) → i < length xs → Contains (set xs i y) y
-written_there xs i y lt = (i, subst (λ (n : ℕ). i < n) (sym (length-set xs i y)) lt, get_or-set_at xs i i y y refl lt)

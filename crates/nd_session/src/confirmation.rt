@@ -1,7 +1,7 @@
 //! A sign that packets to a destination arrive, which confirms the neighbour that they go to (RFC 4861, section 7.3.1). The definitions are in
 //! `specs/Confirmation.antt`.
 
-ghost use Rattle.std.specs.Prelude.{◌≡◌, ◌+◌, ◌<◌, ◌≤◌, ◌∷◌, ℕ, List, IfOk, Ok, true};
+ghost use Rattle.std.specs.Prelude.{◌≡◌, ◌+◌, ◌<◌, ◌≤◌, ◌∷◌, ℕ, List, Ok, true};
 ghost use Rattle.nd_addr.specs.Number.{number_of};
 ghost use Rattle.nd_neighbour.specs.LeaseKept.{outlasts};
 ghost use Rattle.nd_neighbour.specs.TableKept.{entry_in};

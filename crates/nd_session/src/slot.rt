@@ -1,6 +1,6 @@
 //! The place in which a program in another language keeps a session.
 
-ghost use Rattle.std.specs.Prelude.{◌≡◌, Option, None, Some, IsNone, is_some};
+ghost use Rattle.std.specs.Prelude.{◌≡◌, None, Some, IsNone, is_some};
 ghost use Rattle.nd_session.specs.Boxed.{session_in};
 
 use crate::handle::Handle;

@@ -3,7 +3,6 @@ use Rattle.std.proofs.Common.{◌≡◌, ℕ, ◌+◌, ◌*◌, ◌/◌, ◌<◌
 use Rattle.std.specs.Prelude.{is_some, ◌&&◌, ◌||◌, not, IsOk, IfSome, Result, Ok, Err}
 use Rattle.std.proofs.lemmas.Bool.Decides.{nat_tests}
 use Rattle.std.proofs.lemmas.Bool.{true≢false, cond-true, cond-false, cases_Bool, and_parts}
-use Rattle.std.proofs.Math.Bool.{or-false}
 use Rattle.std.proofs.lemmas.List.{length-append}
 use Rattle.std.proofs.lemmas.List.Folds.{list_any-append}
 use Rattle.nd_addr.specs.declared.addr.Addr.{Addr}
@@ -237,9 +236,6 @@ pub record Comes (limit : ℕ) (mac : Mac) (known : List ℕ) (formed : List Add
   pub among : (key : ℕ) → is_among key keys ≡ (is_among key known || is_listed key formed)
   pub long : length keys ≡ length known + length formed
   pub decides : fits_in limit mac keys rest ≡ fit
-
-pub comes_first : (limit : ℕ) (mac : Mac) (known : List ℕ) (infos : List PrefixInfo) → Comes limit mac known [] infos (fits_in limit mac known infos)
-comes_first limit mac known infos = record { keys = known; among = λ key. sym (or-false (is_among key known)); long = omega arith; decides = refl }
 
 module _ (limit : ℕ) (mac : Mac) (known : List ℕ) (formed : List Addr) (rest : List PrefixInfo) (info : PrefixInfo) (more : List PrefixInfo) (fit : Bool) (is : rest ≡ info ∷ more) (c : Comes limit mac known formed rest fit) where
   forms_is : would_form mac c.keys info ≡ is_new mac known formed info

@@ -95,7 +95,7 @@ module _ (transmits : ℕ) where
         let k = step_kept key (story key history) moment step in
         (made key k.0 (story key history), s.each key ∙ formed_is key (story key history) k.0 k.1, k.2)
 
-    -- what falls due by the history falls due in the table
+    -- what is due by the history is due in the table
     due_address : (moment : ℕ) (falls : Falls) → IsDue transmits history moment falls → (a : Address) × (address_in (key_in falls) xs ≡ Some a) × (date_of falls a ≡ Some moment)
     due_address moment (Ends key) due =
         let f = known_forming (story key history) due.0 in

@@ -11,7 +11,7 @@ at_most_end n a e = AtMost-left (end_date a) (next_step a) n (AtMost-same (end_d
 pub at_most_step : (n : ℕ) (a : Address) → next_step a ≡ Some n → AtMost (earlier a) n
 at_most_step n a e = AtMost-right (end_date a) (next_step a) n (AtMost-same (next_step a) n e)
 
--- where the least date is now, something falls due now
+-- where the least date is now, something is due now
 pub next_not_now : (now : ℕ) (xs : List Address) → next_in xs ≡ Some now → first_at end_date now xs ≡ None → first_at next_step now xs ≡ None → ⊥
 next_not_now now [] h ends steps = cc
 next_not_now now (x ∷ xs) h ends steps =

@@ -1,4 +1,4 @@
--- Nothing that happens to an own address falls due in the past.
+-- Nothing that happens to one of the node's addresses is due in the past.
 use Rattle.std.proofs.Common.{◌≡◌, ℕ, ◌+◌, ◌*◌, ◌≤◌, true, false, cond, eqb, ltb, List, [], ◌∷◌, Option, Some, None, refl, sym, arith, ⊎_elim}
 use Rattle.std.specs.Prelude.{max}
 use Rattle.std.proofs.lemmas.Bool.{true≢false, cond_both, cases_lt}
@@ -14,7 +14,7 @@ use Rattle.nd_slaac.specs.Due.{Falls, Ends, Solicits, Assigns, IsStep, date_by, 
 use Rattle.nd_slaac.specs.Dates.{next_in, NoneBefore}
 use Rattle.nd_slaac.proofs.Dues.{next_is_due, tentative_parts}
 
--- what falls due for one address, by its story, was not due before the moment
+-- what is due for one address, by its story, was not due before the moment
 record NoneLate (s : Story) (now : ℕ) : Type 0 where
   ends : (moment : ℕ) → is_known s ≡ true → valid_end s ≡ Some moment → now ≤ moment
   steps : (moment : ℕ) → IsStep s moment → now ≤ moment
@@ -35,7 +35,7 @@ module _ (now : ℕ) (s : Story) (late : NoneLate s now) where
       let l : now ≤ step_at f sent = le (step_at f sent) refl in
       omega (arith, e, l)
 
-  -- whatever happens now, what falls due for the address doesn't fall due before now
+  -- in all cases now, what is due for the address isn't due before now
   story_later : (kind : RowKind) → is_end kind ≡ false → NoneLate ((now, kind) ∷ s) now
   story_later (Formed delay retrans None) e = record {
     ends = λ moment known is. let no : ⊥ = cc in absurd no;
@@ -87,7 +87,7 @@ module _ (transmits : ℕ) where
       (λ _. cond_both (is_end kind) [] ((now, kind) ∷ story k history) (λ (s : Story). NoneLate s now) (λ _. late_none now) (λ e. story_later now (story k history) (late_in history now k none) kind e))
       (λ _. late_in history now k none)
 
-  -- what happens now makes nothing fall due in the past
+  -- what happens now makes nothing due in the past
   pub still_none : (history : List Row) (now key : ℕ) (kind : RowKind) → NoneOverdue transmits history now → NoneOverdue transmits ((now, key, kind) ∷ history) now
   still_none history now key kind none = record { none = λ moment falls due. by_late falls moment due }
     where

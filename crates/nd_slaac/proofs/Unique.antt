@@ -1,4 +1,4 @@
--- One table stands for the history, options fit or not, and one thing falls due first.
+-- One table stands for the history, options fit or not, and one thing is due first.
 use Rattle.std.proofs.Common.{◌≡◌, ℕ, Bool, List, Option, Some, None, refl, sym, ◌∙◌, ap, arith, inl, inr}
 use Rattle.nd_table.proofs.Unique.{one_list}
 use Rattle.nd_slaac.specs.History.{Row, story}

@@ -1,4 +1,4 @@
--- The steps of a Neighbor Advertisement: an address that another node has, and a router that is none any more.
+-- The steps of a Neighbor Advertisement: an address that another node has, and a router that is no longer one.
 use Rattle.std.proofs.Common.{◌≡◌, ℕ, Bool, true, List, [], ◌∷◌, ◌++◌, sym, ◌∙◌, ap}
 use Rattle.std.specs.Prelude.{◌&&◌}
 use Rattle.nd_table.specs.Announcements.{stands}

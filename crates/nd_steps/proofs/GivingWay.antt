@@ -1,5 +1,5 @@
 -- Whether there is room for a neighbour that speaks, and what is remembered where one gave way.
-use Rattle.std.proofs.Common.{◌≡◌, ℕ, ◌+◌, ◌≤◌, Bool, true, false, List, [], ◌∷◌, ◌++◌, Option, Some, None, append_assoc, refl, sym, ◌∙◌, ap, subst, arith, inl, inr}
+use Rattle.std.proofs.Common.{◌≡◌, ℕ, ◌+◌, Bool, true, false, List, [], ◌∷◌, ◌++◌, Option, Some, None, append_assoc, refl, sym, ◌∙◌, ap, subst, inl}
 use Rattle.std.specs.Prelude.{◌↔◌, ◌==◌, ◌&&◌, if◌then◌else◌, IfNone, IfSome, MatchBool}
 use Rattle.std.proofs.lemmas.Bool.{eq-eqb, eqb-true, true≢false}
 use Rattle.std.proofs.lemmas.List.{map-append}
@@ -30,7 +30,7 @@ use Rattle.nd_chronicle.specs.Packet.{HasPlace}
 use Rattle.nd_out.specs.declared.out.Out.{Out}
 use Rattle.nd_steps.specs.DestinationCache.{AsListed, Forgets, Keeps, MayRemember, Recollects}
 use Rattle.nd_steps.specs.GivingWay.{HearsGiver, MakesWay, PlacedByWay, WayBy, told_of_way}
-use Rattle.nd_steps.specs.NeighbourCache.{HasRoomFor, HearsOf, PlacedBy, PreparesFor, released_rows, said_by, told_for}
+use Rattle.nd_steps.specs.NeighbourCache.{HearsOf, PreparesFor, released_rows, said_by}
 use Rattle.nd_steps.specs.Outputs.{at_moment, happenings}
 use Rattle.nd_steps.proofs.Failing.{with_failed}
 use Rattle.nd_steps.proofs.Saying.{NoneOverdueStill, OneGoes, OverdueByTable, made_later, pushed_later, said_later}
@@ -48,9 +48,6 @@ module _ (start : Start) (c : Chronicle) (now : ℕ) where
   by_way : (key : ℕ) (way place : Bool) → way ≡ true → HasWay start c now key true place → Placed start c now way (Some (key, true)) place
   by_way key way place is h = rw is h
 
-  by_none : (key : ℕ) (way place : Bool) → way ≡ false → HasPlace start c now key true place → Placed start c now way (Some (key, true)) place
-  by_none key way place is h = rw is h
-
   -- one that doesn't enter has room
   not_entering : (key : ℕ) (place : Bool) (P : Type 0) → MatchBool place (false ≡ true → P → ⊥) ((false ≡ true) × P) → HasPlace start c now key false place
   not_entering key true P h = λ e. absurd (let never : ⊥ = cc in never)
@@ -61,12 +58,6 @@ module _ (start : Start) (c : Chronicle) (now : ℕ) where
   placed_by_way (news.Given addr mac mark) times place speakers h = by_way _ start.policies.speakers place speakers h
   placed_by_way (news.Advert addr flags mac) times place speakers h = not_entering _ place _ h
   placed_by_way (news.Marked addr router) times place speakers h = not_entering _ place _ h
-
-  pub placed_by_none : (n : News) (times : Times) (place : Bool) → start.policies.speakers ≡ false → PlacedBy start.limits.neighbours now n (neighbour_history c) place
-      → Placed start c now (makes_way start (Some (said_by times n))) (entering (Some (said_by times n))) place
-  placed_by_none (news.Given addr mac mark) times place speakers h = by_none _ start.policies.speakers place speakers h
-  placed_by_none (news.Advert addr flags mac) times place speakers h = h
-  placed_by_none (news.Marked addr router) times place speakers h = h
 
 -- who gives way to a neighbour whose address is given
 pub way_given : (limit now : ℕ) (addr : Addr) (mac : Mac) (mark : Option Bool) (n : News) (times : Times) → n ≡ news.Given addr mac mark → (history : List Row) (gone : Option ℕ)
@@ -112,11 +103,6 @@ hears_giver speakers limit now said old mid new x y z gone ends makes hears = re
             ∙ ap (λ l. happenings x ++ l) (sym (map-append (λ h. (now, h)) (told_of_way gone history) (released_rows now said (pushing now gone history)))))),
       );
 }
-
--- there is room for what is released behind what is reported of one that gave way
-pub room_behind : (count way between room : ℕ) (news : Option News) (old mid : List NeighbourEntry) → HasRoomFor (count + way) room news old → between ≤ count + way → told_for news mid ≤ told_for news old → HasRoomFor between room news mid
-room_behind count way between room news old mid (inl fits) le fewer = inl (omega (arith, fits, le, fewer))
-room_behind count way between room news old mid (inr fits) le fewer = inr (omega (arith, fits, le))
 
 -- ---- the one that gave way is gone
 

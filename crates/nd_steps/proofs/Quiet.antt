@@ -1,4 +1,4 @@
--- What concerns no table: frames that are sent, packets that are lost, an address that is told.
+-- What concerns no table: frames that are sent, packets that are lost, an address that is reported.
 use Rattle.std.proofs.Common.{◌≡◌, ℕ, List, [], ◌∷◌, refl, sym, ◌∙◌}
 use Rattle.nd_chronicle.specs.Start.{Start}
 use Rattle.nd_chronicle.specs.Happening.{Chronicle, Lost, Loss, Resolved, Sent, last_moment}

@@ -1,4 +1,4 @@
--- The text of a chronicle and the frames that were sent are read off what is told of it.
+-- The text of a chronicle and the frames that were sent are read off what is reported of it.
 use Rattle.std.proofs.Common.{◌≡◌, ℕ, List, [], ◌∷◌, ◌++◌, map, refl, sym, ◌∙◌, ap}
 use Rattle.std.proofs.lemmas.Grind.{flat_map-append}
 use Rattle.std.specs.List.{flat_map}
@@ -39,7 +39,7 @@ row_lines at (Heard source destination message) = refl
 row_lines at (Lost why packet) = refl
 row_lines at what = words_lines at (told_of what)
 
--- what is handed out is told at the end of the text
+-- what is reported is reported at the end of the text
 pub Tells-text : {A : Type 0} (c d : Chronicle) (x y : List (ℕ × Out A)) (t : Tells c d x y) → text d ≡ text c ++ flat_map lines_of t.newer
 Tells-text c d x y t = of_newer line_of lines_of row_lines text refl (λ row c. refl) c d x y t
 
@@ -62,6 +62,6 @@ row_frames at (Heard source destination message) = refl
 row_frames at (Lost why packet) = refl
 row_frames at what = words_send at (told_of what)
 
--- what is handed out holds the frames that were sent, and no other
+-- what is reported holds the frames that were sent, and no other
 pub Tells-frames : {A : Type 0} (c d : Chronicle) (x y : List (ℕ × Out A)) (t : Tells c d x y) → sent_in d ≡ sent_in c ++ frames_in t.newer
 Tells-frames c d x y t = of_newer frame_at (λ row. frame_sent row.1) row_frames sent_in refl (λ row c. refl) c d x y t

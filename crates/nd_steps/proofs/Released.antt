@@ -42,7 +42,7 @@ sent_to_given known packets mac is (inl e) =
 sent_to_given known packets mac is (inr e) =
     ap (λ (m : Mac). map (λ packet. Sent (addressed m packet)) packets) (sym is) ∙ ap (λ (k : Option ℕ). sent_if_known k packets) (sym e)
 
--- the address for which a caller waits is told where it is the given one, and else nothing is
+-- the address for which a caller waits is reported where it is the given one, and else nothing is
 told_to_given : (key mac : ℕ) (known : Option ℕ) (awaited : Bool) → (awaited ≡ true → known ≡ Some mac) → (if awaited then Resolved key mac ∷ [] else []) ≡ told_if_known key known awaited
 told_to_given key mac None true h = let e = h refl in absurd (cc)
 told_to_given key mac (Some k) true h = let e = h refl in let same : k ≡ mac = cc in ap (λ (m : ℕ). Resolved key m ∷ []) (sym same)
@@ -72,7 +72,7 @@ module _ {A : Type 0} (limit now : ℕ) (n : News) (times : Times) (old new : Li
     (gains : GainsNews limit now n times old new) (tells : Tells now (news_key n) (news_row n times) old packets ends awaited)
     (law : (s : Story) → (released_by now (news_row n times) s ≡ []) ⊎ (mac_of ((now, news_row n times) ∷ s) ≡ option_map number (mac_given n)))
     (told_law : Awaits now n times) where
-  -- whatever the rows are that are told
+  -- whatever the rows are that are reported
   hears : ((history : List Row) → Stands old history → happenings y ≡ happenings x ++ at_moment now (released_rows now (Some (said_by times n)) history))
       → HearsOf limit now (Some (said_by times n)) old new x y ends
   hears told = record {

@@ -75,7 +75,7 @@ candidates_same old new table same = by (routers.keys table.entries)
         ap (λ (u : Bool). record { key = key; usable = u; preference = preference_among key table.preferences; failed = place_among key table.failed } ∷ map (λ k. candidate_in new table k) keys) (same key)
         ∙ ap (λ (l : List DefaultRouter). candidate_in old table key ∷ l) (by keys)
 
--- a next hop asks only whether the destination itself is an own address
+-- a next hop asks only whether the destination itself is one of the node's addresses
 pub hop_by_own : (own other linked : List ℕ → Bool) (candidates : List DefaultRouter) (redirect : Option ℕ) (address : List ℕ) → own address ≡ other address
     → hop own linked candidates redirect address ≡ hop other linked candidates redirect address
 hop_by_own own other linked candidates redirect address is = rw is refl

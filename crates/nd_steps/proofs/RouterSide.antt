@@ -79,9 +79,9 @@ later_row start role old new c d now row is role_is more s t h =
     rw (advertisement_date start role new d role_is t, more) (still_not_before start.role now (advertising_history start c) row is
     (subst (λ (date : Option ℕ). NotBefore now date) (advertisement_date start role old c role_is s) h))
 
--- ---- an own address
+-- ---- one of the node's addresses
 
--- what fell due for one is noted as the chronicle has it
+-- what was due for one is noted as the chronicle has it
 pub stands_address : {A : Type 0} (start : Start) (role : Role) (old new : RouterTables A) (c : Chronicle) (now : ℕ) (falls : Falls) → role ≡ start.role → NotesAddress (link_local_key start) now falls old new
     → Stands start old c → NotBefore now (next_advertisement role old)
     → Stands start new ((now, Address (key_in falls) (happens falls)) ∷ c) × NotBefore now (next_advertisement role new)

@@ -1,4 +1,4 @@
--- What is said of a neighbour, in the chronicle: what makes place for it, and what is released.
+-- What is said of a neighbour, in the chronicle: what makes room for it, and what is released.
 use Rattle.std.proofs.Common.{◌≡◌, ◌↔◌, ℕ, Bool, true, false, List, [], ◌∷◌, ◌++◌, map, Option, Some, None, append-nil, append_assoc, refl, sym, ◌∙◌, ap, subst, arith}
 use Rattle.std.specs.Prelude.{◌&&◌, ◌==◌, not, MatchBool, if◌then◌else◌}
 use Rattle.std.specs.List.{flat_map}
@@ -27,7 +27,7 @@ use Rattle.nd_steps.proofs.Quiet.{Quiet, quiet_same, quiet_then, resolved_is_qui
 use Rattle.std.proofs.lemmas.Grind.{flat_map-append}
 use Rattle.std.proofs.lemmas.List.{map-append}
 
--- ---- what makes place
+-- ---- what makes room
 
 no_and_yes : (b : Bool) → b ≡ true → (e : Bool) → (e && not b) ≡ true → ⊥
 no_and_yes true is true h = let no : ⊥ = cc in no
@@ -48,17 +48,17 @@ module _ (limit now key : ℕ) (enters : Bool) (history made : List Row) where
   kept_by true absent (Pushed entries k those many longest is) = ap (λ (h : List Row). story key h) is ∙ gone_is_other k longest.stale.0 absent
   kept_by false absent is = ap (λ (h : List Row). story key h) is
 
-  -- the story of a neighbour is the same behind what makes place for it
+  -- the story of a neighbour is the same behind what makes room for it
   pub story_kept : Prepares limit now enters key history made → story key made ≡ story key history
   story_kept h = kept_by (enters && not (is_present (story key history))) refl h
 
--- what is released is the same behind what makes place
+-- what is released is the same behind what makes room
 pub released_kept : (limit now : ℕ) (said : Option (ℕ × RowKind)) (history made : List Row) → PreparesFor limit now said history made → released_rows now said made ≡ released_rows now said history
 released_kept limit now None history made is = refl
 released_kept limit now (Some said) history made place =
     ap (λ s. sent_if_known (mac_of ((now, said.1) ∷ s)) (released_by now said.1 s) ++ told_if_known said.0 (mac_of ((now, said.1) ∷ s)) (is_awaited s)) (story_kept limit now said.0 (lets_enter said.1) history made place)
 
--- a neighbour that may be pushed out concerns no other table, and isn't told
+-- a neighbour that may be evicted concerns no other table, and isn't reported
 pub record Others (c d : Chronicle) : Type 0 where
   pub parameters : parameter_history d ≡ parameter_history c
   pub routers : router_history d ≡ router_history c
@@ -243,7 +243,7 @@ telling_if_known_items at key (Some mac) false c = sym (append-nil (items c))
 pub items_of_both : (at : ℕ) (a b : List Happening) → flat_map items_at (at_moment at (a ++ b)) ≡ flat_map items_at (at_moment at a) ++ flat_map items_at (at_moment at b)
 items_of_both at a b = ap (flat_map items_at) (map-append (λ h. (at, h)) a b) ∙ flat_map-append items_at (at_moment at a) (at_moment at b)
 
--- and is told by its frames, and by the address
+-- and is reported by its frames, and by the address
 pub releasing_items : (at : ℕ) (said : Option (ℕ × RowKind)) (history : List Row) (c : Chronicle) → items (releasing at said history c) ≡ items c ++ flat_map items_at (at_moment at (released_rows at said history))
 releasing_items at None history c = sym (append-nil (items c))
 releasing_items at (Some said) history c =

@@ -1,4 +1,4 @@
--- What falls due is told at the end of what is told.
+-- What is due is reported at the end of what is reported.
 use Rattle.std.proofs.Common.{◌≡◌, ℕ, List, [], ◌∷◌, ◌++◌, append-nil, append_assoc, map, Option, Some, None, refl, sym, ◌∙◌, ap}
 use Rattle.std.proofs.lemmas.Grind.{flat_map-append}
 use Rattle.std.specs.List.{flat_map}
@@ -25,7 +25,7 @@ use Rattle.nd_steps.specs.RouterTables.{frame_of, advertised}
 use Rattle.nd_steps.specs.DueRows.{told_of}
 use Rattle.nd_steps.specs.Outputs.{at_moment, happenings, Tells}
 
--- one row that is told
+-- one row that is reported
 pub one : {A : Type 0} (before row : List A) → before ++ row ≡ before ++ (row ++ [])
 one before row = ap (λ r. before ++ r) (sym (append-nil row))
 
@@ -49,15 +49,15 @@ happenings-append : {A : Type 0} (xs ys : List (ℕ × Out A)) → happenings (x
 happenings-append [] ys = refl
 happenings-append (x ∷ xs) ys = ap (λ l. (x.0, happening x.1) ∷ l) (happenings-append xs ys)
 
--- one more is handed out, and what comes behind it
+-- one more is reported, and what comes behind it
 pub handed_out : {A : Type 0} (xs : List (ℕ × Out A)) (at : ℕ) (out : Out A) (rest : List (ℕ × Happening)) → happenings (xs ++ (at, out) ∷ []) ++ rest ≡ happenings xs ++ (at, happening out) ∷ rest
 handed_out xs at out rest = ap (λ l. l ++ rest) (happenings-append xs ((at, out) ∷ [])) ∙ append_assoc (happenings xs) ((at, happening out) ∷ []) rest
 
--- one is handed out
+-- one is reported
 pub one_more : {A : Type 0} (xs ys : List (ℕ × Out A)) (at : ℕ) (out : Out A) → ys ≡ xs ++ (at, out) ∷ [] → happenings ys ≡ happenings xs ++ (at, happening out) ∷ []
 one_more xs ys at out is = ap happenings is ∙ (sym (append-nil _) ∙ handed_out xs at out [])
 
--- and this is told of it
+-- and this is reported of it
 pub one_told : {A : Type 0} (x y : List (ℕ × Out A)) (at : ℕ) (out : Out A) (told : Happening) → y ≡ x ++ (at, out) ∷ [] → happening out ≡ told → happenings y ≡ happenings x ++ (at, told) ∷ []
 one_told x y at out told is out_is =
     ap happenings is ∙ (sym (append-nil _) ∙ (handed_out x at out [] ∙ ap (λ (h : Happening). happenings x ++ (at, h) ∷ []) out_is))

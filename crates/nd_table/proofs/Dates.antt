@@ -1,4 +1,4 @@
--- Dates that are kept in their order beside the entries that they are of.
+-- The dates of the entries of a table, which are kept in their order besides the entries.
 use Rattle.std.proofs.Common.{◌≡◌, ℕ, ◌+◌, ◌*◌, ◌^◌, ◌<◌, ◌≤◌, Bool, true, false, eqb, ltb, ◌||◌, List, [], ◌∷◌, length, get_or, Option, Some, None, refl, sym, ◌∙◌, ap, subst, arith, suc, zero, ◌⊎◌, inl, inr}
 use Rattle.std.specs.Prelude.{slice_get, option_and_then, IfSome}
 use Rattle.std.specs.List.{insert, remove}
@@ -252,7 +252,7 @@ module _ {N : Type 0} (key : N → ℕ) (date : N → Option ℕ) where
   least_is ds ns r a s are = least_unique_is ds ns r a (Rises-unique key ns s) are
 
   module _ (now : ℕ) (ns : List N) (s : Rises key ns) where
-    -- where the first date is now, its entry is the first that falls due
+    -- where the first date is now, its entry is the first that is due
     pub first_here : (d : Date) (ds : List Date) → Rises rank (d ∷ ds) → AllAddresses (d ∷ ds) → AreDates key date (d ∷ ds) ns → d.moment ≡ now → first_at date now ns ≡ at_key key d.number ns
     first_here d ds r a are is_now = by_first (first_at date now ns) refl
       where
@@ -275,7 +275,7 @@ module _ {N : Type 0} (key : N → ℕ) (date : N → Option ℕ) where
             let same : key n ≡ d.number = omega arith in
             first ∙ (sym there ∙ ap (λ k. at_key key k ns) same)
 
-    -- where the least date is later, nothing falls due
+    -- where the least date is later, nothing is due
     pub none_here : (o : Option ℕ) → least_date date ns ≡ o → NotBefore now o → (o ≡ Some now → ⊥) → first_at date now ns ≡ None
     none_here o is h later = by_first (first_at date now ns) refl
       where

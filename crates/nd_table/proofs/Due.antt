@@ -1,9 +1,6 @@
--- What falls due first in a list in the order of its numbers, and the least moment of it.
-use Rattle.std.proofs.Common.{◌≡◌, ℕ, ◌<◌, ◌≤◌, true, eqb, List, [], ◌∷◌, length, get_or, set, drop, Option, Some, None, refl, sym, ◌∙◌, ap, subst, arith, suc, zero, ◌⊎◌, inl, inr}
-use Rattle.std.specs.Prelude.{slice_get}
+-- What is due first in a list in the order of its numbers, and the least moment of it.
+use Rattle.std.proofs.Common.{◌≡◌, ℕ, ◌<◌, ◌≤◌, true, eqb, List, [], ◌∷◌, set, Option, Some, None, refl, sym, ◌∙◌, ap, subst, arith, suc, zero, ◌⊎◌, inl, inr}
 use Rattle.std.specs.List.{remove}
-use Rattle.std.proofs.Math.Seq.{drop-cons}
-use Rattle.std.proofs.lemmas.Option.{slice_get-get_or}
 use Rattle.std.proofs.lemmas.Bool.Decides.{nat_tests}
 use Rattle.std.proofs.lemmas.Bool.{cond_both, cond-true, cond-false, eqb-true, eq-eqb, ne_eqb, true≢false, cases_Bool}
 use Rattle.nd_table.specs.Keyed.{at_key, Rises}
@@ -97,12 +94,6 @@ module _ {N : Type 0} (date : N → Option ℕ) where
       cond_both (is_at now (date x)) (Some x) (first_at date now ns) (λ o. o ≡ Some n → date n ≡ Some now)
       (λ here e. let e' : x ≡ n = cc in ap date (sym e') ∙ at_is now (date x) here) (λ _ e. due_now now ns n e) is
 
-  -- what a search from the front has found
-  pub due_here : (now : ℕ) (ns : List N) (i : ℕ) (n : N) → i < length ns → n ≡ get_or ns i n → is_at now (date n) ≡ true → first_at date now (drop i ns) ≡ first_at date now ns → first_at date now ns ≡ slice_get ns i
-  due_here now ns i n lt is here rest =
-      let at : is_at now (date (get_or ns i n)) ≡ true = ap (λ (m : N). is_at now (date m)) (sym is) ∙ here in
-      sym rest ∙ (ap (first_at date now) (drop-cons ns i n lt) ∙ (cond-true (is_at now (date (get_or ns i n))) (Some (get_or ns i n)) (first_at date now (drop (suc i) ns)) at ∙ sym (slice_get-get_or ns i n lt)))
-
   -- the head hasn't the date where there is none
   pub head_none : (now : ℕ) (x : N) (ns : List N) → first_at date now (x ∷ ns) ≡ None → (date x ≡ Some now → ⊥) × (first_at date now ns ≡ None)
   head_none now x ns none = elim (cases_Bool (is_at now (date x))) [
@@ -110,7 +101,7 @@ module _ {N : Type 0} (date : N → Option ℕ) where
     | inr later ↦ ((λ e. absurd (true≢false (sym (is_there now (date x) e) ∙ later))), sym (cond-false (is_at now (date x)) (Some x) (first_at date now ns) later) ∙ none)
   ]
 
-  -- where the next moment is now, something falls due now
+  -- where the next moment is now, something is due now
   pub next_not_now : (now : ℕ) (ns : List N) → least_date date ns ≡ Some now → first_at date now ns ≡ None → ⊥
   next_not_now now [] h none = cc
   next_not_now now (x ∷ ns) h none =

@@ -87,13 +87,6 @@ filled_last zero (b ∷ []) le = (tt, tt)
 filled_last zero (b ∷ c ∷ bs) le = absurd (omega arith)
 filled_last (suc n) (b ∷ bs) le = filled_last n bs (omega arith)
 
--- a block that would fill one with the next
-filled_here : (n : ℕ) (bs : List (List Date)) (d e : List Date) → suc n < length bs → BLOCK ≤ length (get_or bs n d) + length (get_or bs (suc n) e) → Filled (drop (suc n) bs) → Filled (drop n bs)
-filled_here n [] d e lt le h = absurd (omega arith)
-filled_here zero (b ∷ []) d e lt le h = absurd (omega arith)
-filled_here zero (b ∷ c ∷ bs) d e lt le h = (le, h)
-filled_here (suc n) (b ∷ bs) d e lt le h = filled_here n bs d e (omega arith) le h
-
 -- the blocks of which one has been joined with the next
 abbrev joined : ℕ → List (List Date) → List (List Date)
 joined n [] = []
@@ -156,10 +149,6 @@ module _ (n next : ℕ) (bs inside : List (List Date)) (x y : List Date) (is : n
 
   behind_it : Filled (drop next bs) → Filled (drop (suc n) bs)
   behind_it h = subst (λ (m : ℕ). Filled (drop m bs)) is h
-
-  -- they stay
-  pub stays : BLOCK ≤ length x + length y → Filled (drop next bs) → Filled (drop n bs)
-  stays le h = filled_here n bs x y (omega arith) (omega (arith, lengths)) (behind_it h)
 
   -- they are joined
   module _ (removed : List (List Date)) (b c z : List Date) (gone : removed ≡ remove inside next) (eb : b ≡ get_or removed n b) (ec : c ≡ get_or inside next c) (ez : z ≡ b ++ c) where

@@ -1,7 +1,6 @@
 -- Entries found by their numbers in a list in the order of these.
-use Rattle.std.proofs.Common.{◌≡◌, ℕ, ◌<◌, ◌≤◌, true, false, cond, eqb, ltb, List, [], ◌∷◌, length, get_or, set, Some, None, refl, sym, ◌∙◌, ap, subst, drop, arith, suc, zero, add-one, inl, inr}
+use Rattle.std.proofs.Common.{◌≡◌, ℕ, ◌<◌, ◌≤◌, true, false, cond, eqb, ltb, List, [], ◌∷◌, length, get_or, set, Some, None, refl, sym, ◌∙◌, ap, subst, arith, suc, zero, add-one, inl, inr}
 use Rattle.std.specs.Prelude.{slice_get, filter, not}
-use Rattle.std.proofs.Math.Seq.{drop-cons}
 use Rattle.std.proofs.lemmas.Option.{slice_get-get_or}
 use Rattle.std.specs.List.{insert, remove}
 use Rattle.std.proofs.lemmas.Bool.Decides.{nat_tests}
@@ -154,12 +153,6 @@ module _ {N : Type 0} (key : N → ℕ) where
       let rest : at_key key (key n) ns ≡ Some n = at_place ns i n r.1 (omega arith) is in
       let above : key x < key n = above_in (key n) (key x) ns n r.0 rest in
       grind (arith, nat_tests, above, rest)
-
-  -- what a search from the front has found
-  pub found_here : (k : ℕ) (ns : List N) (i : ℕ) (n : N) → i < length ns → n ≡ get_or ns i n → eqb (key n) k ≡ true → at_key key k (drop i ns) ≡ at_key key k ns → at_key key k ns ≡ slice_get ns i
-  found_here k ns i n lt is here rest =
-      let at : eqb (key (get_or ns i n)) k ≡ true = ap (λ (m : N). eqb (key m) k) (sym is) ∙ here in
-      sym rest ∙ (ap (at_key key k) (drop-cons ns i n lt) ∙ (cond-true (eqb (key (get_or ns i n)) k) (Some (get_or ns i n)) (at_key key k (drop (suc i) ns)) at ∙ sym (slice_get-get_or ns i n lt)))
 
   -- the entry at the place that a search has found, in a list that is seen through a slice
   pub found_is : (k : ℕ) (ns seen : List N) (i : ℕ) (n : N) → seen ≡ ns → i < length seen → at_key key k seen ≡ slice_get seen i → n ≡ get_or ns i n → at_key key k ns ≡ Some n

@@ -14,9 +14,6 @@ module _ {N : Type 0} (key : N → ℕ) where
   abbrev pub OthersStay : ℕ → List N → List N → Type 0
   OthersStay k old new = (j : ℕ) → (k ≡ j → ⊥) → at_key key j new ≡ at_key key j old
 
-  pub same_others : (k : ℕ) (old new : List N) → new ≡ old → OthersStay k old new
-  same_others k old new is = λ j differ. ap (at_key key j) is
-
   module _ (k : ℕ) (old new : List N) (i : ℕ) (n : N) (r : Rises key old) (lt : i < length old) (is : n ≡ get_or old i n) (n_key : key n ≡ k) where
     here : key (get_or old i n) ≡ k
     here = ap key (sym is) ∙ n_key

@@ -1,7 +1,7 @@
 -- The announcements of a message for which there is room.
-use Rattle.std.proofs.Common.{◌≡◌, ℕ, ◌≤◌, Bool, true, false, cond, List, [], ◌∷◌, length, refl, sym, ◌∙◌, ap}
+use Rattle.std.proofs.Common.{◌≡◌, ℕ, ◌≤◌, Bool, true, cond, List, [], ◌∷◌, length, refl, sym, ◌∙◌, ap}
 use Rattle.std.specs.Prelude.{nat_le, not, is_some, ◌&&◌, ◌==◌}
-use Rattle.std.proofs.lemmas.Bool.{cond-true, cond-false, and_parts, leb-true}
+use Rattle.std.proofs.lemmas.Bool.{cond-true, and_parts, leb-true}
 use Rattle.nd_table.specs.declared.lasting.Lasting.{Lasting}
 use Rattle.nd_table.specs.Listing.{open_at, end_in, announced, fits, with_room}
 use Rattle.nd_table.specs.ListingKept.{announced_all}
@@ -17,13 +17,6 @@ module _ {K : Type 0} (same : K → K → Bool) where
   next_has_room limit now key w more all es is h =
       let next = announced same now key w es in
       ap (λ (l : List (K × ℕ)). with_room same limit now l es) is ∙ cond-true (nat_le (length next) limit) ((key, w) ∷ with_room same limit now more next) (with_room same limit now more es) h
-
-  -- there is none
-  pub next_has_none : (limit now : ℕ) (key : K) (w : ℕ) (more all : List (K × ℕ)) (es : List (Lasting K)) → all ≡ (key, w) ∷ more → nat_le (length (announced same now key w es)) limit ≡ false
-      → with_room same limit now all es ≡ with_room same limit now more es
-  next_has_none limit now key w more all es is h =
-      let next = announced same now key w es in
-      ap (λ (l : List (K × ℕ)). with_room same limit now l es) is ∙ cond-false (nat_le (length next) limit) ((key, w) ∷ with_room same limit now more next) (with_room same limit now more es) h
 
   -- where there is room for the first, what there is room for leads from what that makes to the same end
   module _ (limit now : ℕ) (key : K) (w : ℕ) (more all : List (K × ℕ)) (seen es next : List (Lasting K)) (is : all ≡ (key, w) ∷ more) (seen_is : seen ≡ es)

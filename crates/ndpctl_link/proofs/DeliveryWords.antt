@@ -1,4 +1,4 @@
--- A delivery is told by its words.
+-- A delivery is determined by its words.
 use Rattle.std.proofs.Common.{◌≡◌, ◌^◌, ℕ, List, arith}
 use Rattle.ndpctl_run.proofs.NumberWords.{one_number}
 use Rattle.ndpctl_run.proofs.Partings.{parts_at}

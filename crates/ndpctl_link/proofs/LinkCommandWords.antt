@@ -1,4 +1,4 @@
--- A command of a link is told by its words.
+-- A command of a link is determined by its words.
 use Rattle.std.proofs.Common.{◌≡◌, ◌∙◌, ℕ, List, refl, sym, subst}
 use Rattle.nd_link_log.specs.Event.{Event}
 use Rattle.ndpctl_run.specs.Words.{HasNoSpace, IsParted}

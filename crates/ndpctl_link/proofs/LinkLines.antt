@@ -1,4 +1,4 @@
--- A line of a link is told by its moment and its command.
+-- A line of a link is determined by its moment and its command.
 use Rattle.std.proofs.Common.{◌≡◌, ◌^◌, ℕ, List, arith}
 use Rattle.nd_link_log.specs.Event.{Event}
 use Rattle.ndpctl_run.proofs.NumberWords.{one_number}

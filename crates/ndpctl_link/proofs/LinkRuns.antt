@@ -53,7 +53,7 @@ module _ {W R A : Type 0} (arrives : ℕ → List ℕ → List ℕ → Type 0) (
         (l.0, l.1, l.2, tells_text log l.0 [] told l.3 ∙ ap (λ t. text log ++ told_text t) (sym l.3.all));
   }
 
-  -- what the link told of the time that passed is not asked for
+  -- what the link reported of the time that passed is not asked for
   pub passed : (x y : List (Told A)) → time.Leads stream old new x y (time.Passes at) → Passes stream old new at
   passed x y leads = record { each = λ log s. let l = leads.each log s in (l.0, l.1, l.2) }
 

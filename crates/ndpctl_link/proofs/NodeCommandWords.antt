@@ -1,4 +1,4 @@
--- A command that comes to a node is told by its words.
+-- A command that comes to a node is determined by its words.
 use Rattle.std.proofs.Common.{◌≡◌, ◌≢◌, ◌↔◌, ◌^◌, ℕ, Bool, true, false, List, refl, ◌∙◌, inl, inr, arith}
 use Rattle.std.specs.Prelude.{IsTrue, MatchBool, codes}
 use Rattle.nd_chronicle.specs.Event.{Event, Receives}
@@ -52,7 +52,7 @@ pub rx_told : (bytes word rest : List ℕ) (b : Bool) → IsParted bytes word re
 rx_told bytes word rest true p tells = rx_hears bytes word rest p (tells.0 refl)
 rx_told bytes word rest false p tells = other_word_hears_none bytes word rest p (λ is. (let no : false ≡ true = tells.1 is in cc))
 
--- ---- it is told by its words
+-- ---- it is determined by its words
 
 pub one_node_command : (words : List ℕ) (node node' : ℕ) (event event' : Event) → IsNodeCommand words node event → IsNodeCommand words node' event' → (node ≡ node') × (event ≡ event')
 one_node_command words node node' event event' p q =

@@ -1,4 +1,4 @@
--- An address is told by its word.
+-- An address is determined by its word.
 use Rattle.std.proofs.Common.{◌≡◌, ℕ, List, ap}
 use Rattle.nd_text.specs.Spelling.{SpellsAddress}
 use Rattle.nd_text.proofs.AddressTexts.{address_read}

@@ -1,4 +1,4 @@
--- Bytes are told by their word.
+-- Bytes are determined by their word.
 use Rattle.std.proofs.Common.{◌≡◌, ◌<◌, ◌%◌, ℕ, List, [], ◌∷◌, Ok, length, sym, refl, ap, arith}
 use Rattle.std.specs.Prelude.{codes}
 use Rattle.std.specs.List.{AllPass}

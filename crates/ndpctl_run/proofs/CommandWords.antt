@@ -1,4 +1,4 @@
--- A command is told by its words.
+-- A command is determined by its words.
 use Rattle.std.proofs.Common.{◌≡◌, ◌∙◌, ◌<◌, ℕ, zero, suc, List, [], ◌∷◌, Some, get_or, length, eqb, if◌then◌else◌, sym, refl, ap, subst, inl, inr, arith}
 use Rattle.std.specs.Prelude.{codes, slice_get}
 use Rattle.nd_chronicle.specs.Event.{Event, Receives, Confirms, Forgets, Clears, Shows, Advertises, Offers, Sets, Withdraws, Resolves}
@@ -39,7 +39,7 @@ one_whole_command word c d (inl (at, passes)) (inr (stop, of_routers)) = let no 
 one_whole_command word c d (inr (stop, of_routers)) (inl (at, passes)) = let no : codes "at" ≡ codes "stop" = sym at ∙ stop in cc
 one_whole_command word c d (inr (stop, of_routers)) (inr (stop', of_routers')) = of_routers ∙ sym of_routers'
 
--- ---- a command is told by its word
+-- ---- a command is determined by its word
 
 -- by its length, or by its first bytes
 abbrev told : List ℕ → Command

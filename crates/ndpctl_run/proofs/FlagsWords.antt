@@ -1,4 +1,4 @@
--- Flags are told by their word.
+-- Flags are determined by their word.
 use Rattle.std.proofs.Common.{◌≡◌, ◌∙◌, ℕ, Bool, true, false, List, [], ◌∷◌, get_or, length, eqb, if◌then◌else◌, sym, refl, ap}
 use Rattle.std.specs.Prelude.{codes, ◌||◌}
 use Rattle.nd_addr.specs.declared.preference.Preference.{Preference}

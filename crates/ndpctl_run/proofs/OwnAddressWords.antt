@@ -1,4 +1,4 @@
--- An address that is given by hand is told by its words.
+-- An address that is given by hand is determined by its words.
 use Rattle.std.proofs.Common.{◌≡◌, ◌∙◌, ◌^◌, ℕ, List, [], ◌∷◌, Option, Some, None, true, refl, sym, subst, arith}
 use Rattle.std.specs.Prelude.{IfSome}
 use Rattle.std.specs.Option.{SomeIff}

@@ -1,4 +1,4 @@
--- A packet of the upper layer is told by its words.
+-- A packet of the upper layer is determined by its words.
 use Rattle.std.proofs.Common.{◌≡◌, ◌∙◌, ℕ, List, sym, subst, arith}
 use Rattle.std.proofs.lemmas.Fmt.{decimal_injective}
 use Rattle.nd_addr.specs.declared.addr.Addr.{Addr}
@@ -65,7 +65,7 @@ module _ (text : List ℕ) (source destination : Addr) (next_header : ℕ) where
 
 -- ---- one packet
 
--- what the words of a packet are told by
+-- what the words of a packet are determined by
 pub record SamePacket (source destination : Addr) (next_header : ℕ) (payload : List ℕ) (source' destination' : Addr) (next_header' : ℕ) (payload' : List ℕ) : Type 0 where
   pub source_is : source ≡ source'
   pub destination_is : destination ≡ destination'

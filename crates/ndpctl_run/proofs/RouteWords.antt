@@ -1,4 +1,4 @@
--- A static route is told by its words.
+-- A static route is determined by its words.
 use Rattle.std.proofs.Common.{◌≡◌, ℕ, List, [], ◌∷◌, None, refl, sym, ap, subst}
 use Rattle.std.specs.Prelude.{codes}
 use Rattle.nd_text.specs.Parsing.{address_groups, groups_within}

@@ -32,7 +32,7 @@ use Rattle.ndpctl_run.proofs.Said.{OneReading, say_begins}
 
 -- ---- the answer to an event
 
--- the text of what is handed out is that of what happened
+-- the text of what is reported is that of what happened
 told_is : {A : Type 0} (outs : List (ℕ × Out A)) → told outs ≡ flat_map chronicle.lines_of (happenings outs)
 told_is [] = refl
 told_is (o ∷ outs) = ap (λ l. chronicle.lines_of (o.0, happening o.1) ++ l) (told_is outs)

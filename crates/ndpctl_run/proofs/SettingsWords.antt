@@ -1,4 +1,4 @@
--- Settings are told by their words.
+-- Settings are determined by their words.
 use Rattle.std.proofs.Common.{◌≡◌, ◌∙◌, ◌^◌, ℕ, Bool, List, [], ◌∷◌, None, refl, sym, subst, arith}
 use Rattle.nd_addr.specs.declared.preference.Preference.{Preference}
 use Rattle.nd_advertiser.specs.Config.{Settings, config_fault}

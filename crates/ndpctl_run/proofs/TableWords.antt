@@ -1,4 +1,4 @@
--- A table is told by its word.
+-- A table is determined by its word.
 use Rattle.std.proofs.Common.{◌≡◌, ◌∙◌, ℕ, ◌<◌, List, [], ◌∷◌, Some, get_or, length, eqb, if◌then◌else◌, ap, sym, refl, arith}
 use Rattle.std.specs.Prelude.{slice_get}
 use Rattle.ndpctl_run.specs.Table.{clearable_word, table_word}

@@ -2,7 +2,7 @@ use Rattle.std.proofs.Common.{◌≡◌, ◌+◌, ◌≤◌, ◌++◌, length, v
 use Rattle.nd_neighbour.specs.Removal.{all_waiting}
 use Rattle.nd_neighbour.proofs.removal.take_all.Given as goal
 
--- those that were handed out and those of the rest are all
+-- those that were reported and those of the rest are all
 abbrev pub invariant-loop-entries : goal.invariant-loop-entries
 invariant-loop-entries g l = record {
   all : l.packets.items ++ all_waiting l.entries.items ≡ all_waiting l.fn.entries.items;

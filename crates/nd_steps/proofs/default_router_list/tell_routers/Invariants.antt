@@ -3,7 +3,7 @@ use Rattle.nd_steps.specs.Outputs.{happenings}
 use Rattle.nd_steps.proofs.Telling.{left_at, numbers}
 use Rattle.nd_steps.proofs.default_router_list.tell_routers.Given as goal
 
--- what was told and what is left is all that is to be told
+-- what was reported and what is left is all that is to be reported
 abbrev pub invariant-loop-router : goal.invariant-loop-router
 invariant-loop-router g l = record {
   room : vec_len l.outs + length (drop l.router-index l.routers) ≤ vec_capacity l.outs;

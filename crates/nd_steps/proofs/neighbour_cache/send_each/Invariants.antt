@@ -3,7 +3,7 @@ use Rattle.nd_steps.specs.Outputs.{happenings}
 use Rattle.nd_steps.proofs.Released.{sent_at}
 use Rattle.nd_steps.proofs.neighbour_cache.send_each.Given as goal
 
--- what was told and what is left is all that is to be told
+-- what was reported and what is left is all that is to be reported
 abbrev pub invariant-loop-packet : goal.invariant-loop-packet
 invariant-loop-packet g l = record {
   room : vec_len l.outs + length l.rest ≤ vec_capacity l.outs;

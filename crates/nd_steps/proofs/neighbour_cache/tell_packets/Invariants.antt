@@ -5,7 +5,7 @@ use Rattle.nd_steps.specs.Outputs.{happenings}
 use Rattle.nd_steps.proofs.Telling.{lost_at}
 use Rattle.nd_steps.proofs.neighbour_cache.tell_packets.Given as goal
 
--- what was told and what is left is all that is to be told
+-- what was reported and what is left is all that is to be reported
 abbrev pub invariant-loop-packet : goal.invariant-loop-packet
 invariant-loop-packet g l = record {
   room : vec_len l.outs + length (into_iter_items l.packet-iterator) ≤ vec_capacity l.outs;

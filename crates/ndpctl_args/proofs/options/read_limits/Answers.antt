@@ -1,4 +1,4 @@
-use Rattle.std.proofs.Common.{Bor, List, [], ◌∷◌, codes, refl}
+use Rattle.std.proofs.Common.{[], ◌∷◌, codes, refl}
 use Rattle.clap.specs.Words.{found_of, rows_of}
 use Rattle.nd_neighbour.specs.TableKept.{max_neighbours}
 use Rattle.nd_routers.specs.Routers.{max_routers}

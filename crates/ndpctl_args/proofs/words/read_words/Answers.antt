@@ -1,8 +1,7 @@
 use Rattle.std.proofs.Common.{rules, ◌≡◌, ◌∙◌, ℕ, List, [], ◌∷◌, refl, sym, ap, subst, map, codes, true, true≢false, Bor, ⊎_elim}
 use Rattle.std.specs.Prelude.{string_bytes}
 use Rattle.std.proofs.lemmas.Result.{IfOk-weaker, IfErr-weaker}
-use Rattle.clap.specs.Words.{App, HasKind, fault_of, kind_of, first_of, found_of, is_simple_and_free, rows_of}
-use Rattle.clap.specs.declared.error.kind.ErrorKind.TheVariants.{OutOfMemory}
+use Rattle.clap.specs.Words.{App, HasKind, fault_of, first_of, found_of, is_simple_and_free, rows_of}
 use Rattle.ndpctl_args.specs.CommandLine.{Names, Refuses, carrier_named}
 use Rattle.ndpctl_args.proofs.Matches.{same_name, same_given, asks, refuses}
 use Rattle.ndpctl_args.proofs.words.read_words.Goals as goal

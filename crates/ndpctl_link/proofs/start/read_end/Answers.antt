@@ -1,4 +1,4 @@
-use Rattle.std.proofs.Common.{◌≡◌, ◌∷◌, [], length, List, ℕ, Some, refl, sym, arith}
+use Rattle.std.proofs.Common.{◌∷◌, [], refl, sym, arith}
 use Rattle.ndpctl_run.specs.Words.{words_of}
 use Rattle.ndpctl_run.proofs.Partings.{count_first, one_word, some_word}
 use Rattle.ndpctl_link.proofs.StartWords.{end_at, end_by, few_words}
