@@ -608,8 +608,8 @@ int32_t nd_resolve(nd_node *node, uint64_t now, const nd_addr *destination, nd_p
  * returns ND_PAST, ND_INVALID or ND_CLOSED; nor, where nothing is due but solicitations for
  * neighbours, with nd_pass, nd_next_hop, nd_receive of a frame that is dropped or whose packet is
  * for the node (what it reports is ND_OUT_DROPPED or ND_OUT_UP), and nd_confirm and nd_confirm_to,
- * unless ReachableTime has become so short that the neighbour is REACHABLE for a shorter time. 0 if
- * the node is closed. It changes nothing. */
+ * unless ReachableTime has become so short that the lease of a path to the neighbour ends earlier.
+ * 0 if the node is closed. It changes nothing. */
 uint64_t nd_lease_version(nd_node *node);
 
 /* ---- events at a router ---------------------------------------------------------------------- */
@@ -754,10 +754,10 @@ int32_t nd_poll(nd_node *node, nd_out *out, uint8_t *buffer, size_t size);
  * says what holds at `now` if nothing is due before; call nd_pass first to be exact.
  *
  * What changed: add up `changes` of the records that you poll. A table without its bit is as it
- * was, but for what your own calls for it have changed (nd_clear, nd_add_address), and for what
- * time does without a record: a prefix, a server or a name ends and an address becomes DEPRECATED
- * when its `left` has passed, and ReachableTime is drawn anew. Neighbours have no bit: with most
- * frames one of them changes.
+ * was, but for what your own calls have changed (nd_add_address; nd_clear, which with the routers
+ * ends the redirects), and for what time does without a record: a prefix, a server or a name ends
+ * and an address becomes DEPRECATED when its `left` has passed, and ReachableTime is drawn anew.
+ * Neighbours have no bit: with most frames one of them changes.
  *
  * All rows of a table at once, in the order that the function names:
  *

@@ -1,5 +1,5 @@
 /* pool: the three memory functions of nd.h over a static array, without a heap and without the C library. Free blocks are in lists by their
- * length, and a block that is given back is joined with the free ones beside it, so a call takes as long however many blocks there are. Only a
+ * length, and a block that is given back is joined with the free ones next to it, so a call takes as long however many blocks there are. Only a
  * request that no list of longer blocks can serve goes over the list of its own length. One thread at a time may call them. With ND_POOL_GIVEN the
  * program has the array elsewhere: nd_pool is its first byte, a multiple of 16, and nd_pool_units its length in heads of 16 bytes, all zeros at
  * first. */

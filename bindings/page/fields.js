@@ -1,4 +1,4 @@
-// The bytes of a frame beside its fields, for reading. Nothing here is proved, and none of it decides what a frame is: that is the line above the fields.
+// The bytes of a frame next to its fields, for reading. Nothing here is proved: what a frame is, the line above the fields says.
 
 const MESSAGES = {
     133: { name: 'Router Solicitation', fields: [['reserved', 4, ignored]] },

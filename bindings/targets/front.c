@@ -8,8 +8,12 @@
 
 enum { SLOT_BYTES = 16, STRUCTURE_BYTES = 512, MODULE_AT = 8 };
 
+/* The module's stack of 16,384 bytes with its constants and what a call is passed, and the least pool. */
+enum { MODULE_BYTES = 18432, LEAST_POOL = 4096 };
+
 _Static_assert(ND_FRAME_BYTES >= ND_BUFFER_BYTES && ND_FRAME_BYTES % 16 == 0, "ND_FRAME_BYTES is too small, or no multiple of 16");
-_Static_assert(ND_MEMORY_BYTES >= 65536 && ND_MEMORY_BYTES % 16 == 0, "ND_MEMORY_BYTES is too small, or no multiple of 16");
+_Static_assert(ND_MEMORY_BYTES >= MODULE_BYTES + ND_FRAME_BYTES + LEAST_POOL && ND_MEMORY_BYTES % 16 == 0,
+               "ND_MEMORY_BYTES is too small, or no multiple of 16");
 
 static Z_nd_module_instance_t module;
 static bool is_ready;
@@ -125,7 +129,7 @@ static void prepare(void)
     first = structure + STRUCTURE_BYTES;
     second = first + 16;
     bytes = second + 16;
-    if (bytes + ND_FRAME_BYTES + 4096 > ND_MEMORY_BYTES)
+    if (bytes + ND_FRAME_BYTES + LEAST_POOL > ND_MEMORY_BYTES)
         wasm_rt_trap(WASM_RT_TRAP_OOB);
     MODULE(nd_give_pool)(&module, bytes + ND_FRAME_BYTES, ND_MEMORY_BYTES - bytes - ND_FRAME_BYTES);
     is_ready = true;

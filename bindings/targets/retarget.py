@@ -2,7 +2,6 @@
 """retarget CLANG MODULE.bc TARGET OUT.o [flags of clang]: compiles Rattle's LLVM module, which was made for aarch64, for another processor with 64-bit
 pointers that is little-endian: riscv64 or wasm64. What names aarch64 in the module is replaced, and anything of aarch64 that is not known here is
 refused."""
-import os
 import re
 import subprocess
 import sys

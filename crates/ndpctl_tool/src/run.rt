@@ -15,8 +15,8 @@ use ndpctl_run::run_script;
 use std::alloc::Allocator;
 use std::net::Net;
 
-/// Does what is asked, over `reader` and `writer`. No clause says what a link over datagrams writes, since none says which bytes a socket
-/// receives.
+/// Does what is asked, over `reader` and `writer`. Returns the fault that ends the run, as `run_check`, `run_script` and `run_link` do. No clause says
+/// what a link over datagrams writes, since none says which bytes a socket receives.
 pub fn run<N: Net, R: Input, W: Output, A: Allocator + Copy>(
     net: &N,
     alloc: A,
