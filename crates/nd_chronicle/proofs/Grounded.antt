@@ -29,12 +29,12 @@ use Rattle.nd_chronicle.proofs.Growth.{runs_grows}
 use Rattle.nd_chronicle.proofs.Pasts.{history_past}
 use Rattle.nd_chronicle.proofs.OwnRows.{Brings, Nothing, Conflicts, Announces, SetsKnown, FormsSet, EndsKnown, BringsDue, NoRow, ItsRow, delay_same, event_brings, comes_brings}
 
--- The node's address never ends, and any other is known only where it is assigned.
+-- The link-local address never ends, and any other is known only where it is assigned.
 record Grounded (own : ℕ) (history : List Row) : Type 0 where
   lasts : valid_end (story own history) ≡ None
   first : (key : ℕ) → key ≢ own → is_known (story key history) ≡ true → is_assigned (story own history) ≡ true
 
--- The same with one more row, and where the node's address was assigned, it still is.
+-- The same with one more row, and where the link-local address was assigned, it still is.
 record Rests (own : ℕ) (row : Row) (history : List Row) : Type 0 where
   grounded : Grounded own (row ∷ history)
   stays : is_assigned (story own history) ≡ true → is_assigned (story own (row ∷ history)) ≡ true
@@ -72,7 +72,7 @@ module _ (own at key : ℕ) (kind : RowKind) (history : List Row) (g : Grounded 
         stays = λ up. ap is_assigned same ∙ up;
       }
 
-  -- of the node's address, which stays assigned and never ends
+  -- of the link-local address, which stays assigned and never ends
   itself : key ≡ own → is_end kind ≡ false → ((s : Story) → valid_end ((at, kind) ∷ s) ≡ valid_end s)
       → (is_assigned (story own history) ≡ true → is_assigned ((at, kind) ∷ story own history) ≡ true) → Rests own (at, key, kind) history
   itself is goes lasting on =

@@ -11,7 +11,6 @@ use Rattle.nd_neighbour.specs.History as neighbours
 use Rattle.nd_neighbour.specs.History.{RowKind, story}
 use Rattle.nd_slaac.specs.Due as addresses_due
 use Rattle.nd_slaac.specs.History as addresses
-use Rattle.nd_slaac.specs.History.{Lifetimes}
 use Rattle.nd_chronicle.specs.Start.{Start}
 use Rattle.nd_chronicle.specs.Happening.{Chronicle, Happening, Address, Configured, Refused, Heard, Passed, Sent, last_moment}
 use Rattle.nd_chronicle.specs.Histories.{advertising_history}

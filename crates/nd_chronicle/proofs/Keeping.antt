@@ -89,7 +89,7 @@ first_of : (a b : Bool) → (a && b) ≡ true → a ≡ true
 first_of true b e = refl
 first_of false b e = e
 
-not_both : (known conflict assigned : Bool) → (known && not conflict && assigned) ≡ true → (known && not conflict && not assigned) ≡ true → ⊥
+pub not_both : (known conflict assigned : Bool) → (known && not conflict && assigned) ≡ true → (known && not conflict && not assigned) ≡ true → ⊥
 not_both false conflict assigned a t = let no : ⊥ = cc in no
 not_both true true assigned a t = let no : ⊥ = cc in no
 not_both true false true a t = let no : ⊥ = cc in no

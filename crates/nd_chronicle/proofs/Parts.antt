@@ -18,9 +18,9 @@ use Rattle.nd_slaac.specs.PrefixOption.{is_taken, named_by, prefixes_in}
 use Rattle.nd_slaac.specs.Room.{fits_in, would_form}
 use Rattle.nd_slaac.specs.Room as addresses
 use Rattle.nd_slaac.specs.State.{is_by_hand, is_known}
-use Rattle.nd_dns.specs.AnnouncedNames.{same_name, names_of, names_told}
+use Rattle.nd_dns.specs.AnnouncedNames.{same_name, names_told}
 use Rattle.nd_dns.specs.AnnouncedNames as search_names
-use Rattle.nd_dns.specs.AnnouncedServers.{servers_of, servers_told}
+use Rattle.nd_dns.specs.AnnouncedServers.{servers_told}
 use Rattle.nd_dns.specs.AnnouncedServers as dns_servers
 use Rattle.nd_chronicle.specs.LinkLayerAddress.{first_slla}
 use Rattle.nd_chronicle.specs.Start.{Limits, Start}

@@ -36,7 +36,7 @@ impl<A: Allocator> Dns<A> {
         servers_fit(&self.servers, self.server_limit, now, options)
     }
 
-    /// Returns true if there is room for the search names that they announce, taken in order. It takes no memory.
+    /// Returns true if there is room at `now`, in milliseconds, for the search names that they announce, taken in order. It takes no memory.
     pub fn fits_names(&self, now: u64, options: Options<'_>) -> bool
         ensures value { result ≡ fits same_name self.now.name_limit now (names_told (options_left options.entry)) self.now.names }
         ensures by_history { (servers : List (Row Addr)) (history : List (Row (List ℕ))) (es : List (Lasting (List ℕ))) → Stands self.now servers history → last_moment history ≤ now → Lists same_name history now es
@@ -139,8 +139,9 @@ impl<A: Allocator + Clone> Dns<A> {
     ghost use Rattle.nd_dns.specs.DnsKept.{names_added, new_names};
     ghost use Rattle.nd_dns.specs.AnnouncedNames.{same_name, names_told};
 
-    /// Copies the search names that they add, each as often as it enters: the only part of hearing them that takes memory. Returns `Full` if there
-    /// is no room for the names that they announce, before anything is copied, and `Memory` if out of memory. If they add none it takes no memory.
+    /// Copies the search names that they add at `now`, in milliseconds, each as often as it enters: the only part of hearing them that takes memory.
+    /// Returns `Full` if there is no room for the names that they announce, before anything is copied, and `Memory` if out of memory. If they add none
+    /// it takes no memory.
     pub fn names(&self, now: u64, options: Options<'_>) -> Result<NewNames<A>, TableRefusal>
         ensures value { IfOk result (λ names. names ≡ new_names now (options_left options.entry) self.now) }
 
@@ -160,8 +161,8 @@ impl<A: Allocator + Clone> Dns<A> {
         }
     }
 
-    /// Copies the search names that are announced and enter, each as often as it enters, but those for which there is no room. Returns an error if out
-    /// of memory. If none enters it takes no memory.
+    /// Copies the search names that are announced and enter at `now`, in milliseconds, each as often as it enters, but those for which there is no
+    /// room. Returns an error if out of memory. If none enters it takes no memory.
     pub fn new_names(
         &self,
         now: u64,

@@ -15,6 +15,8 @@ use Rattle.nd_slaac.specs.Due.{Ends, Solicits, Assigns, IsDue, IsStep, date_by}
 use Rattle.nd_slaac.specs.Ends.{valid_end}
 use Rattle.nd_slaac.specs.History.{Row, Story, story, Formed, Solicited, Assigned}
 use Rattle.nd_slaac.proofs.Steps.{other_story, same_story}
+use Rattle.nd_chronicle.proofs.Keeping.{not_both}
+use Rattle.nd_link_log.proofs.Timely.{known_by}
 use Rattle.nd_chronicle.specs.Start.{Start, link_local_key}
 use Rattle.nd_chronicle.specs.Happening.{Chronicle, Happening, Address, Drew, ForReachableTime, LeftRouter, Sent}
 use Rattle.nd_chronicle.specs.Histories.{address_history, advertising_history, neighbour_history}
@@ -25,21 +27,11 @@ use Rattle.nd_chronicle.specs.Due.{What, RouterEnds, AddressFalls, NeighbourFall
 
 -- ---- tests
 
-known_by : (known conflict assigned : Bool) → (known && not conflict && not assigned) ≡ true → known ≡ true
-known_by true conflict assigned h = refl
-known_by false conflict assigned h = absurd (true≢false (sym h))
-
 not_trying : (known conflict : Bool) → (known && not conflict && not true) ≡ true → ⊥
 not_trying true true h = true≢false (sym h)
 not_trying true false h = true≢false (sym h)
 not_trying false true h = true≢false (sym h)
 not_trying false false h = true≢false (sym h)
-
-not_both : (known conflict assigned : Bool) → (known && not conflict && assigned) ≡ true → (known && not conflict && not assigned) ≡ true → ⊥
-not_both true false true h k = true≢false (sym k)
-not_both true false false h k = true≢false (sym h)
-not_both true true assigned h k = true≢false (sym h)
-not_both false conflict assigned h k = true≢false (sym h)
 
 assigned_by : (assigned : Bool) → (not assigned ≡ true → ⊥) → assigned ≡ true
 assigned_by true untried = refl

@@ -4,7 +4,7 @@ use Rattle.std.specs.Prelude.{is_some}
 use Rattle.std.proofs.lemmas.Bool.Decides.{nat_tests}
 use Rattle.nd_addr.specs.declared.preference.Preference.{Preference}
 use Rattle.nd_table.specs.Announcements.{end_of, stands}
-use Rattle.nd_existence.proofs.Listings.{opened_some}
+use Rattle.nd_table.proofs.Steps.{open_some}
 use Rattle.nd_routers.specs.History.{RouterRow, Heard, LeftList, Failed, announcements, failure_of}
 use Rattle.nd_routers.specs.RouterFailures.{number_in, Failures}
 use Rattle.nd_routers.specs.RouterFailuresKept.{others}
@@ -43,7 +43,7 @@ module _ (history : List RouterRow) (ks : List ℕ) (f : Failures history ks) (a
       → Failures (Heard at key w preference ∷ history) (behind_heard zero standing key ks)
   heard_failures w preference true standing z s = zero_heard w preference z
   heard_failures w preference false true z s =
-      is_heard history ks f at key w preference z (s ∙ sym (opened_some (end_of same key (announcements history)) at s))
+      is_heard history ks f at key w preference z (s ∙ sym (open_some (end_of same key (announcements history)) at s))
   heard_failures w preference false false z s = anew w preference z s
 
   failed_failures : (listed : Bool) → is_some (end_of same key (announcements history)) ≡ listed → Failures (Failed at key ∷ history) (behind_failed listed key ks)

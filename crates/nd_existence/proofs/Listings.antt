@@ -1,20 +1,15 @@
 -- Each history of announcements has the list of what stands.
 use Rattle.std.proofs.Common.{◌≡◌, ℕ, Bool, true, false, cond, eqb, List, [], ◌∷◌, ◌++◌, Option, Some, None, refl, sym, ◌∙◌, ap, arith}
 use Rattle.std.specs.Prelude.{map, is_some}
-use Rattle.std.proofs.lemmas.Bool.{cond-true, cond-false, true≢false}
+use Rattle.std.proofs.lemmas.Bool.{cond-true, cond-false}
 use Rattle.nd_table.specs.declared.lasting.Lasting.{Lasting}
 use Rattle.nd_table.specs.Ends.{end_time}
-use Rattle.nd_table.specs.Announcements.{Row, Announced, Ended, Cleared, end_of, is_open, stands, place}
+use Rattle.nd_table.specs.Announcements.{Row, Announced, Ended, Cleared, end_of, stands, place}
 use Rattle.nd_table.specs.Listing.{open_at, end_in, Lists, renewed, without}
 use Rattle.nd_table.specs.ListingKept.{StandsUntilTold}
 use Rattle.nd_table.proofs.Finding.{Tells, Has, end_in-renewed, end_in-without, end_in-push}
 use Rattle.nd_table.proofs.LastingOrder.{Rises-agree, Rises-renewed, Rises-filter, Rises-push}
-use Rattle.nd_table.proofs.Steps.{place_below, ends, lists_at}
-
--- where an end is open there is one
-pub opened_some : (o : Option (Option ℕ)) (t : ℕ) → is_open o t ≡ true → is_some o ≡ true
-opened_some None t h = absurd (true≢false (sym h))
-opened_some (Some end) t h = refl
+use Rattle.nd_table.proofs.Steps.{open_some, place_below, ends, lists_at}
 
 module _ {K : Type 0} (same : K → K → Bool) (tells : Tells same) where
   -- what an announcement makes of the entries: a lifetime of 0 takes the key away; a key that stands keeps its place, and another one comes last
@@ -47,7 +42,7 @@ module _ {K : Type 0} (same : K → K → Bool) (tells : Tells same) where
 
     kept : eqb w 0 ≡ false → stands same key history at ≡ true → StandsUntilTold same (map (renewed same key (end_time at w)) es) (Announced at key w ∷ history)
     kept some standing =
-        let has : is_some (end_in same key es) ≡ true = ap is_some (s.ends key) ∙ opened_some (end_of same key history) at standing in
+        let has : is_some (end_in same key es) ≡ true = ap is_some (s.ends key) ∙ open_some (end_of same key history) at standing in
         record {
           ends = λ k. end_in-renewed same tells k key (end_time at w) es
               ∙ (ap (λ b. cond (same key k) (cond b (Some (end_time at w)) None) (end_in same k es)) has

@@ -30,7 +30,7 @@ both_by true false false h k = true≢false (sym k)
 both_by true true assigned h k = true≢false (sym h)
 both_by false conflict assigned h k = true≢false (sym h)
 
-known_by : (known conflict assigned : Bool) → (known && not conflict && not assigned) ≡ true → known ≡ true
+pub known_by : (known conflict assigned : Bool) → (known && not conflict && not assigned) ≡ true → known ≡ true
 known_by true conflict assigned h = refl
 known_by false conflict assigned h = absurd (true≢false (sym h))
 

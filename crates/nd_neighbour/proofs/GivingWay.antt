@@ -23,6 +23,7 @@ use Rattle.nd_neighbour.specs.Story.{due_by, evidence_of, is_present, mac_of, us
 use Rattle.nd_neighbour.specs.StoryKept.{stage_by, the_entry}
 use Rattle.nd_neighbour.specs.TableKept.{address, entry_in, Rises, Stands}
 use Rattle.nd_neighbour.specs.UnreachabilityDetection.{Use}
+use Rattle.nd_neighbour.proofs.Finds.{none_is}
 use Rattle.nd_neighbour.proofs.Steps.{entry_present}
 use Rattle.nd_neighbour.proofs.Unique.{full_by_history}
 
@@ -126,14 +127,10 @@ module _ (limit now key : ℕ) (ns : List NeighbourEntry) (history : List Row) (
   -- and there is no way where none is incomplete
   pub no_way : has_first limit now key ns ≡ false → (b : Bool) → (b ≡ is_some (asked_longest ns)) → (b ≡ false) ↔ IsFullOfSpeakers limit now key history
   no_way none b b_is = (
-    (λ e. record { full = full_first none; none_incomplete = none_incomplete ns history s (absent (asked_longest ns) (sym b_is ∙ e)) }),
+    (λ e. record { full = full_first none; none_incomplete = none_incomplete ns history s (none_is (asked_longest ns) (sym b_is ∙ e)) }),
     (λ full. b_is ∙ never (asked_longest ns) refl full),
   )
     where
-      absent : (o : Option NeighbourEntry) → is_some o ≡ false → o ≡ None
-      absent None e = refl
-      absent (Some n) e = absurd (true≢false e)
-
       never : (o : Option NeighbourEntry) → asked_longest ns ≡ o → IsFullOfSpeakers limit now key history → is_some o ≡ false
       never None found full = refl
       never (Some n) found full = absurd (full.none_incomplete n.key (longest_found ns history s n found).0.incomplete)

@@ -3,7 +3,7 @@
 ghost use Rattle.std.specs.Prelude.{List, map, ◌≡◌};
 ghost use Rattle.std.specs.Option.{option_map};
 ghost use Rattle.nd_addr.specs.Number.{number_of};
-ghost use Rattle.nd_neighbour.specs.TableKept.{entry_in, Rises};
+ghost use Rattle.nd_neighbour.specs.TableKept.{entry_in};
 ghost use Rattle.nd_neighbour.specs.ShownKept.{seen};
 ghost use Rattle.nd_neighbour.specs.View.{seen_in};
 

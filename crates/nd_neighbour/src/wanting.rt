@@ -1,11 +1,9 @@
 //! A caller that keeps its packets wants the link-layer address of a neighbour (RFC 4861, sections 7.2.2 and 7.3.3). The definitions are in
 //! `specs/Wanting.antt`.
 
-ghost use Rattle.std.specs.Prelude.{IfOk, IfErr, List, None, OnErr, OnOk, Result, Some, Err, if◌then◌else◌, is_some, length, slice_get, true, vec_capacity, vec_len, ◌-◌, ◌<◌, ◌≤◌, ◌↔◌, ◌≡◌};
-ghost use Rattle.std.specs.Option.{option_map};
+ghost use Rattle.std.specs.Prelude.{IfOk, List, None, OnErr, OnOk, Result, Some, Err, if◌then◌else◌, is_some, length, slice_get, true, vec_capacity, vec_len, ◌-◌, ◌<◌, ◌≤◌, ◌↔◌, ◌≡◌};
 ghost use Rattle.nd_addr.specs.Number.{number_of};
 ghost use Rattle.nd_table.specs.Moment.{IsMoment};
-ghost use Rattle.nd_neighbour.specs.EntryKept.{known_mac};
 ghost use Rattle.nd_neighbour.specs.TableKept.{entry_in, place_in, Alters};
 ghost use Rattle.nd_neighbour.specs.Planned.{IsPlanned};
 ghost use Rattle.nd_neighbour.specs.PlaceKept.{Gives, has_place};

@@ -1,6 +1,6 @@
 //! The choice of next hops: its memory, and when remembered next hops are forgotten. The definitions are in `specs/Choice.antt`.
 
-ghost use Rattle.std.specs.Prelude.{◌≡◌, ◌≤◌, ℕ, List, Option, [], None, IfOk, length};
+ghost use Rattle.std.specs.Prelude.{◌≡◌, ◌≤◌, List, Option, [], None, IfOk, length};
 ghost use Rattle.nd_nexthop.specs.History.{RedirectRow, max_redirects, those_left, redirects};
 ghost use Rattle.nd_nexthop.specs.Left.{redirects_left};
 ghost use Rattle.nd_nexthop.specs.Memo.{forgotten, is_asked, max_remembered};

@@ -1,6 +1,6 @@
 //! What a router advertises, as it is shown.
 
-ghost use Rattle.std.specs.Prelude.{◌≡◌, ◌++◌, IfOk, OnOk, codes, map, string_bytes};
+ghost use Rattle.std.specs.Prelude.{◌≡◌, ◌++◌, IfOk, OnOk, map, string_bytes};
 ghost use Rattle.nd_chronicle.specs.Shown.{lifetimes_text, offer_flags_text, offer_row, on_text};
 ghost use Rattle.nd_out.specs.Advertised.{advertise_rows_of};
 

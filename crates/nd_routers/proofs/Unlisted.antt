@@ -1,5 +1,5 @@
 -- A router that isn't listed leaves no trace where its advertisement and its leaving follow each other.
-use Rattle.std.proofs.Common.{◌≡◌, ℕ, ◌≤◌, Bool, true, false, eqb, List, [], ◌∷◌, length, Option, Some, None, refl, sym, ◌∙◌, ap, arith}
+use Rattle.std.proofs.Common.{◌≡◌, ℕ, ◌≤◌, Bool, true, false, eqb, List, [], ◌∷◌, length, Option, None, refl, sym, ◌∙◌, ap, arith}
 use Rattle.std.specs.Prelude.{is_some, ◌&&◌, ◌||◌, nat_le, nat_lt}
 use Rattle.std.proofs.Math.Bool.{and-true}
 use Rattle.std.proofs.lemmas.Bool.{true≢false}
@@ -9,6 +9,7 @@ use Rattle.nd_table.specs.declared.lasting.Lasting.{Lasting}
 use Rattle.nd_table.specs.Announcements.{place}
 use Rattle.nd_table.specs.Listing.{announced, end_in, fits, open_at}
 use Rattle.nd_table.proofs.Behind.{open_all}
+use Rattle.nd_table.proofs.Finding.{absent_of}
 use Rattle.nd_table.proofs.LastingOrder.{Rises-agree}
 use Rattle.nd_table.proofs.Steps.{announced_length}
 use Rattle.nd_routers.specs.declared.preferred.Preferred.{Preferred}
@@ -50,16 +51,12 @@ module _ (at key w : ℕ) (preference : Preference) (history : List RouterRow) w
         };
       }
 
-some_none : (o : Option (Option ℕ)) → is_some o ≡ false → o ≡ None
-some_none None e = refl
-some_none (Some end) e = absurd (true≢false e)
-
 -- a router for which there is no room isn't listed, and its lifetime isn't 0
 pub left_out : (now key w limit : ℕ) (es : List (Lasting ℕ)) → length es ≤ limit → IsSettled es now → fits same limit now ((key, w) ∷ []) es ≡ false → (eqb w 0 ≡ false) × (end_in same key es ≡ None)
 left_out now key w limit es few settled full =
     let over : nat_le (length (announced same now key w es)) limit ≡ false = sym (and-true (nat_le (length (announced same now key w es)) limit)) ∙ full in
     let parts = neither (eqb w 0) (is_some (end_in same key (open_at now es))) (nat_lt (length (open_at now es)) limit) (sym (announced_length same eqb_tells now key w limit es few) ∙ over) in
-    (parts.0, some_none (end_in same key es) (ap (λ (xs : List (Lasting ℕ)). is_some (end_in same key xs)) (sym (open_all same eqb_tells es now (open_each es now settled))) ∙ parts.1))
+    (parts.0, absent_of (end_in same key es) (ap (λ (xs : List (Lasting ℕ)). is_some (end_in same key xs)) (sym (open_all same eqb_tells es now (open_each es now settled))) ∙ parts.1))
   where
     neither : (zero listed room : Bool) → (zero || (listed || room)) ≡ false → (zero ≡ false) × (listed ≡ false)
     neither true listed room h = absurd (true≢false h)

@@ -1,4 +1,4 @@
-ghost use Rattle.std.specs.Prelude.{◌≡◌, ◌≤◌, ◌<◌, ◌++◌, ◌∷◌, [], length, map, false, vec_len, vec_capacity, true, ℕ, List, is_some};
+ghost use Rattle.std.specs.Prelude.{◌≡◌, ◌≤◌, ◌<◌, map, false, vec_len, vec_capacity, true, List, is_some};
 ghost use Rattle.nd_addr.specs.Number.{number_of};
 ghost use Rattle.nd_table.specs.Announcements.{end_of};
 ghost use Rattle.nd_routers.specs.Preferences.{preference_among, preferred_anew, with_preference, without_preference};

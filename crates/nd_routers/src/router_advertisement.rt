@@ -1,4 +1,4 @@
-ghost use Rattle.std.specs.Prelude.{◌≡◌, ◌≤◌, ◌<◌, ◌↔◌, ◌∷◌, ℕ, length, List, [], IfOk, IfErr, OnOk, OnErr, IsErr, Some, false, true, not, is_some, ◌==◌};
+ghost use Rattle.std.specs.Prelude.{◌≡◌, ◌<◌, ◌↔◌, ◌∷◌, ℕ, List, [], IfOk, IfErr, OnOk, OnErr, IsErr, Some, false, true, not, is_some, ◌==◌};
 ghost use Rattle.nd_routers.specs.RouterAdvertisement.{change_of};
 ghost use Rattle.nd_addr.specs.Number.{number_of};
 ghost use Rattle.nd_table.specs.Announcements.{stands};

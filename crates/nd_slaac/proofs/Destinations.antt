@@ -6,6 +6,7 @@ use Rattle.std.specs.Cmp.Lexicographic.{bytes_decides}
 use Rattle.std.proofs.lemmas.Bool.{and_parts, and_from, eqb-true, eq-eqb, or_left, or_right, or_cases, true≢false}
 use Rattle.nd_table.specs.Keyed.{at_key, Rises}
 use Rattle.nd_table.proofs.Keyed.{above_in, key_is}
+use Rattle.nd_table.proofs.Unique.{head_in}
 use Rattle.nd_addr.specs.declared.addr.Addr.{Addr}
 use Rattle.nd_addr.specs.Bytes.{AreBytes}
 use Rattle.nd_addr.specs.Kind.{solicited_node_of}
@@ -29,20 +30,13 @@ module _ {N : Type 0} (key : N → ℕ) (p : N → Bool) where
       by false e = found
       by true e = let same : key x ≡ k = grind (arith, e) in absurd (omega (arith, lt, same))
 
-  at_first : (x : N) (ns : List N) → at_key key (key x) (x ∷ ns) ≡ Some x
-  at_first x ns = by (key x == key x) refl
-    where
-      by : (b : Bool) → key x == key x ≡ b → cond b (Some x) (at_key key (key x) ns) ≡ Some x
-      by true e = refl
-      by false e = let no : ⊥ = grind (arith, e) in absurd no
-
   any_found : (ns : List N) → Rises key ns → list_any p ns ≡ true → (n : N) × (at_key key (key n) ns ≡ Some n) × (p n ≡ true)
   any_found [] rises e = let no : ⊥ = cc in absurd no
   any_found (x ∷ ns) rises e = by (λ later. any_found ns rises.1 later) (or_cases (p x) (list_any p ns) e)
     where
       by : (list_any p ns ≡ true → (n : N) × (at_key key (key n) ns ≡ Some n) × (p n ≡ true)) → (p x ≡ true) ⊎ (list_any p ns ≡ true)
           → (n : N) × (at_key key (key n) (x ∷ ns) ≡ Some n) × (p n ≡ true)
-      by rest (inl here) = (x, at_first x ns, here)
+      by rest (inl here) = (x, head_in key x ns, here)
       by rest (inr later) = let f = rest later in (f.0, behind (key f.0) x f.0 ns (above_in key (key f.0) (key x) ns f.0 rises.0 f.1) f.1, f.2)
 
   found_any : (k : ℕ) (ns : List N) (n : N) → at_key key k ns ≡ Some n → p n ≡ true → list_any p ns ≡ true

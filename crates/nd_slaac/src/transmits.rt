@@ -1,8 +1,8 @@
 //! The number of solicitations of a detection (RFC 4862, section 5.1). The definition is in `specs/Transmits.antt`.
 
-ghost use Rattle.std.specs.Prelude.{◌≡◌, ◌≤◌, ◌<◌};
+ghost use Rattle.std.specs.Prelude.{◌≡◌, ◌<◌};
 ghost use Rattle.std.specs.Option.{SomeIff};
-ghost use Rattle.nd_slaac.specs.Transmits.{IsTransmits, max_transmits};
+ghost use Rattle.nd_slaac.specs.Transmits.{IsTransmits};
 
 use std::marker::Model;
 

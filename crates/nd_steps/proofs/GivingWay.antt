@@ -1,7 +1,7 @@
 -- Whether there is room for a neighbour that speaks, and what is remembered where one gave way.
 use Rattle.std.proofs.Common.{◌≡◌, ℕ, ◌+◌, Bool, true, false, List, [], ◌∷◌, ◌++◌, Option, Some, None, append_assoc, refl, sym, ◌∙◌, ap, subst, inl}
 use Rattle.std.specs.Prelude.{◌↔◌, ◌==◌, ◌&&◌, if◌then◌else◌, IfNone, IfSome, MatchBool}
-use Rattle.std.proofs.lemmas.Bool.{eq-eqb, eqb-true, true≢false}
+use Rattle.std.proofs.lemmas.Bool.{eqb-true, true≢false}
 use Rattle.std.proofs.lemmas.List.{map-append}
 use Rattle.nd_addr.specs.declared.addr.Addr.{Addr}
 use Rattle.nd_addr.specs.declared.mac.Mac.{Mac}
@@ -17,6 +17,7 @@ use Rattle.nd_neighbour.specs.Place.{pushing}
 use Rattle.nd_neighbour.specs.Story.{is_present}
 use Rattle.nd_neighbour.specs.TableKept as neighbours
 use Rattle.nd_neighbour.specs.TableKept.{Stands}
+use Rattle.nd_neighbour.proofs.Steps.{ended_story}
 use Rattle.nd_nexthop.specs.Choice.{Table}
 use Rattle.nd_nexthop.specs.Memo.{Memory, forgotten}
 use Rattle.nd_routers.specs.RoutersKept as routers
@@ -115,9 +116,6 @@ other_story k key at kind history other = by (key == k) refl
     by false is = refl
 
 -- where it ended it is absent, also behind the end of one more
-ended : (k at : ℕ) (cause : Cause) (history : List Row) → story k ((at, k, Forgot cause) ∷ history) ≡ []
-ended k at cause history = rw (eq-eqb k k refl) refl
-
 pushed_too : (k now : ℕ) (pushed : Option ℕ) (history : List Row) → story k history ≡ [] → story k (pushing now pushed history) ≡ []
 pushed_too k now None history is = is
 pushed_too k now (Some key) history is = by (key == k) refl
@@ -145,7 +143,7 @@ gone_absent law speakers limit now gone (Some said) history made way place = by 
     by true way =
         let p = law limit now said.0 (message.lets_enter said.1) (pushing now (Some gone) history) made place in
         other_story gone said.0 now said.1 made (not_same limit now said.0 gone history way)
-        ∙ (ap (story gone) p.1 ∙ pushed_too gone now p.0 (pushing now (Some gone) history) (ended gone now PushedOut history))
+        ∙ (ap (story gone) p.1 ∙ pushed_too gone now p.0 (pushing now (Some gone) history) (ended_story gone now PushedOut history))
 
 -- a law of the neighbours: the end of one that isn't present changes nothing
 abbrev pub EndsOnce : Type 0

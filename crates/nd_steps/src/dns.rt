@@ -1,6 +1,6 @@
 //! The DNS servers and search names (RFC 8106, section 6.1).
 
-ghost use Rattle.std.specs.Prelude.{◌≡◌, ◌≤◌, ◌<◌, ℕ, List, true};
+ghost use Rattle.std.specs.Prelude.{◌≡◌, ◌≤◌, ◌<◌, ℕ, List};
 ghost use Rattle.nd_addr.specs.declared.addr.Addr.{Addr};
 ghost use Rattle.nd_decode.specs.Pieces.{options_left};
 ghost use Rattle.nd_table.specs.Announcements.{Row, last_moment};

@@ -12,7 +12,7 @@ use Rattle.nd_table.specs.KeyedKept.{Unique, place_of}
 use Rattle.nd_table.specs.DueKept.{is_at, least_date, first_at, NotBefore}
 use Rattle.nd_table.specs.Dates.{rank, AllAddresses, is_date, has, without, put_date, first_moment, date_at, AreDates, Redated}
 use Rattle.nd_table.proofs.Keyed.{key_is, above_at, Rises-unique, others, at_key-others, Unique-others, length-others, put_in, put_low, put_high, place_of-le}
-use Rattle.nd_table.proofs.Due.{AtMost, AtMost-some, AtMost-none, AtMost-same, due_now, due_has, due_least, none_due, least_at_most, least_unique}
+use Rattle.nd_table.proofs.Due.{at_is, AtMost, AtMost-some, AtMost-none, AtMost-same, due_now, due_has, due_least, none_due, least_at_most, least_unique}
 
 pub is_parts : (m k : ℕ) (d : Date) → is_date m k d ≡ true → (d.moment ≡ m) × (d.number ≡ k)
 is_parts m k d h = (grind (arith, nat_tests, h), grind (arith, nat_tests, h))
@@ -204,17 +204,13 @@ first_before d ds m k r a is = elim (or_cases (is_date m k d) (has m k ds) is) [
 pub first_is_there : (d : Date) (ds : List Date) → has d.moment d.number (d ∷ ds) ≡ true
 first_is_there d ds = or_left (is_date d.moment d.number d) (has d.moment d.number ds) (by_parts d.moment d.number d refl refl)
 
-is_now : (m : ℕ) (o : Option ℕ) → is_at m o ≡ true → o ≡ Some m
-is_now m None h = absurd (true≢false (sym h))
-is_now m (Some x) h = ap Some (eqb-true x m h)
-
 now_is : (m : ℕ) → is_at m (Some m) ≡ true
 now_is m = eq-eqb m m refl
 
 module _ {N : Type 0} (key : N → ℕ) (date : N → Option ℕ) where
   by_entry : (m : ℕ) (o : Option N) (b : Bool) → b ≡ is_at m (option_and_then date o) → b ≡ true → (n : N) × (o ≡ Some n) × (date n ≡ Some m)
   by_entry m None b e h = absurd (true≢false (sym h ∙ e))
-  by_entry m (Some n) b e h = (n, refl, is_now m (date n) (sym e ∙ h))
+  by_entry m (Some n) b e h = (n, refl, at_is m (date n) (sym e ∙ h))
 
   module _ (ds : List Date) (ns : List N) (are : AreDates key date ds ns) where
     -- each date that is kept is that of an entry

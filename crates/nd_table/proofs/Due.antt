@@ -80,7 +80,7 @@ NotBefore-both n None o h k = k
 NotBefore-both n (Some x) None h k = h
 NotBefore-both n (Some x) (Some y) h k = omega arith
 
-at_is : (now : ℕ) (o : Option ℕ) → is_at now o ≡ true → o ≡ Some now
+pub at_is : (now : ℕ) (o : Option ℕ) → is_at now o ≡ true → o ≡ Some now
 at_is now None h = absurd (true≢false (sym h))
 at_is now (Some x) h = ap Some (eqb-true x now h)
 

@@ -11,7 +11,8 @@ use Rattle.nd_table.specs.ListingKept.{StandsUntilTold, Stands, announced_all}
 use Rattle.nd_table.proofs.Finding.{Tells, Has, end_in-renewed, end_in-without, end_in-push, end_in-open, absent_of, as_long, one_longer}
 use Rattle.nd_table.proofs.LastingOrder.{Rises-agree, Rises-renewed, Rises-filter, Rises-push, distinct_of}
 
-open_some : (o : Option (Option ℕ)) (t : ℕ) → is_open o t ≡ true → is_some o ≡ true
+-- where an end is open there is one
+pub open_some : (o : Option (Option ℕ)) (t : ℕ) → is_open o t ≡ true → is_some o ≡ true
 open_some None t h = absurd (true≢false (sym h))
 open_some (Some e) t h = refl
 

@@ -9,7 +9,7 @@ module _ {N : Type 0} (key : N → ℕ) where
   abbrev Same : List N → List N → Type 0
   Same ns ms = (k : ℕ) → at_key key k ns ≡ at_key key k ms
 
-  head_in : (n : N) (ns : List N) → at_key key (key n) (n ∷ ns) ≡ Some n
+  pub head_in : (n : N) (ns : List N) → at_key key (key n) (n ∷ ns) ≡ Some n
   head_in n ns = cond-true (eqb (key n) (key n)) (Some n) (at_key key (key n) ns) (eq-eqb (key n) (key n) refl)
 
   behind : (n : N) (ns : List N) (k : ℕ) → (key n ≡ k → ⊥) → at_key key k (n ∷ ns) ≡ at_key key k ns

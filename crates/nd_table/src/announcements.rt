@@ -48,8 +48,8 @@ fn comes_to_the_end<K, Q: NamesKey<K> + Copy, I: Announces<K, Q> + Drop>(
     true
 }
 
-/// Returns true if the announcements of a message, taken in order, never lead to more entries than `limit`. Names of keys that change are kept in
-/// `kept`, whatever is in it before.
+/// Returns true if the announcements of a message heard at `now`, in milliseconds, never lead to more entries than `limit`, taken in order. Names of
+/// keys that change are kept in `kept`, whatever is in it before.
 pub fn fits_all<K, Q: NamesKey<K> + Copy, I: Announces<K, Q> + Copy + Drop>(
     entries: &[Lasting<K>],
     limit: usize,

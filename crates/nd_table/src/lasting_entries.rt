@@ -96,8 +96,8 @@ pub fn drop_ended<K: Drop, A: Allocator>(entries: &mut Vec<Lasting<K>, A>, now: 
     entries.retain(|entry| is_before(now, entry.end));
 }
 
-/// Takes an announcement of a key by its name, for a lifetime in seconds, and removes the entries that have ended. There is room for it, and `key`
-/// is given if the announcement adds it. Returns true if it only refreshes an entry.
+/// Takes an announcement of a key by its name at `now`, in milliseconds, for a lifetime in seconds, and removes the entries that have ended. There is
+/// room for it, and `key` is given if the announcement adds it. Returns true if it only refreshes an entry.
 #[tactic(auto, using(crate::proofs::Finding::renewed_absent))]
 pub fn announce<K: Drop, Q: NamesKey<K>, A: Allocator>(
     entries: &mut Vec<Lasting<K>, A>,
@@ -128,7 +128,7 @@ pub fn announce<K: Drop, Q: NamesKey<K>, A: Allocator>(
     false
 }
 
-/// Returns true if there is room for an announcement: it leads to no more entries than `limit`.
+/// Returns true if there is room for an announcement at `now`, in milliseconds, for a lifetime in seconds: it leads to no more entries than `limit`.
 pub fn has_room<K, Q: NamesKey<K>>(
     entries: &[Lasting<K>],
     limit: usize,
@@ -149,7 +149,7 @@ pub fn has_room<K, Q: NamesKey<K>>(
     count(entries, now) < limit
 }
 
-/// Returns true if an announcement adds the key that it names.
+/// Returns true if an announcement at `now`, in milliseconds, for a lifetime in seconds, adds the key that it names.
 pub fn enters<K, Q: NamesKey<K>>(entries: &[Lasting<K>], now: u64, name: &Q, lifetime: u32) -> bool
     ensures { result ≡ enters Q.same now (Q.named name.now) lifetime entries.now }
 {
