@@ -1,5 +1,5 @@
 -- A neighbour in a lease: a use changes nothing, and its state lasts.
-use Rattle.std.specs.Prelude.{nat_lt}
+use Rattle.std.specs.Prelude.{nat_le, nat_lt}
 use Rattle.std.proofs.Common.{◌≡◌, ◌<◌, ◌≤◌, ◌+◌, ◌-◌, ℕ, Bool, true, false, cond, eqb, get_or, length, set, List, ◌∷◌, Option, Some, None, refl, sym, ◌∙◌, ap, subst, arith, inl, inr}
 use Rattle.std.specs.List.{remove}
 use Rattle.std.specs.Option.{option_map}
@@ -13,7 +13,7 @@ use Rattle.nd_neighbour.specs.Due.{Falls}
 use Rattle.nd_neighbour.specs.DueKept.{NoneBefore, Turns, date_of, falls, next_in, solicited, solicited_to, stays}
 use Rattle.nd_neighbour.specs.EntryKept.{NeighbourEntry, Stage, Resolving, Known, known_mac}
 use Rattle.nd_neighbour.specs.History.{Row, Story, story, Used}
-use Rattle.nd_neighbour.specs.LeaseKept.{LeavesLeases, leased_to, leased_until, mac_at, outlasts, outlasts_in}
+use Rattle.nd_neighbour.specs.LeaseKept.{LeavesLeases, LeavesMacs, leased_to, leased_until, mac_at, outlasts, outlasts_in}
 use Rattle.nd_neighbour.specs.ReachabilityConfirmationKept.{confirmed, confirmed_to}
 use Rattle.nd_neighbour.specs.SendingKept.{known_used}
 use Rattle.nd_neighbour.specs.declared.shown.Reachability.TheVariants.{Reachable, Stale}
@@ -24,13 +24,13 @@ use Rattle.nd_neighbour.specs.AddressResolution.{resolution_of, waiting_of}
 use Rattle.nd_neighbour.specs.StoryKept.{entry_of, the_entry}
 use Rattle.nd_neighbour.specs.TableKept.{Alters, NotThere, Rises, Stands, There, address, entry_in}
 use Rattle.nd_neighbour.specs.Wanting.{IsKnown, then_wanted, wanting_by}
-use Rattle.nd_neighbour.specs.WantingKept.{GainsWish, wanting_in, wanting_to, wished_to}
+use Rattle.nd_neighbour.specs.WantingKept.{GainsWish, wanting_in, wanting_to, wished, wished_to}
 use Rattle.nd_neighbour.proofs.Changes.{when_used_by_wish}
 use Rattle.nd_neighbour.proofs.Dues.{known_by}
 use Rattle.nd_neighbour.proofs.Forgetting.{state_is}
 use Rattle.nd_neighbour.proofs.NewsCalls.{confirmed_key, no_place_needed}
 use Rattle.nd_neighbour.proofs.Planning.{solicited_key}
-use Rattle.nd_neighbour.proofs.WishCalls.{wanting_by_history}
+use Rattle.nd_neighbour.proofs.WishCalls.{wanting_by_history, wished_key}
 use Rattle.nd_neighbour.proofs.Steps.{entry_present, passing}
 use Rattle.nd_neighbour.proofs.Stories.{absent_mac}
 
@@ -167,7 +167,7 @@ not_after now moment None from most = absurd most
 not_after now moment (Some x) from most = omega (arith, from, most)
 
 module _ (key : ℕ) (old : List NeighbourEntry) (rises : Rises old) (i : ℕ) (n m : NeighbourEntry) (lt : i < length old) (is : n ≡ get_or old i n) (found : entry_in key old ≡ Some n) (same_key : m.key ≡ n.key)
-    (same_mac : known_mac m.stage ≡ known_mac n.stage) (longer : leased_to n.stage n.due ≤ leased_to m.stage m.due) (later : n.due ≤ m.due) where
+    (same_mac : known_mac m.stage ≡ known_mac n.stage) where
   m_key : m.key ≡ key
   m_key = same_key ∙ key_is address key old n found
 
@@ -185,14 +185,19 @@ module _ (key : ℕ) (old : List NeighbourEntry) (rises : Rises old) (i : ℕ) (
         subst (λ (o : Option NeighbourEntry). P (entry_in k old) o) (sym (found_then k ∙ cond-false (eqb m.key k) (Some m) (entry_in k old) other)) (same (entry_in k old))
   ]
 
-  due_later : (now : ℕ) → NoneBefore old now → NoneBefore (set old i m) now
-  due_later now none =
-      let there : now ≤ n.due = not_after now n.due (next_in old) none (least_at_most address date_of key old n n.due found (omega arith)) in
-      NotBefore-set date_of now old i m none (omega (arith, there, later))
+  -- an entry that keeps its link-layer address leaves them all
+  pub change_leaves_macs : LeavesMacs old (set old i m)
+  change_leaves_macs = each (λ a b. mac_at b ≡ mac_at a) same_mac (λ o. refl)
 
-  -- an entry that keeps its link-layer address and its lease leaves them all
-  pub change_leaves : LeavesLeases old (set old i m)
-  change_leaves = record { mac = each (λ a b. mac_at b ≡ mac_at a) same_mac (λ o. refl); lease = each (λ a b. leased_until a ≤ leased_until b) longer (λ o. omega arith); due = due_later }
+  module _ (longer : leased_to n.stage n.due ≤ leased_to m.stage m.due) (later : n.due ≤ m.due) where
+    due_later : (now : ℕ) → NoneBefore old now → NoneBefore (set old i m) now
+    due_later now none =
+        let there : now ≤ n.due = not_after now n.due (next_in old) none (least_at_most address date_of key old n n.due found (omega arith)) in
+        NotBefore-set date_of now old i m none (omega (arith, there, later))
+
+    -- one that keeps its lease too leaves these
+    pub change_leaves : LeavesLeases old (set old i m)
+    change_leaves = record { mac = change_leaves_macs; lease = each (λ a b. leased_until a ≤ leased_until b) longer (λ o. omega arith); due = due_later }
 
 -- ---- a confirmation
 
@@ -218,6 +223,27 @@ module _ (at reachable : ℕ) where
       let n_within : outlasts_in (at + reachable) n.stage n.due ≡ true = subst (λ (o : Option NeighbourEntry). outlasts (at + reachable) o ≡ true) found within in
       subst (λ (l : List NeighbourEntry). LeavesLeases old l) (sym same)
       (change_leaves key old rises i n (confirmed at reachable n) lt is found (confirmed_key at reachable n n.stage) (confirmed_mac n.stage n refl) (confirmed_lease n.stage n n.due n_within) (confirmed_due n.stage n n_within))
+
+-- ---- a wish for a neighbour that has an entry
+
+module _ (at retrans : ℕ) where
+  used_mac : (mac : ℕ) (c : Bool) (since : ℕ) (p : Option Probing) (n : NeighbourEntry) → n.stage ≡ Known mac c since p → known_mac (known_used mac c since p at retrans n).stage ≡ Some mac
+  used_mac mac c since None n is = elim (cases_Bool (nat_le since at)) [
+    | inl stale ↦ ap (λ (m : NeighbourEntry). known_mac m.stage) (cond-true (nat_le since at) _ n stale)
+    | inr reachable ↦ ap (λ (m : NeighbourEntry). known_mac m.stage) (cond-false (nat_le since at) _ n reachable) ∙ ap known_mac is
+  ]
+  used_mac mac c since (Some p) n is = ap known_mac is
+
+  wished_mac : (k : Stage) (n : NeighbourEntry) → n.stage ≡ k → known_mac (wished_to k at retrans n).stage ≡ known_mac k
+  wished_mac (Resolving r t b ws) n is = refl
+  wished_mac (Known mac c since p) n is = used_mac mac c since p n is
+
+  -- it leaves the link-layer addresses
+  pub wished_leaves : (key : ℕ) (old new : List NeighbourEntry) → Rises old → Alters key (λ n. wished at retrans n) old new → LeavesMacs old new
+  wished_leaves key old new rises (NotThere none same) = subst (λ (l : List NeighbourEntry). LeavesMacs old l) (sym same) (λ k. refl)
+  wished_leaves key old new rises (There i n lt is found same) =
+      subst (λ (l : List NeighbourEntry). LeavesMacs old l) (sym same)
+      (change_leaves_macs key old rises i n (wished at retrans n) lt is found (wished_key at retrans n n.stage) (wished_mac n.stage n refl))
 
 -- ---- a solicitation that was due
 

@@ -31,8 +31,12 @@ abbrev pub outlasts : ℕ → Option NeighbourEntry → Bool
 outlasts end None = true
 outlasts end (Some n) = outlasts_in end n.stage n.due
 
+-- the link-layer addresses are the same
+abbrev pub LeavesMacs : List NeighbourEntry → List NeighbourEntry → Type 0
+LeavesMacs old new = (key : ℕ) → mac_at (entry_in key new) ≡ mac_at (entry_in key old)
+
 -- The link-layer addresses are the same, no lease ends earlier, and nothing is due earlier.
 pub record LeavesLeases (old new : List NeighbourEntry) : Type 0 where
-  pub mac : (key : ℕ) → mac_at (entry_in key new) ≡ mac_at (entry_in key old)
+  pub mac : LeavesMacs old new
   pub lease : (key : ℕ) → leased_until (entry_in key old) ≤ leased_until (entry_in key new)
   pub due : (now : ℕ) → NoneBefore old now → NoneBefore new now

@@ -35,6 +35,7 @@ pub enum Want {
 
 impl<A: Allocator + Clone> Cache<A> {
     ghost use Rattle.nd_neighbour.specs.History.{Row, story};
+    ghost use Rattle.nd_neighbour.specs.LeaseKept.{LeavesMacs};
     ghost use Rattle.nd_neighbour.specs.TableKept.{Stands, entry_in};
     ghost use Rattle.nd_neighbour.specs.PlaceKept.{NoPlace};
     ghost use Rattle.nd_neighbour.specs.Story.{is_present, mac_of};
@@ -59,6 +60,9 @@ impl<A: Allocator + Clone> Cache<A> {
         ensures full { (result ≡ Err CacheRefusal.Full) ↔ NoPlace self.old.limit now (number_of addr.0) self.old.entries }
         ensures memory { result ≡ Err CacheRefusal.Memory → (self.old.rings ≡ 0) × (entry_in (number_of addr.0) self.old.entries ≡ None) }
         ensures same { OnErr result (self.new ≡ self.old) }
+
+        // The wish for a neighbour that has an entry leaves all link-layer addresses.
+        ensures macs { OnOk result (is_some (entry_in (number_of addr.0) self.old.entries) ≡ true → LeavesMacs self.old.entries self.new.entries) }
 
         ensures limit { self.new.limit ≡ self.old.limit }
         ensures waiting { self.new.waiting ≡ self.old.waiting }

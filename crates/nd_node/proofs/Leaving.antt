@@ -1,6 +1,6 @@
 -- What leaves the paths of a node leaves their leases.
 use Rattle.std.proofs.Common.{◌≡◌, ◌<◌, ◌≤◌, ◌+◌, ℕ, Bool, true, false, List, Option, Some, None, refl, sym, ◌∙◌, ap, subst, arith, inl, inr}
-use Rattle.std.specs.Prelude.{◌&&◌, ◌-◌, ◌⊎◌, if◌then◌else◌, is_some, nat_lt}
+use Rattle.std.specs.Prelude.{◌&&◌, ◌-◌, ◌⊎◌, if◌then◌else◌, nat_lt}
 use Rattle.std.specs.Option.{option_map}
 use Rattle.std.proofs.lemmas.Bool.Decides.{nat_tests}
 use Rattle.std.proofs.lemmas.Bool.{cases_Bool, cond-false, cond-true}
@@ -21,7 +21,7 @@ use Rattle.nd_neighbour.specs.declared.shown.Reachability.TheVariants.{Delay, In
 use Rattle.nd_neighbour.specs.DueKept.{date_of, next_in}
 use Rattle.nd_neighbour.specs.EntryKept.{Known, NeighbourEntry, Resolving, Stage}
 use Rattle.nd_neighbour.specs.declared.unreachability_detection.Probing.{Probing}
-use Rattle.nd_neighbour.specs.LeaseKept.{LeavesLeases, leased_to, leased_until, mac_at}
+use Rattle.nd_neighbour.specs.LeaseKept.{LeavesLeases, leased_to, leased_until}
 use Rattle.nd_neighbour.specs.Shown.{is_leased}
 use Rattle.nd_neighbour.specs.ShownKept.{left_in, seen, state_in}
 use Rattle.nd_neighbour.specs.TableKept.{Table, address, entry_in}
@@ -29,16 +29,12 @@ use Rattle.nd_neighbour.proofs.Leases.{in_lease, leased_fresh, not_after}
 use Rattle.nd_routers.specs.RoutersKept as routers
 use Rattle.nd_slaac.specs.Dates as address_dates
 use Rattle.nd_params.specs.ReachableTime.{redraw_after}
-use Rattle.nd_nexthop.specs.Choice.{target_in}
-use Rattle.nd_nexthop.specs.DefaultRouter.{DefaultRouter}
 use Rattle.nd_nexthop.specs.NextHop.{NextHop, direct, hop, no_route, via}
 use Rattle.nd_chronicle.specs.Happening.{Chronicle, last_moment}
 use Rattle.nd_chronicle.specs.Start.{Start}
-use Rattle.nd_steps.specs.DestinationCache.{linked_by, own_in}
-use Rattle.nd_steps.specs.NextHop.{is_resolved}
 use Rattle.nd_steps.specs.RouterTables.{next_advertisement}
 use Rattle.nd_steps.specs.SolicitRouters.{next_solicitation}
-use Rattle.nd_steps.proofs.Remembering.{candidates_same, open_before}
+use Rattle.nd_steps.proofs.Remembering.{open_before}
 use Rattle.nd_node.specs.declared.node.Node.{Node}
 use Rattle.nd_node.specs.Moments.{earlier}
 use Rattle.nd_node.specs.NodeKept.{Stands, next_of}
@@ -47,25 +43,14 @@ use Rattle.nd_node.specs.PathKept.{InLease, LeavesPaths, hop_kept, left_by_hop, 
 use Rattle.nd_node.proofs.Lasting.{GoesOn, kept_goes_on, kept_next}
 use Rattle.nd_node.proofs.Leases.{kept_is_path, lease_settled}
 use Rattle.nd_node.proofs.Moments.{before_addresses, before_advertisement, before_neighbours, before_redraw, before_routers, before_second, before_solicitation, none_before}
+use Rattle.nd_node.proofs.Paths.{mac_of_path}
+use Rattle.nd_node.proofs.Ways.{ways_left}
 
 -- ---- what leaves them
-
-resolved_by_mac : (o : Option NeighbourEntry) → is_resolved o ≡ is_some (mac_at o)
-resolved_by_mac None = refl
-resolved_by_mac (Some n) = refl
 
 module _ {R A : Type 0} (old : Node R A) (after : Table) (at : ℕ) (leaves : LeavesLeases old.neighbours.entries after.entries) where
   abbrev later : Node R A
   later = record old { neighbours = after; last = at }
-
-  same_resolved : (key : ℕ) → is_resolved (entry_in key after.entries) ≡ is_resolved (entry_in key old.neighbours.entries)
-  same_resolved key = resolved_by_mac (entry_in key after.entries) ∙ (ap is_some (leaves.mac key) ∙ sym (resolved_by_mac (entry_in key old.neighbours.entries)))
-
-  hop_same : (role : Role) (now : ℕ) (destination : Addr) → hop_kept role later now destination ≡ hop_kept role old now destination
-  hop_same Host now destination =
-      ap (λ (c : List DefaultRouter). hop (own_in old.addresses.addresses) (linked_by (open_at now old.prefixes.entries)) c (target_in (number_of destination.0) old.choice.redirects.entries) destination.0)
-      (candidates_same old.neighbours.entries after.entries old.routers same_resolved)
-  hop_same Router now destination = refl
 
   due_later : next_of old ≤ next_of later
   due_later =
@@ -82,7 +67,7 @@ module _ {R A : Type 0} (old : Node R A) (after : Table) (at : ℕ) (leaves : Le
 
   -- neighbours that leave the leases
   pub neighbours_leave : LeavesPaths old later
-  neighbours_leave = record { up = refl; hop = hop_same old.role; neighbours = leaves; due = due_later }
+  neighbours_leave = record { up = refl; hop = (ways_left old after old.choice at refl leaves.mac).hop; neighbours = leaves; due = due_later }
 
 module _ {R A : Type 0} (old : Node R A) (at : ℕ) where
   -- time that passes
@@ -102,10 +87,6 @@ leave_both a b c ab bc = record {
 }
 
 -- ---- what it leaves
-
-mac_of_path : (up : Bool) (x due : ℕ) (end : Option ℕ) (next : NextHop) (o : Option NeighbourEntry) → (path_by up x due end next (option_map (seen x) o)).mac ≡ mac_at o
-mac_of_path up x due end next None = refl
-mac_of_path up x due end next (Some n) = refl
 
 state_of_path : (up : Bool) (x due : ℕ) (end : Option ℕ) (next : NextHop) (o : Option NeighbourEntry) → x < leased_until o → (path_by up x due end next (option_map (seen x) o)).state ≡ Some Stale → ⊥
 state_of_path up x due end next None lt is = omega (arith, lt)

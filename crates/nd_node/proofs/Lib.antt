@@ -29,6 +29,7 @@ pub mod Memory
 pub mod OutgoingPackets
 pub mod Wishes
 pub mod Paths
+pub mod Ways
 pub mod Lasting
 pub mod Leases
 pub mod Leaving

@@ -11,6 +11,8 @@ use Rattle.nd_addr.specs.Prefix.{PrefixValue}
 use Rattle.nd_addr.specs.Same.{same_prefix}
 use Rattle.nd_table.specs.declared.lasting.Lasting.{Lasting}
 use Rattle.nd_table.specs.Listing.{Lists, open_at}
+use Rattle.nd_neighbour.specs.EntryKept.{NeighbourEntry}
+use Rattle.nd_neighbour.specs.LeaseKept.{mac_at}
 use Rattle.nd_neighbour.specs.Shown.{Seen}
 use Rattle.nd_neighbour.specs.ShownKept.{seen}
 use Rattle.nd_neighbour.specs.TableKept.{entry_in}
@@ -31,6 +33,11 @@ use Rattle.nd_node.specs.Path.{IsPath, PathSeen, first_end, neighbour_at, path_b
 pub next_of_path : (up : Bool) (now due : ℕ) (end : Option ℕ) (next : NextHop) (found : Option Seen) → (path_by up now due end next found).next ≡ next
 next_of_path up now due end next None = refl
 next_of_path up now due end next (Some n) = refl
+
+-- to the link-layer address that is kept
+pub mac_of_path : (up : Bool) (now due : ℕ) (end : Option ℕ) (next : NextHop) (o : Option NeighbourEntry) → (path_by up now due end next (option_map (seen now) o)).mac ≡ mac_at o
+mac_of_path up now due end next None = refl
+mac_of_path up now due end next (Some n) = refl
 
 module _ {R A : Type 0} (stream : R → Stream) (start : Start) (node : Node R A) (c : Chronicle) (now due : ℕ) (destination : Addr) (s : Stands stream start node c) (le : last_moment start.at c ≤ now) (next_due : NextDue start c due) where
   kept : List (Lasting PrefixValue)

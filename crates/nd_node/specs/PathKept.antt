@@ -10,7 +10,7 @@ use Rattle.nd_addr.specs.Number.{holds, number_of}
 use Rattle.nd_table.specs.Listing.{open_at}
 use Rattle.nd_neighbour.specs.DueKept.{stays}
 use Rattle.nd_neighbour.specs.EntryKept.{NeighbourEntry}
-use Rattle.nd_neighbour.specs.LeaseKept.{LeavesLeases}
+use Rattle.nd_neighbour.specs.LeaseKept.{LeavesLeases, LeavesMacs}
 use Rattle.nd_neighbour.specs.Shown.{Seen}
 use Rattle.nd_neighbour.specs.ShownKept.{seen}
 use Rattle.nd_neighbour.specs.TableKept.{entry_in}
@@ -79,6 +79,11 @@ pub record InLease {R A : Type 0} (node : Node R A) (now : ℕ) (destination to 
   pub holds : now < (path_kept node now destination).until
   pub to_is : towards (path_kept node now destination).next destination ≡ number_of to.0
   pub mac_is : (path_kept node now destination).mac ≡ Some (number_of mac.0)
+
+-- The next hops and the link-layer addresses are the same at each moment.
+pub record LeavesWays {R A : Type 0} (old new : Node R A) : Type 0 where
+  pub hop : (now : ℕ) (destination : Addr) → hop_kept new.role new now destination ≡ hop_kept old.role old now destination
+  pub macs : LeavesMacs old.neighbours.entries new.neighbours.entries
 
 -- Packets go the same way at each moment: the next hops and the link-layer addresses are the same, no lease ends earlier, and nothing is due earlier.
 pub record LeavesPaths {R A : Type 0} (old new : Node R A) : Type 0 where

@@ -2,9 +2,10 @@
 //! `specs/Resolve.antt`.
 
 ghost use Rattle.std.specs.Option.{option_map};
-ghost use Rattle.std.specs.Prelude.{◌≡◌, ℕ, ◌+◌, ◌++◌, [], ◌∷◌, ◌<◌, ◌≤◌, IfOk, IsOk, None, OnErr, OnOk, is_some, true, vec_capacity, vec_len};
+ghost use Rattle.std.specs.Prelude.{◌≡◌, ℕ, ◌+◌, ◌++◌, [], ◌∷◌, ◌<◌, ◌≤◌, IfOk, IfSome, IsOk, None, OnErr, OnOk, Some, is_some, true, vec_capacity, vec_len};
 ghost use Rattle.nd_addr.specs.Number.{number_of};
 ghost use Rattle.nd_table.specs.Moment.{IsMoment};
+ghost use Rattle.nd_neighbour.specs.LeaseKept.{mac_at};
 ghost use Rattle.nd_neighbour.specs.RoomKept.{has_room};
 ghost use Rattle.nd_neighbour.specs.TableKept.{entry_in};
 ghost use Rattle.nd_nexthop.specs.NextHop.{direct};
@@ -24,7 +25,7 @@ ghost use Rattle.nd_node.specs.EventKept.{AddsEvent};
 ghost use Rattle.nd_node.specs.Frame.{AddsAlone, Stays};
 ghost use Rattle.nd_node.specs.Hearing.{Keeps};
 ghost use Rattle.nd_node.specs.Memory.{AddsRefusal, IsAnsweredAtOnce, NeedsNoEntry};
-ghost use Rattle.nd_node.specs.Resolve.{AddsPath, AddsWish, WishTold, answer_by, answer_row, with_answer};
+ghost use Rattle.nd_node.specs.Resolve.{AddsPath, AddsWish, IsWay, LeadsTo, WishTold, answer_by, answer_row, with_answer};
 ghost use Rattle.nd_node.specs.Time.{Leads};
 
 use crate::answer::Answer;
@@ -59,6 +60,7 @@ fn known_in(want: Want) -> Option<Mac>
 
 impl<R: Rng + Drop, A: Allocator + Clone> Node<R, A> {
     ghost use Rattle.nd_node.specs.NodeKept.{Stands, next_of};
+    ghost use Rattle.nd_node.specs.PathKept.{LeavesWays, hop_kept};
 
     /// Takes the wish for the link-layer address of `to`, a neighbour for which there is room, at the moment of the last event, in milliseconds, and
     /// returns the address if it is known (RFC 4861, sections 7.2.2 and 7.3.3). It takes no memory: the caller has made room for the solicitation, for
@@ -78,6 +80,7 @@ impl<R: Rng + Drop, A: Allocator + Clone> Node<R, A> {
         requires room { vec_len outs.old + rows_of_wish solicitation ≤ vec_capacity outs.old }
         ensures leads { (destination : Addr) → Leads R.stream self.old self.new outs.old.items (outs.new.items ++ (now, reports.Path destination (ways.To to result)) ∷ []) (WishTold now destination (number_of to.0)) }
         ensures left { vec_len outs.new < vec_capacity outs.new }
+        ensures ways { IfSome result (λ mac. LeavesWays self.old self.new × (mac_at (entry_in (number_of to.0) self.new.neighbours.entries) ≡ Some (number_of mac.0))) }
     {
         nd_neighbour::laws::none_overdue();
         nd_neighbour::laws::one_is_pushed_out();
@@ -110,6 +113,7 @@ impl<R: Rng + Drop, A: Allocator + Clone> Node<R, A> {
         ensures told { OnErr result (outs.new.items ≡ outs.old.items) }
         ensures quiet { is_some (entry_in (number_of to.0) self.old.neighbours.entries) ≡ true → vec_len outs.old < vec_capacity outs.old → IsOk result }
         ensures refused { (destination : Addr) (start : Start) (c : Chronicle) → Stands R.stream start self.old c → AddsRefusal now c (WantsIfPlaced start now destination (number_of to.0)) → vec_len outs.old < vec_capacity outs.old → IsOk result }
+        ensures way { IfOk result (LeadsTo to self.old self.new) }
     {
         nd_neighbour::laws::room_is_place();
         nd_neighbour::laws::full_by_history();
@@ -136,6 +140,7 @@ impl<R: Rng + Drop, A: Allocator + Clone> Node<R, A> {
         requires settled { now < next_of self.old }
         ensures adds { IfOk result (λ answer. (destination : Addr) → AddsAlone R.stream self.old self.new outs.old.items (with_answer outs.new.items now destination answer) now (answer_row destination answer)) }
         ensures answer { IfOk result (λ answer. answer ≡ resolution) }
+        ensures clock { OnOk result (self.new ≡ record self.old { last = now }) }
         ensures left { OnOk result (vec_len outs.new < vec_capacity outs.new) }
         ensures keeps { OnErr result (Keeps self.old self.new) }
         ensures told { outs.new.items ≡ outs.old.items }
@@ -162,6 +167,7 @@ impl<R: Rng + Drop, A: Allocator + Clone> Node<R, A> {
         ensures told { OnErr result (outs.new.items ≡ outs.old.items) }
         ensures quiet { NeedsNoEntry direct destination self.old.neighbours.entries → vec_len outs.old < vec_capacity outs.old → IsOk result }
         ensures refused { (start : Start) (c : Chronicle) → Stands R.stream start self.old c → AddsRefusal now c (PathAdds start now direct destination) → vec_len outs.old < vec_capacity outs.old → IsOk result }
+        ensures way { hop_kept self.old.role self.old now destination ≡ direct → IfOk result (IsWay self.new now destination) }
     {
         if destination.is_multicast() {
             let mac = Mac::multicast(destination);
@@ -188,6 +194,7 @@ impl<R: Rng + Drop, A: Allocator + Clone> Node<R, A> {
         ensures told { OnErr result (outs.new.items ≡ outs.old.items) }
         ensures quiet { NeedsNoEntry (hop_of hop) destination self.old.neighbours.entries → vec_len outs.old < vec_capacity outs.old → IsOk result }
         ensures refused { (start : Start) (c : Chronicle) → Stands R.stream start self.old c → AddsRefusal now c (PathAdds start now (hop_of hop) destination) → vec_len outs.old < vec_capacity outs.old → IsOk result }
+        ensures way { hop_kept self.old.role self.old now destination ≡ hop_of hop → IfOk result (IsWay self.new now destination) }
     {
         match hop {
             Hop::Direct => self.resolve_directly(now, destination, outs),
@@ -213,6 +220,7 @@ impl<R: Rng + Drop, A: Allocator + Clone> Node<R, A> {
         ensures told { OnErr result (outs.new.items ≡ outs.old.items) }
         ensures quiet { (places : ℕ) (start : Start) (c : Chronicle) → Stands R.stream start self.old c → last_moment start.at c ≤ now → IsAnsweredAtOnce start c self.old now destination places → vec_len outs.old < vec_capacity outs.old → IsOk result }
         ensures refused { (start : Start) (c : Chronicle) → Stands R.stream start self.old c → last_moment start.at c ≤ now → AddsRefusal now c (EventAdds start now (events.Resolves destination)) → vec_len outs.old < vec_capacity outs.old → IsOk result }
+        ensures way { (start : Start) (c : Chronicle) → Stands R.stream start self.old c → last_moment start.at c ≤ now → IfOk result (IsWay self.new now destination) }
     {
         if let Some(refusal) = self.refusal_unless_up() {
             return self.answer_at_once(now, Resolution::Refused(refusal), outs);

@@ -16,7 +16,7 @@ use Rattle.nd_node.specs.EventKept.{AddsEvent}
 use Rattle.nd_node.specs.NodeKept.{Stands, next_of}
 use Rattle.nd_node.specs.Resolve.{answer_by, with_answer}
 use Rattle.nd_node.specs.Time.{Leads, Passes}
-use Rattle.nd_node.proofs.Steps.{follows}
+use Rattle.nd_node.proofs.Steps.{follows, walk_last}
 use Rattle.nd_node.proofs.Leases.{due_is}
 use Rattle.nd_node.proofs.Walks.{settle_end, still}
 use Rattle.nd_random.specs.declared.source.Source.{Source}
@@ -32,6 +32,13 @@ time_passes node queue now lt =
     settle_end stream_of_source (λ start c d next end idle moment le le' w. idle_passes start c d next end idle moment le le' w) node node queue queue now (next_of node)
     (still stream_of_source node queue now) (λ start c s. due_is stream_of_source start node c s) lt
 
+-- what happens up to a moment leads to a node that stands for it
+pub passed_stands : (old mid : Node Source Global) (before after : List (ℕ × Out Global)) (now : ℕ) → old.last ≤ now → Leads stream_of_source old mid before after (Passes now)
+    → (start : Start) (c : Chronicle) → Stands stream_of_source start old c → (d : Chronicle) × Stands stream_of_source start mid d × (last_moment start.at d ≤ now)
+passed_stands old mid before after now le passes start c s =
+    let e = passes.each start c s in
+    (e.0, e.2, walk_last start c e.0 (last_moment start.at c) now e.1 (omega (arith, le, s.last)))
+
 -- what is due is done, and then the question is answered at once
 pub answered_at_once : (old mid new : Session) (now : ℕ) (destination : Addr) (answer : PathAnswer) → old.node.last ≤ now
     → Leads stream_of_source old.node mid.node old.queue mid.queue (Passes now) → AnsweredAtOnce now destination answer mid new → AnsweredBy now destination answer old new
@@ -41,6 +48,7 @@ answered_at_once old mid new now destination answer le passes a = record {
   leads = subst (λ (q : List (ℕ × Out Global)). Leads stream_of_source old.node new.node old.queue (with_answer q now destination a.resolution) (FollowsBy now (events.Resolves destination) (answer_by a.resolution))) (sym a.queue)
       (follows stream_of_source old.node mid.node new.node old.queue mid.queue (with_answer mid.queue now destination a.resolution) now (events.Resolves destination) le passes (a.adds mid.queue));
   lease = a.lease;
+  goes = λ start c s. a.goes;
 }
 
 -- a session at which time alone passed is as ready as before

@@ -13,19 +13,24 @@ use Rattle.nd_table.specs.Listing.{open_at}
 use Rattle.nd_neighbour.specs.declared.shown.Reachability.{Reachability}
 use Rattle.nd_neighbour.specs.declared.shown.Reachability.TheVariants.{Delay}
 use Rattle.nd_nexthop.specs.NextHop.{NextHop}
+use Rattle.nd_out.specs.declared.out.Way.{Way}
+use Rattle.nd_out.specs.declared.out.Way.TheVariants as ways
 use Rattle.nd_node.specs.declared.node.Node.{Node}
+use Rattle.nd_node.specs.declared.resolve.Resolution.TheVariants as resolutions
 use Rattle.nd_node.specs.NodeKept.{Stands, next_of}
 use Rattle.nd_node.specs.Path.{IsPath, PathSeen, first_end}
 use Rattle.nd_node.specs.PathKept.{InLease, hop_kept, left_by_hop, left_kept, path_by_hop, path_kept, towards, up_kept}
+use Rattle.nd_node.specs.Resolve.{IsWay}
 use Rattle.nd_node.proofs.Lasting.{kept_lasts}
 use Rattle.nd_node.proofs.Leaving.{LeftGoesOn, left_lasts}
 use Rattle.nd_node.proofs.Leases.{kept_is_path, lease_settled}
 use Rattle.nd_random.specs.declared.source.Source.{Source}
 use Rattle.nd_random.specs.Source.{stream_of_source}
 use Rattle.nd_session.specs.declared.paths.LeasedPath.{LeasedPath}
+use Rattle.nd_session.specs.declared.resolve.PathAnswer.TheVariants.{Path}
 use Rattle.nd_session.specs.declared.session.Session.{Session}
 use Rattle.nd_session.specs.Paths.{AreRemembered, IsPathAt, left_at}
-use Rattle.nd_session.specs.Resolve.{IsLeased}
+use Rattle.nd_session.specs.Resolve.{GoesThere, IsLeased}
 use Rattle.nd_session.specs.Slots.{AreForgotten, IsRecalled, Slots}
 
 -- ---- what is remembered
@@ -140,6 +145,17 @@ module _ (slots : Slots) (node : Node Source Global) (now : ℕ) (destination : 
   pub recalled_settled : now < next_of node
   recalled_settled = lease_settled node now now destination (omega arith) recalled_in_lease.holds
 
+  -- packets go there at the node at which the time has passed
+  pub recalled_goes : (way : Way) → ways.To path.to (Some path.mac) ≡ way → (session : Session) → session.node ≡ record node { last = now } → GoesThere now destination (Path way path.state path.until) session
+  recalled_goes way way_is session is =
+      let at : path_kept node now destination ≡ path_kept session.node now destination = sym (ap (λ (n : Node Source Global). path_kept n now destination) is ∙ path_later node now now destination) in
+      subst (λ (w : Way). GoesThere now destination (Path w path.state path.until) session) way_is
+      (λ lt. record {
+        holds = subst (λ (p : PathSeen). now < p.until) at recalled_in_lease.holds;
+        to_is = subst (λ (p : PathSeen). towards p.next destination ≡ number_of path.to.0) at recalled_in_lease.to_is;
+        mac_is = subst (λ (p : PathSeen). p.mac ≡ Some (number_of path.mac.0)) at recalled_in_lease.mac_is;
+      })
+
   -- and so is it at the node at which the time has passed
   pub recalled_leased : (session : Session) → session.node ≡ record node { last = now } → IsLeased now destination path.state path.until session
   recalled_leased session is =
@@ -169,3 +185,17 @@ kept_leased node session now destination path is settled same = record {
   );
   due = λ le. absurd (let next = ap (λ (n : Node Source Global). next_of n) same in omega (arith, le, settled, next));
 }
+
+-- within its lease packets go where they go by the node
+pub way_goes : (node : Node Source Global) (session : Session) (now : ℕ) (destination : Addr) (way : Way) (path : PathSeen) → path ≡ path_kept node now destination → session.node ≡ node
+    → IsWay node now destination (resolutions.Path way) → GoesThere now destination (Path way path.state path.until) session
+way_goes node session now destination (ways.To to (Some mac)) path is same goes = λ lt.
+    subst (λ (n : Node Source Global). InLease n now destination to mac) (sym same) (record { holds = subst (λ (p : PathSeen). now < p.until) is lt; to_is = goes.0; mac_is = goes.1 })
+way_goes node session now destination (ways.To to None) path is same goes = tt
+way_goes node session now destination ways.NoRoute path is same goes = tt
+
+-- an answer without a lease says nothing of that
+pub nothing_goes : (session : Session) (now : ℕ) (destination : Addr) (way : Way) → GoesThere now destination (Path way None now) session
+nothing_goes session now destination (ways.To to (Some mac)) = λ lt. absurd (omega (arith, lt))
+nothing_goes session now destination (ways.To to None) = tt
+nothing_goes session now destination ways.NoRoute = tt

@@ -1,15 +1,16 @@
 use Rattle.std.specs.Prelude.{is_some}
-use Rattle.std.proofs.lemmas.Bool.{cond-true}
+use Rattle.std.proofs.lemmas.Bool.{cond-true, true≢false}
 use Rattle.std.proofs.Common.{◌≡◌, ◌≤◌, ◌-◌, ◌∙◌, ℕ, max, sym, ap, subst, arith, Option, None}
 use Rattle.nd_addr.specs.Number.{number_of}
 use Rattle.nd_neighbour.specs.EntryKept.{NeighbourEntry}
-use Rattle.nd_neighbour.specs.TableKept.{Table, entry_in, Alters}
+use Rattle.nd_neighbour.specs.TableKept.{Alters, Rises, Table, entry_in}
 use Rattle.nd_neighbour.specs.PlaceKept.{Gives}
 use Rattle.nd_neighbour.specs.WantingKept.{wanting_in, wished, wished_entry}
 use Rattle.nd_neighbour.specs.Rings.{Rings, RoomWithin}
 use Rattle.nd_neighbour.specs.View.{wanting_of}
 use Rattle.nd_neighbour.proofs.Finds.{was_there, not_there, no_rings, holding, has_place_there}
 use Rattle.nd_neighbour.proofs.WishCalls.{takes_wish, wanting_by_history}
+use Rattle.nd_neighbour.proofs.Leases.{wished_leaves}
 use Rattle.nd_neighbour.proofs.Waiting.{begun_by_wish_within}
 use Rattle.nd_neighbour.proofs.cache.Cache.want.Goals as goal
 
@@ -88,3 +89,17 @@ invariant_of-self-2 g c =
       subst (λ (n : ℕ). RoomWithin n c.begin_wished.new.entries.items) (sym same)
           (begun_by_wish_within c.self.inside.rings.room c.self.inside.limit c.args.now key c.args.times.retrans (wished_entry key c.args.now c.args.times.retrans c.in-Ok-take_or_make.ring.waiting.room) _ _ fit c.begin_wished.ensures.gives was.4),
     )
+
+pub returns-in-Ok-clause-macs : goal.returns-in-Ok-clause-macs
+returns-in-Ok-clause-macs g c = λ _.
+    let key = number_of c.args.addr.0 in
+    let new = c.wish.new.entries.items in
+    wished_leaves c.args.now c.args.times.retrans key c.args.self.now.entries new (subst (λ (t : Table). Rises t.entries) c.self.view_is c.self.invariant.3.order)
+    (subst (λ (t : Table). Alters key (λ n. wished c.args.now c.args.times.retrans n) t.entries new) c.self.view_is c.wish.ensures.alters)
+
+pub returns-clause-macs : goal.returns-clause-macs
+returns-clause-macs g c = λ there.
+    let key = number_of c.args.addr.0 in
+    let old = c.args.self.now.entries in
+    let none : entry_in key old ≡ None = not_there c.args.self.now.limit c.args.now key old c.deref.result.now (c.deref.ensures.value ∙ ap (λ (t : Table). t.entries) c.self.view_is) c.in-Err.ensures.absent in
+    absurd (true≢false (sym there ∙ ap is_some none))

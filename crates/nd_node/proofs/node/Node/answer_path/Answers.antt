@@ -1,4 +1,4 @@
-use Rattle.std.proofs.Common.{◌≡◌, List, ◌∷◌, sym, subst}
+use Rattle.std.proofs.Common.{◌≡◌, List, ◌∷◌, sym, subst, ◌<◌, ℕ}
 use Rattle.nd_neighbour.specs.EntryKept.{NeighbourEntry}
 use Rattle.nd_nexthop.specs.NextHop.{NextHop}
 use Rattle.nd_chronicle.specs.Happening.{Passed}
@@ -11,6 +11,9 @@ use Rattle.nd_node.specs.declared.resolve.Resolution.TheVariants as answers
 use Rattle.nd_node.proofs.OutgoingPackets.{hop_later}
 use Rattle.nd_node.proofs.Refusals.{path_to_hop}
 use Rattle.nd_node.proofs.Wishes.{answered_with, not_resolved, resolved}
+use Rattle.nd_node.specs.NodeKept.{next_of}
+use Rattle.nd_node.specs.Resolve.{IsWay}
+use Rattle.nd_node.proofs.Leases.{kept_hop}
 use Rattle.nd_node.proofs.node.Node.answer_path.Goals as goal
 
 pub returns-in-Some-clause-adds : goal.returns-in-Some-clause-adds
@@ -39,3 +42,14 @@ returns-clause-quiet g c = λ places start c' s le at_once place.
     let same : at_once.next ≡ hop = one_hop ((c.args.now, Passed) ∷ c') c.args.now start start.role c.args.destination at_once.next hop at_once.hop next in
     let needs : NeedsNoEntry hop c.args.destination c.args.self.now.neighbours.entries = subst (λ (h : NextHop). NeedsNoEntry h c.args.destination c.args.self.now.neighbours.entries) same at_once.entry in
     c.resolve_by_hop.ensures.quiet (subst (λ (l : List NeighbourEntry). NeedsNoEntry hop c.args.destination l) (sym c.hop_of_packet-hop.ensures.neighbours) needs) place
+
+pub returns-in-Some-clause-way : goal.returns-in-Some-clause-way
+returns-in-Some-clause-way g c = λ start c' s le.
+    answered_with c.answer_at_once.result (answers.Refused c.in-Some.refusal) _ (IsWay c.answer_at_once.new.self c.args.now c.args.destination) (λ _. tt) c.answer_at_once.ensures.clock c.answer_at_once.ensures.answer
+
+pub returns-clause-way : goal.returns-clause-way
+returns-clause-way g c = λ start c' s le.
+    let node = c.hop_of_packet-hop.new.self in
+    let settled : c.args.now < next_of node = subst (λ (due : ℕ). c.args.now < due) (sym c.hop_of_packet-hop.ensures.due) c.requires.settled in
+    c.resolve_by_hop.ensures.way
+    (one_hop c' c.args.now start start.role c.args.destination _ _ (kept_hop g.R.Rng.stream start node c' (c.hop_of_packet-hop.ensures.stands start c' s) c.args.now c.args.destination le settled) (c.hop_of_packet-hop.ensures.next start c' s le))

@@ -1,4 +1,4 @@
-use Rattle.std.proofs.Common.{◌≡◌, ℕ, Option, true, refl, subst, ap}
+use Rattle.std.proofs.Common.{◌≡◌, ℕ, Option, true, refl, subst, ap, ◌∙◌}
 use Rattle.nd_addr.specs.Number.{number_of}
 use Rattle.nd_neighbour.specs.TableKept.{entry_in}
 use Rattle.nd_neighbour.specs.View.{wanting_of}
@@ -10,6 +10,8 @@ use Rattle.nd_chronicle.specs.Happening.{Path, WayTo}
 use Rattle.nd_out.specs.declared.out.Out.TheVariants as reports
 use Rattle.nd_out.specs.declared.out.Way.TheVariants as ways
 use Rattle.nd_node.proofs.Wishes.{answered_behind, wish_leads}
+use Rattle.std.proofs.lemmas.Option.{IfSome_then}
+use Rattle.nd_node.proofs.Ways.{known_by_wish, ways_left}
 use Rattle.nd_node.proofs.node.Node.wish.Goals as goal
 
 may : (g : _) (c : goal.After-known_in g) → MayRemember c.args.self.now.choice c.note_wish.new.choice c.args.self.now.neighbours.entries c.want.new.self.entries
@@ -28,3 +30,13 @@ returns-clause-leads g c = λ destination.
 
 pub tell_wish-requires-clause-ready : goal.tell_wish-requires-clause-ready
 tell_wish-requires-clause-ready g c = λ asks. c.requires.solicitation (begins_by_absent (entry_in (number_of c.args.to.0) c.args.self.now.neighbours.entries) (subst (λ (w : Wanting). begins_by w ≡ true) c.in-Ok.ensures.value asks))
+
+pub returns-clause-ways : goal.returns-clause-ways
+returns-clause-ways g c =
+    let old = c.args.self.now in
+    let entry = entry_in (number_of c.args.to.0) old.neighbours.entries in
+    IfSome_then c.known_in.result (known_by_wish entry (wanting_of c.in-Ok.want) c.known_in.result c.in-Ok.ensures.value c.known_in.ensures)
+    (λ mac known. (
+      ways_left old c.want.new.self c.note_wish.new.choice old.last (may_redirects old.choice c.note_wish.new.choice old.neighbours.entries c.want.new.self.entries (may g c)) (c.in-Ok.ensures.macs known.0),
+      c.in-Ok.ensures.macs known.0 (number_of c.args.to.0) ∙ known.1,
+    ))

@@ -1,6 +1,7 @@
-use Rattle.std.proofs.Common.{refl}
+use Rattle.std.proofs.Common.{◌≡◌, Some, refl}
+use Rattle.nd_out.specs.declared.out.Way.TheVariants as ways
 use Rattle.nd_node.specs.declared.resolve.Resolution.TheVariants as resolutions
-use Rattle.nd_session.proofs.Remembered.{recalled_leased, recalled_settled, remembers_later}
+use Rattle.nd_session.proofs.Remembered.{recalled_goes, recalled_leased, recalled_settled, remembers_later}
 use Rattle.nd_session.proofs.session.Session.answer_within.Goals as goal
 
 pub invariant_of-self : goal.invariant_of-self
@@ -15,4 +16,6 @@ returns-in-Path-clause-answered c = record {
   adds = c.in-Path.ensures.adds;
   queue = refl;
   lease = recalled_leased c.args.self.now.paths c.args.self.now.node c.args.now c.args.destination c.args.path c.args.self.now.remembered c.requires.recalled _ c.answer_leased.ensures.clock;
+  goes = recalled_goes c.args.self.now.paths c.args.self.now.node c.args.now c.args.destination c.args.path c.args.self.now.remembered c.requires.recalled c.in-Path.way
+      (let is = c.in-Path.ensures.answer in let same : ways.To c.args.path.to (Some c.args.path.mac) ≡ c.in-Path.way = cc in same) _ c.answer_leased.ensures.clock;
 }

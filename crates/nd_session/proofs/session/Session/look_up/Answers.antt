@@ -1,6 +1,7 @@
 use Rattle.std.proofs.Common.{◌++◌, ap, subst, sym}
 use Rattle.std.specs.Prelude.{reverse}
 use Rattle.nd_chronicle.specs.Event as events
+use Rattle.nd_node.specs.NodeKept.{Stands}
 use Rattle.nd_node.specs.Resolve.{with_answer}
 use Rattle.nd_node.specs.Time.{Leads, Passes}
 use Rattle.nd_node.proofs.Steps.{follows}
@@ -8,7 +9,7 @@ use Rattle.nd_random.specs.Source.{stream_of_source}
 use Rattle.nd_session.specs.Ready.{IsReady}
 use Rattle.nd_session.specs.declared.session.Session.{Session}
 use Rattle.nd_session.proofs.Behind.{path_behind}
-use Rattle.nd_session.proofs.Idling.{answered_at_once, leads_on, ready_later, ready_on}
+use Rattle.nd_session.proofs.Idling.{answered_at_once, leads_on, passed_stands, ready_later, ready_on}
 use Rattle.nd_session.proofs.Keeping.{nothing_ready, path_ready}
 use Rattle.nd_session.proofs.Remembered.{remembers_nothing}
 use Rattle.nd_session.proofs.session.Session.look_up.Goals as goal
@@ -50,6 +51,11 @@ returns-clause-resolved c =
           (leads_on c.args.self.now c.settled_path.new.self c.remember.new.self c.remember.ensures.node c.remember.ensures.queue c.in_ok-timed.ensures.passes))
           (path_behind stream_of_source c.self.inside.0.0 c.answer_path.new.self (reverse q.due.items) (reverse q.front.items) q.back.items c.answer_path.new.outs.items c.args.now c.args.destination resolution c.in_ok-resolution.ensures.adds));
       lease = c.with_lease.ensures.lease;
+      goes = λ start history s.
+          let mid = c.remember.new.self in
+          let d = passed_stands c.args.self.now.node mid.node c.args.self.now.queue mid.queue c.args.now c.requires.in_time
+          (leads_on c.args.self.now c.settled_path.new.self mid c.remember.ensures.node c.remember.ensures.queue c.in_ok-timed.ensures.passes) start history s in
+          c.with_lease.ensures.goes (c.in_ok-resolution.ensures.way start d.0 (subst (λ (s : Session). Stands stream_of_source start s.node d.0) (sym c.self.view_is) d.1) d.2);
     }
 
 pub returns-clause-ready : goal.returns-clause-ready
