@@ -15,7 +15,7 @@ use Rattle.nd_neighbour.specs.GivingWay.{IsAskedLongest, IsFullOfSpeakers, IsInc
 use Rattle.nd_neighbour.specs.GivingWayKept.{asked_longest, begun, begun_at, begun_to}
 use Rattle.nd_neighbour.specs.History.{Row, story}
 use Rattle.nd_neighbour.specs.Place.{WouldBeFull}
-use Rattle.nd_neighbour.specs.PlaceKept.{NoPlace, has_place}
+use Rattle.nd_neighbour.specs.PlaceKept.{has_place}
 use Rattle.nd_neighbour.specs.ReachabilityConfirmation.{Evidence}
 use Rattle.nd_neighbour.specs.Removal.{Removes, WasNot, Gone}
 use Rattle.nd_neighbour.specs.RoomKept.{has_first}
@@ -117,12 +117,6 @@ module _ (limit now key : ℕ) (ns : List NeighbourEntry) (history : List Row) (
   -- where there is no room the history leaves none
   pub full_first : has_first limit now key ns ≡ false → WouldBeFull limit now key history
   full_first none = (full_by_history limit now key ns history s).0 (none_or (entry_in key ns) (has_place limit now ns) none)
-
-  pub no_first : WouldBeFull limit now key history → has_first limit now key ns ≡ false
-  no_first full = let place : NoPlace limit now key ns = (full_by_history limit now key ns history s).1 full in rw (place.0, place.1) refl
-
-  pub room_left : has_first limit now key ns ≡ true → WouldBeFull limit now key history → ⊥
-  room_left room full = true≢false (sym room ∙ no_first full)
 
   -- and there is no way where none is incomplete
   pub no_way : has_first limit now key ns ≡ false → (b : Bool) → (b ≡ is_some (asked_longest ns)) → (b ≡ false) ↔ IsFullOfSpeakers limit now key history

@@ -335,7 +335,7 @@ one_made limit now history a b true p q = one_place limit now history a b p q
 one_made limit now history a b false p q = p ∙ sym q
 
 module _ (limit now key : ℕ) (ns : List NeighbourEntry) (history : List Row) (s : Stands ns history) where
-  first_by_history : has_first limit now key ns ≡ true → WouldBeFull limit now key history → ⊥
+  pub first_by_history : has_first limit now key ns ≡ true → WouldBeFull limit now key history → ⊥
   first_by_history h full = first_has limit now key ns h ((full_by_history limit now key ns history s).1 full)
 
   -- the rows of a packet for the first, and the list that stands for them

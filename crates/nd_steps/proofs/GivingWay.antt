@@ -115,7 +115,7 @@ other_story k key at kind history other = by (key == k) refl
     by true is = absurd (other (eqb-true key k is))
     by false is = refl
 
--- where it ended it is absent, also behind the end of one more
+-- one that is absent is so behind the end of one more
 pushed_too : (k now : ℕ) (pushed : Option ℕ) (history : List Row) → story k history ≡ [] → story k (pushing now pushed history) ≡ []
 pushed_too k now None history is = is
 pushed_too k now (Some key) history is = by (key == k) refl

@@ -9,12 +9,13 @@ use Rattle.nd_neighbour.specs.Removal.{Removes, waiting_at}
 use Rattle.nd_neighbour.specs.RoomKept.{has_first}
 use Rattle.nd_neighbour.specs.TableKept.{Table, address, entry_in}
 use Rattle.nd_neighbour.proofs.Forgetting.{removed_gains, waits_by_history}
-use Rattle.nd_neighbour.proofs.GivingWay.{absent_behind, first_absent, full_first, longest_found, named, named_in, named_none, no_way_left, none_incomplete, room_behind, room_left}
+use Rattle.nd_neighbour.proofs.GivingWay.{absent_behind, first_absent, full_first, longest_found, named, named_in, named_none, no_way_left, none_incomplete, room_behind}
+use Rattle.nd_neighbour.proofs.Second.{first_by_history}
 use Rattle.nd_neighbour.proofs.cache.Cache.give_way.Goals as goal
 
 pub returns-then-room-clause-way : goal.returns-then-room-clause-way
 returns-then-room-clause-way g c = λ history s full.
-    absurd (room_left c.args.self.now.limit c.args.now (number_of c.args.addr.0) c.args.self.now.entries history s (sym c.if-room.ensures.value) full)
+    absurd (first_by_history c.args.self.now.limit c.args.now (number_of c.args.addr.0) c.args.self.now.entries history s (sym c.if-room.ensures.value) full)
 
 pub returns-in_err-gone-clause-way : goal.returns-in_err-gone-clause-way
 returns-in_err-gone-clause-way g c = λ history s.

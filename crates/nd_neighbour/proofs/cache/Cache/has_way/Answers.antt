@@ -5,13 +5,14 @@ use Rattle.nd_addr.specs.Number.{number_of}
 use Rattle.nd_neighbour.specs.EntryKept.{NeighbourEntry}
 use Rattle.nd_neighbour.specs.GivingWayKept.{asked_longest}
 use Rattle.nd_neighbour.specs.TableKept.{Table}
-use Rattle.nd_neighbour.proofs.GivingWay.{named_some, no_way, room_left}
+use Rattle.nd_neighbour.proofs.GivingWay.{named_some, no_way}
+use Rattle.nd_neighbour.proofs.Second.{first_by_history}
 use Rattle.nd_neighbour.proofs.cache.Cache.has_way.Goals as goal
 
 pub returns-then-room-clause-history : goal.returns-then-room-clause-history
 returns-then-room-clause-history g c = λ history s. (
   (λ e. absurd (true≢false (sym c.if-room.true ∙ e))),
-  (λ full. absurd (room_left c.args.self.now.limit c.args.now (number_of c.args.addr.0) c.args.self.now.entries history s (sym c.if-room.ensures.value) full.full)),
+  (λ full. absurd (first_by_history c.args.self.now.limit c.args.now (number_of c.args.addr.0) c.args.self.now.entries history s (sym c.if-room.ensures.value) full.full)),
 )
 
 pub returns-else-room-clause-history : goal.returns-else-room-clause-history
