@@ -57,17 +57,27 @@ fn two_hosts<'h>(
     told: &mut Vec<Told<&'h Heap>, &'h Heap>,
 ) -> Link<MemoryWire, Pcg32, &'h Heap> {
     let mut link = Link::new(heap, MemoryWire);
+    begin(rt, heap, &mut link, told);
+    link
+}
+
+/// The hosts start, and the first one sends.
+fn begin<'h>(
+    rt: &impl Abort,
+    heap: &'h Heap,
+    link: &mut Link<MemoryWire, Pcg32, &'h Heap>,
+    told: &mut Vec<Told<&'h Heap>, &'h Heap>,
+) {
     let packet = OutgoingPacket {
         source: OWN,
         destination: OTHER,
         next_header: 59,
         payload: Vec::new(heap),
     };
-    comes(rt, &mut link, 0, starts(MAC), told);
-    comes(rt, &mut link, 0, starts(OTHER_MAC), told);
+    comes(rt, link, 0, starts(MAC), told);
+    comes(rt, link, 0, starts(OTHER_MAC), told);
     let sends = LinkEvent::Comes(0, Event::Sends(packet));
-    comes(rt, &mut link, 20_000, sends, told);
-    link
+    comes(rt, link, 20_000, sends, told);
 }
 
 /// A host starts.

@@ -32,6 +32,43 @@ fn come<'h>(
     node.event(3000, event, outs).expect(rt, "memory");
 }
 
+/// Hears a router.
+fn hear<'h>(
+    rt: &impl Abort,
+    heap: &'h Heap,
+    node: &mut Node<Pcg32, &'h Heap>,
+    outs: &mut Vec<(u64, Out<&'h Heap>), &'h Heap>,
+) {
+    let mut frame = Vec::new(heap);
+    frame.extend_from_slice(&ADVERTISEMENT).expect(rt, "memory");
+    come(rt, node, &Event::Passes, outs);
+    come(rt, node, &Event::Receives(frame), outs);
+}
+
+/// Sends to each destination, while this request of each packet is refused.
+fn send_to_each<'h>(
+    rt: &impl Abort,
+    heap: &'h Heap,
+    node: &mut Node<Pcg32, &'h Heap>,
+    refused: u64,
+    outs: &mut Vec<(u64, Out<&'h Heap>), &'h Heap>,
+) {
+    for number in 0..DESTINATIONS {
+        let destination = Addr::from_bits(
+            0x2001_0db8_0001_0000_0000_0000_0000_0000 | u128::from(number),
+        );
+        let event = Event::Sends(OutgoingPacket {
+            source: OWN,
+            destination,
+            next_header: 59,
+            payload: Vec::new(heap),
+        });
+        heap.refuse(refused);
+        come(rt, node, &event, outs);
+        assert!(rt; !heap.is_waiting());
+    }
+}
+
 /// What a host sends to each destination, twice, behind a router that it heard. The first request of a packet is for its place among the
 /// remembered next hops.
 fn sent<'h>(rt: &impl Abort, heap: &'h Heap, refused: u64) -> String<&'h Heap> {
@@ -46,27 +83,11 @@ fn sent<'h>(rt: &impl Abort, heap: &'h Heap, refused: u64) -> String<&'h Heap> {
         generator,
     )
     .expect(rt, "memory");
-    let mut frame = Vec::new(heap);
-    frame.extend_from_slice(&ADVERTISEMENT).expect(rt, "memory");
     let mut outs = Vec::new(heap);
-    come(rt, &mut node, &Event::Passes, &mut outs);
-    come(rt, &mut node, &Event::Receives(frame), &mut outs);
+    hear(rt, heap, &mut node, &mut outs);
     outs.clear();
     for _ in 0..2 {
-        for number in 0..DESTINATIONS {
-            let destination = Addr::from_bits(
-                0x2001_0db8_0001_0000_0000_0000_0000_0000 | u128::from(number),
-            );
-            let event = Event::Sends(OutgoingPacket {
-                source: OWN,
-                destination,
-                next_header: 59,
-                payload: Vec::new(heap),
-            });
-            heap.refuse(refused);
-            come(rt, &mut node, &event, &mut outs);
-            assert!(rt; !heap.is_waiting());
-        }
+        send_to_each(rt, heap, &mut node, refused, &mut outs);
     }
     let mut text = String::new(heap);
     write_outs(&mut text, &outs).expect(rt, "memory");

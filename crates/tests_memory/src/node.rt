@@ -317,17 +317,15 @@ fn router<'h>(rt: &impl Abort, heap: &'h LocalHeap) -> Node<Pcg32, &'h LocalHeap
 fn each_request_of_a_routers_event_is_refused_once(rt: HostRuntime) {
     let heap = LocalHeap::new(rt.alloc(), AMPLE).expect(&rt, "memory");
     let mut node = router(&rt, &heap);
-    let transit = receives(&heap, &TRANSIT).expect(&rt, "memory");
-    refuse_each(&rt, &heap, &mut node, 3000, &transit);
-    refuse_each(&rt, &heap, &mut node, 3000, &Event::Shows(Table::Advertise));
-    refuse_each(&rt, &heap, &mut node, 3000, &Event::Shows(Table::Routes));
-    refuse_each(
-        &rt,
-        &heap,
-        &mut node,
-        3000,
-        &Event::Clears(Clearable::Neighbours),
-    );
-    refuse_each(&rt, &heap, &mut node, 20_000, &Event::Passes);
-    refuse_each(&rt, &heap, &mut node, 20_000, &Event::Stops);
+    let events = [
+        (3000, receives(&heap, &TRANSIT).expect(&rt, "memory")),
+        (3000, Event::Shows(Table::Advertise)),
+        (3000, Event::Shows(Table::Routes)),
+        (3000, Event::Clears(Clearable::Neighbours)),
+        (20_000, Event::Passes),
+        (20_000, Event::Stops),
+    ];
+    for (now, event) in &events {
+        refuse_each(&rt, &heap, &mut node, *now, event);
+    }
 }

@@ -166,23 +166,20 @@ fn what_is_counted(rt: HostRuntime) {
 }
 
 /// A host's events. The neighbour is known when the packet is sent.
-#[test]
-fn how_much_a_host_asks_for(rt: HostRuntime) {
-    let heap = Refusing::new(rt.alloc());
-    let mut node = started(&rt, &heap, Role::Host);
+fn asks_of_a_host<'h>(rt: &impl Abort, heap: &'h Heap, node: &mut Node<Pcg32, &'h Heap>) {
     let packet = Event::Sends(OutgoingPacket {
         source: OWN,
         destination: ASKER,
         next_header: 59,
-        payload: Vec::new(&heap),
+        payload: Vec::new(heap),
     });
     for (event, told, requests, bytes) in [
         // A frame that is dropped.
-        (receives(&rt, &heap, &EMPTY), 1, 0, 0),
+        (receives(rt, heap, &EMPTY), 1, 0, 0),
         // It adds nothing more.
-        (receives(&rt, &heap, &ADVERTISEMENT), 1, 0, 0),
+        (receives(rt, heap, &ADVERTISEMENT), 1, 0, 0),
         // The answer.
-        (receives(&rt, &heap, &SOLICITATION), 2, 1, FRAME),
+        (receives(rt, heap, &SOLICITATION), 2, 1, FRAME),
         // The packet, which is two headers.
         (packet, 1, 1, 14 + 40),
         // Two rows.
@@ -193,8 +190,8 @@ fn how_much_a_host_asks_for(rt: HostRuntime) {
             SHOWN_BYTES,
         ),
         // What the neighbour answers, and a Redirect to it: they add nothing more.
-        (receives(&rt, &heap, &ANSWER), 1, 0, 0),
-        (receives(&rt, &heap, &REDIRECT), 1, 0, 0),
+        (receives(rt, heap, &ANSWER), 1, 0, 0),
+        (receives(rt, heap, &REDIRECT), 1, 0, 0),
         // Nothing is due.
         (Event::Passes, 0, 0, 0),
     ] {
@@ -203,7 +200,7 @@ fn how_much_a_host_asks_for(rt: HostRuntime) {
             requests,
             bytes,
         };
-        asks(&rt, &heap, &mut node, 3000, 0, &event, most);
+        asks(rt, heap, node, 3000, 0, &event, most);
     }
     // Once all else is over, the neighbours after a day, a turn draws ReachableTime every two hours (RFC 4861, section 6.3.4). It sends nothing, and
     // asks for room for a frame all the same.
@@ -212,40 +209,37 @@ fn how_much_a_host_asks_for(rt: HostRuntime) {
         requests: 1,
         bytes: FRAME,
     };
-    asks(
-        &rt,
-        &heap,
-        &mut node,
-        100_000_000,
-        7_200_000,
-        &Event::Passes,
-        most,
-    );
+    asks(rt, heap, node, 100_000_000, 7_200_000, &Event::Passes, most);
 }
 
 #[test]
-fn how_much_a_router_asks_for(rt: HostRuntime) {
+fn how_much_a_host_asks_for(rt: HostRuntime) {
     let heap = Refusing::new(rt.alloc());
-    let mut node = started(&rt, &heap, Role::Router);
+    let mut node = started(&rt, &heap, Role::Host);
+    asks_of_a_host(&rt, &heap, &mut node);
+}
+
+/// A router's events.
+fn asks_of_a_router<'h>(rt: &impl Abort, heap: &'h Heap, node: &mut Node<Pcg32, &'h Heap>) {
     let flags = ConfigFlags {
         managed: false,
         other: false,
         preference: Preference::Medium,
     };
-    let config = Config::new(3, 4, 1800, 64, flags, 0, 0, 0).expect(&rt, "settings");
-    let [on_link, behind] = routes().expect(&rt, "routes");
+    let config = Config::new(3, 4, 1800, 64, flags, 0, 0, 0).expect(rt, "settings");
+    let [on_link, behind] = routes().expect(rt, "routes");
     let events = [
         Event::Advertises(config),
         Event::PutsRoute(on_link),
         Event::PutsRoute(behind),
     ];
     for event in &events {
-        let _asked = ask(&rt, &heap, &mut node, 3000, event);
+        let _asked = ask(rt, heap, node, 3000, event);
     }
     // Advertisements are 3 to 4 s apart, so a minute has 20 at most, and the entries for all of them have room.
     let held = heap.held();
     for minute in 1..MINUTES {
-        let asked = ask(&rt, &heap, &mut node, 60_000 * minute, &Event::Passes);
+        let asked = ask(rt, heap, node, 60_000 * minute, &Event::Passes);
         assert!(rt; asked.told >= 14);
         assert!(rt; asked.requests <= asked.told.saturating_mul(ADVERTISED_REQUESTS));
         assert!(rt; asked.bytes <= asked.told.saturating_mul(ADVERTISED_BYTES));
@@ -253,15 +247,22 @@ fn how_much_a_router_asks_for(rt: HostRuntime) {
     assert!(rt; heap.held() == held);
     for (event, told, requests, bytes) in [
         // The packet, which is two headers. The Redirect went before the first one, and its next hop is being resolved.
-        (receives(&rt, &heap, &TRANSIT), 1, 1, 14 + 40),
+        (receives(rt, heap, &TRANSIT), 1, 1, 14 + 40),
         // An answer is planned.
-        (receives(&rt, &heap, &ROUTER_SOLICITATION), 1, 0, 0),
+        (receives(rt, heap, &ROUTER_SOLICITATION), 1, 0, 0),
     ] {
         let most = Asked {
             told,
             requests,
             bytes,
         };
-        asks(&rt, &heap, &mut node, 6_000_000, 0, &event, most);
+        asks(rt, heap, node, 6_000_000, 0, &event, most);
     }
+}
+
+#[test]
+fn how_much_a_router_asks_for(rt: HostRuntime) {
+    let heap = Refusing::new(rt.alloc());
+    let mut node = started(&rt, &heap, Role::Router);
+    asks_of_a_router(&rt, &heap, &mut node);
 }
