@@ -284,6 +284,7 @@ static int32_t path_of(nd_node *node, size_t to, nd_path *path)
     RETRIED(status, node, nd_resolve(node, now, &destinations[to], path));
     require(is_taken(status) && nd_lease_version(node) >= before, "a question does not lower the version");
     require(path->version == (status == ND_DONE ? nd_lease_version(node) : 0), "a lease has the version of the node");
+    require(status == ND_DONE || path->until == now, "a path without a link-layer address has no lease");
     return status;
 }
 
