@@ -114,7 +114,7 @@ solicited_after true now first None answer (Some l) delay h = h
 solicited_after true now first (Some p) (Some a) (Some l) delay h = h
 solicited_after true now first (Some p) None (Some l) delay h = both_later (l + 1) p (answer_date (Some l) now delay) h (answer_after l now delay)
 
-interval_stays : (before interval : ℕ) → 0 < interval → 0 < interval_after before interval
+pub interval_stays : (before interval : ℕ) → 0 < interval → 0 < interval_after before interval
 interval_stays before interval h = grind (arith, nat_tests)
 
 sent_after : (on : Bool) (now : ℕ) (first : Option ℕ) (interval : ℕ) → 0 < interval → NotBefore (now + 1) (date_by on first (Some (now + interval)) None)

@@ -3,8 +3,7 @@ use Rattle.std.proofs.Common.{◌≡◌, ℕ, suc, zero, ◌+◌, ◌-◌, ◌�
 use Rattle.std.specs.Char.{to_ascii_lowercase}
 use Rattle.std.proofs.lemmas.Bool.{ne_eqb}
 use Rattle.std.proofs.lemmas.List.{length-map, drop-replicate}
-use Rattle.std.specs.List.{flat_map}
-use Rattle.nd_search_list.specs.Name.{IsSpelled, label_bytes, lowered}
+use Rattle.nd_search_list.specs.Name.{IsSpelled, lowered}
 use Rattle.nd_search_list.specs.Text.{text_from, name_text}
 use Rattle.nd_search_list.proofs.Texts.{text_from_rest}
 use Rattle.nd_c_types.specs.NameText.{padded}
@@ -16,14 +15,6 @@ length_text_from zero (byte ∷ bytes) = ap suc (length_text_from byte bytes)
 length_text_from (suc left) (byte ∷ bytes) =
     let some : eqb (suc left) 0 ≡ false = ne_eqb _ _ (λ e. omega arith) in
     rw some (ap suc (length_text_from (suc left - 1) bytes))
-
--- a name has a byte
-pub some_byte : (bytes : List ℕ) → IsSpelled bytes → 1 ≤ length bytes
-some_byte bytes s = by_cases s.labels s.some bytes s.joined
-  where
-    by_cases : (labels : List (List ℕ)) → 1 ≤ length labels → (bytes : List ℕ) → bytes ≡ flat_map label_bytes labels → 1 ≤ length bytes
-    by_cases [] h bytes e = absurd (omega arith)
-    by_cases (label ∷ labels) h bytes e = rw e (omega arith)
 
 -- all but the first byte of the name
 pub length_text : (bytes : List ℕ) → 1 ≤ length bytes → length (name_text (lowered bytes)) + 1 ≡ length bytes

@@ -1,5 +1,6 @@
 -- One thing is due first, and a walk leads to one chronicle.
 use Rattle.std.proofs.Common.{◌≡◌, ℕ, List, Option, Some, None, refl, sym, ◌∙◌, ap, subst, arith}
+use Rattle.std.proofs.lemmas.Option.{same_Some}
 use Rattle.nd_neighbour.specs.Due as neighbours_due
 use Rattle.nd_neighbour.proofs.Unique as neighbours
 use Rattle.nd_slaac.specs.Due as addresses_due
@@ -135,9 +136,6 @@ module _ (start : Start) (c : Chronicle) (m : ℕ) where
   one_due a b h k =
       by_router a b h k (router_in a) refl (sym (one_router (router_history c) m (router_in a) (router_in b) (router_due a h) (router_due b k)))
 
-pub same_in : (a b : What) → Some a ≡ Some b → a ≡ b
-same_in a b h = cc
-
 pub none_in : (a : What) → Some a ≡ None → ⊥
 none_in a h = cc
 
@@ -152,5 +150,5 @@ module _ (start : Start) where
   one_walk {c = c} {m = m} (adds x le due w) (passes le' due' w') = absurd (none_in x (one_due start c m (Some x) None due due'))
   one_walk {c = c} {m = m} (passes le due w) (adds x le' due' w') = absurd (none_in x (one_due start c m (Some x) None due' due))
   one_walk {c = c} {e = e} {m = m} {n = n} (adds x le due w) (adds y le' due' w') =
-      let same : y ≡ x = same_in y x (one_due start c m (Some y) (Some x) due' due) in
+      let same : y ≡ x = same_Some y x (one_due start c m (Some y) (Some x) due' due) in
       one_walk w (subst (λ (z : What). Walk start (comes start m z c) m n e) same w')

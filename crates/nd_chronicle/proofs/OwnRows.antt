@@ -3,7 +3,7 @@ use Rattle.std.proofs.Common.{◌≡◌, ℕ, Bool, true, false, cond, List, [],
 use Rattle.std.specs.Prelude.{MatchBool, MatchOption, map, bytes_eq, ◌||◌, ◌&&◌, ◌==◌, ◌≢◌, not}
 use Rattle.std.specs.List.{AllByRecursion}
 use Rattle.nd_addr.specs.Bytes.{IsBytes}
-use Rattle.std.proofs.lemmas.Bool.{eq-eqb, true≢false}
+use Rattle.std.proofs.lemmas.Bool.{eqb-false}
 use Rattle.std.specs.Option.{option_map, option_to_list}
 use Rattle.nd_addr.specs.declared.addr.Addr.{Addr}
 use Rattle.nd_addr.specs.declared.mac.Mac.{Mac}
@@ -214,9 +214,6 @@ spelled_as : (frame : List ℕ) (role : Role) (policies : Policies) (mac : Mac) 
 spelled_as frame role policies mac source destination message (valid s d m) h e = record { spelling = m; spelled = h.4; prefixes = ap prefixes_of e ∙ prefixes_as_said policies mac m.options }
 spelled_as frame role policies mac source destination message (other packet) h e = let no : ⊥ = cc in absurd no
 spelled_as frame role policies mac source destination message (dropped why) h e = let no : ⊥ = cc in absurd no
-
-differs : {a b : ℕ} → (a == b) ≡ false → a ≢ b
-differs {a = a} {b = b} e same = true≢false (sym (eq-eqb a b same) ∙ e)
 
 module _ (start : Start) (now : ℕ) (event : Event) (c : Chronicle) where
   brings_refused : (r : Option Refusal) (A : Chronicle → Type 0) (d : Chronicle) → (A d → Brings start now event c d) → UnlessRefused now r A c d → Brings start now event c d
@@ -471,15 +468,15 @@ module _ (start : Start) (now : ℕ) (event : Event) (c : Chronicle) where
   brings_set own is false false itself known up_is own_is known_is d h = Nothing (ap address_history h)
   brings_set own is false true true known up_is own_is known_is d h = Nothing (ap address_history h)
   brings_set own is false true false true up_is own_is known_is d h =
-      SetsKnown (number_of own.address.0) own.lifetimes (differs own_is) known_is (ap address_history h)
+      SetsKnown (number_of own.address.0) own.lifetimes (eqb-false _ _ own_is) known_is (ap address_history h)
   brings_set own is false true false false up_is own_is known_is d h =
-      brings_refused (option_map Full (no_room h.0)) _ d (λ x. FormsSet own is (differs own_is) known_is up_is (ap address_history x)) h.2
+      brings_refused (option_map Full (no_room h.0)) _ d (λ x. FormsSet own is (eqb-false _ _ own_is) known_is up_is (ap address_history x)) h.2
 
   brings_withdrawn : (key : ℕ) (itself known : Bool) → (key == link_local_key start) ≡ itself → states.is_known (story_of c key) ≡ known → (d : Chronicle)
       → d ≡ cond (known && not itself) ((now, Address key addresses.Ended) ∷ c) c → Brings start now event c d
   brings_withdrawn key true true own_is known_is d h = Nothing (ap address_history h)
   brings_withdrawn key true false own_is known_is d h = Nothing (ap address_history h)
-  brings_withdrawn key false true own_is known_is d h = EndsKnown key (differs own_is) known_is (ap address_history h)
+  brings_withdrawn key false true own_is known_is d h = EndsKnown key (eqb-false _ _ own_is) known_is (ap address_history h)
   brings_withdrawn key false false own_is known_is d h = Nothing (ap address_history h)
 
 pub event_brings : (start : Start) (now : ℕ) (event : Event) (c d : Chronicle) → EventAdds start now event c d → Brings start now event c d

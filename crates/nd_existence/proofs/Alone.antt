@@ -3,6 +3,7 @@ use Rattle.std.proofs.Common.{◌≡◌, ℕ, suc, ◌+◌, ◌<◌, ◌≤◌, 
 use Rattle.std.specs.Prelude.{◌&&◌, not, is_some, if◌then◌else◌}
 use Rattle.std.proofs.lemmas.Bool.{true≢false, cases_lt, cases_Bool, eqb-true}
 use Rattle.std.proofs.Math.Nat.{mul-le-mul_right}
+use Rattle.std.proofs.lemmas.Option.{same_Some}
 use Rattle.nd_addr.specs.Number.{addr_at}
 use Rattle.nd_addr.specs.declared.role.Role.TheVariants.{Router}
 use Rattle.nd_compose.specs.Frames.{detection_frame}
@@ -15,6 +16,7 @@ use Rattle.nd_slaac.specs.Due.{Ends, Solicits, Assigns, IsDue, IsStep, date_by}
 use Rattle.nd_slaac.specs.Ends.{valid_end}
 use Rattle.nd_slaac.specs.History.{Row, Story, story, Formed, Solicited, Assigned}
 use Rattle.nd_slaac.proofs.Steps.{other_story, same_story}
+use Rattle.nd_slaac.proofs.Histories.{assigned_tentative}
 use Rattle.nd_chronicle.specs.Start.{Start, link_local_key}
 use Rattle.nd_chronicle.specs.Happening.{Chronicle, Happening, Address, Drew, ForReachableTime, LeftRouter, Sent}
 use Rattle.nd_chronicle.specs.Histories.{address_history, advertising_history, neighbour_history}
@@ -26,12 +28,6 @@ use Rattle.nd_chronicle.proofs.Keeping.{not_both}
 use Rattle.nd_link_log.proofs.Timely.{known_by}
 
 -- ---- tests
-
-not_trying : (known conflict : Bool) → (known && not conflict && not true) ≡ true → ⊥
-not_trying true true h = true≢false (sym h)
-not_trying true false h = true≢false (sym h)
-not_trying false true h = true≢false (sym h)
-not_trying false false h = true≢false (sym h)
 
 assigned_by : (assigned : Bool) → (not assigned ≡ true → ⊥) → assigned ≡ true
 assigned_by true untried = refl
@@ -50,9 +46,6 @@ no_advertisement : (host on : Bool) (date : Option ℕ) (at : ℕ) → on ≡ fa
 no_advertisement true on date at off h = let no : ⊥ = cc in no
 no_advertisement false true date at off h = true≢false off
 no_advertisement false false date at off h = let no : ⊥ = cc in no
-
-same_date : (a b : ℕ) → Some a ≡ Some b → a ≡ b
-same_date a b e = cc
 
 -- ---- rows
 
@@ -157,7 +150,7 @@ module _ (start : Start) where
         unrivalled = ap has_conflict is ∙ x.unrivalled;
         lasting = ap valid_end is ∙ x.lasting;
         few = subst (λ (t : Story). sent_of t ≤ start.transmits) (sym is) x.few;
-        ahead = subst (λ (t : Story). is_tentative t ≡ true → m ≤ step_at forming (sent_of t)) (sym is) (λ trying. absurd (not_trying (is_known s) (has_conflict s) trying));
+        ahead = subst (λ (t : Story). is_tentative t ≡ true → m ≤ step_at forming (sent_of t)) (sym is) (λ trying. absurd (assigned_tentative (is_known s) (has_conflict s) trying));
       }
     where
       off_still : (b : Bool) → is_on (if b then advertising.Assigned at ∷ advertising_history start c else advertising_history start c) ≡ false
@@ -178,7 +171,7 @@ module _ (start : Start) where
 
     -- its next step is due at the moment
     stepped : IsStep (story_of c own) at → step_at forming (sent_of (story_of c own)) ≡ at
-    stepped s = same_date (step_at forming (sent_of (story_of c own))) at (sym (ap (λ (o : Option Forming). date_by o (sent_of (story_of c own))) x.formed) ∙ s.date)
+    stepped s = same_Some (step_at forming (sent_of (story_of c own))) at (sym (ap (λ (o : Option Forming). date_by o (sent_of (story_of c own))) x.formed) ∙ s.date)
 
     trying_own : (key : ℕ) → IsStep (story_of c key) at → key ≡ own
     trying_own key s =

@@ -2,6 +2,7 @@
 use Rattle.std.proofs.Common.{◌≡◌, ℕ, ◌^◌, Bool, true, false, List, [], ◌∷◌, Some, None, sym, ◌∙◌, ap, subst, inl, inr, lit≤}
 use Rattle.std.specs.Prelude.{codes}
 use Rattle.nd_text.specs.Flags.{flags_text}
+use Rattle.nd_text.proofs.AddressTexts.{some_option}
 use Rattle.nd_addr.specs.declared.addr.Addr.{Addr}
 use Rattle.nd_addr.specs.declared.preference.Preference.{Preference}
 use Rattle.nd_addr.specs.declared.preference.Preference.TheVariants.{High, Medium, Low}
@@ -15,7 +16,7 @@ use Rattle.nd_forwarding.specs.declared.route.Route.TheVariants.{Direct, Via}
 use Rattle.nd_slaac.specs.ByHand.{AddressByHand, may_be_own}
 use Rattle.nd_chronicle.specs.Event.{Clearable, ClearNeighbours, ClearRouters, ClearPrefixes, ClearRedirects, ClearDns}
 use Rattle.nd_chronicle.specs.Shown.{Table, NeighbourTable, RouterTable, PrefixTable, AddressTable, DnsTable, RedirectTable, ParameterTable, AdvertiseTable, RouteTable}
-use Rattle.nd_existence.proofs.Deciding.{Decided, option_cases, same_or, true_or}
+use Rattle.nd_existence.proofs.Deciding.{Decided, same_or, true_or}
 use Rattle.ndpctl_run.specs.Address.{IsAddressWord}
 use Rattle.ndpctl_run.specs.Bytes.{IsBytesWord}
 use Rattle.ndpctl_run.specs.Number.{IsNumberOr}
@@ -185,7 +186,7 @@ settings_by _ = inr (λ p. p.1)
 pub settings_or : (text : List ℕ) → Decided ((s : Settings) × AreSettings text s)
 settings_or text = elim (settings_by (words_of text)) [
   | inr none ↦ inr (λ p. none (p.0, p.1.spelled))
-  | inl s ↦ elim (option_cases (config_fault s.0)) [
+  | inl s ↦ elim (some_option (config_fault s.0)) [
     | inl right ↦ inl (s.0, record { spelled = s.1; right = right })
     | inr fault ↦ inr (λ p.
         let same : p.0 ≡ s.0 = settings.one_spelled (words_of text) p.0 s.0 p.1.spelled s.1 in
@@ -219,7 +220,7 @@ offer_by _ = inr (λ p. p.1)
 pub offer_or : (text : List ℕ) → Decided ((info : PrefixInfo) × IsOffer text info)
 offer_or text = elim (offer_by (words_of text)) [
   | inr none ↦ inr (λ p. none (p.0, p.1.spelled))
-  | inl s ↦ elim (option_cases (offer_fault s.0)) [
+  | inl s ↦ elim (some_option (offer_fault s.0)) [
     | inl right ↦ inl (s.0, record { spelled = s.1; right = right })
     | inr fault ↦ inr (λ p.
         let same : p.0 ≡ s.0 = offers.one_spelled (words_of text) p.0 s.0 p.1.spelled s.1 in

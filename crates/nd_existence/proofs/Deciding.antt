@@ -2,25 +2,19 @@
 use Rattle.std.proofs.Common.{◌≡◌, ℕ, zero, suc, ◌<◌, Bool, true, false, List, Option, Some, None, refl, ap, subst, arith, ◌⊎◌, inl, inr}
 use Rattle.std.proofs.lemmas.Bool.Decides.{nat_tests, eqb_tells}
 use Rattle.std.proofs.lemmas.Bool.{true≢false}
+use Rattle.std.proofs.lemmas.Option.{same_Some}
 use Rattle.nd_addr.specs.Same.{bytes_tell}
 
 -- it holds, or it doesn't
 abbrev pub Decided : Type 0 → Type 0
 Decided A = A ⊎ (A → ⊥)
 
-pub option_cases : {A : Type 0} (o : Option A) → (o ≡ None) ⊎ ((a : A) × (o ≡ Some a))
-option_cases None = inl refl
-option_cases (Some a) = inr (a, refl)
-
-some_is : (a b : ℕ) → Some a ≡ Some b → a ≡ b
-some_is a b e = cc
-
 -- a date is this moment or isn't
 pub dated : (o : Option ℕ) (m : ℕ) → Decided (o ≡ Some m)
 dated None m = inr (λ e. let no : ⊥ = cc in no)
 dated (Some x) m = elim (eqb_tells x m) [
   | inl e ↦ inl (ap Some e.1)
-  | inr d ↦ inr (λ e. d.1 (some_is x m e))
+  | inr d ↦ inr (λ e. d.1 (same_Some x m e))
 ]
 
 pub either_or : {A B : Type 0} → Decided A → Decided B → Decided (A ⊎ B)

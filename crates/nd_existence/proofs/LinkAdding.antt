@@ -3,6 +3,7 @@ use Rattle.std.proofs.Common.{◌≡◌, ℕ, zero, suc, ◌<◌, Bool, true, fa
 use Rattle.std.specs.Prelude.{◌==◌, nat_lt, MatchBool}
 use Rattle.std.proofs.lemmas.Bool.{cond_both}
 use Rattle.std.proofs.lemmas.Bool.Decides.{nat_tests, eqb_tells}
+use Rattle.std.proofs.lemmas.Option.{same_Some}
 use Rattle.nd_chronicle.specs.Start.{Limits, Start, no_policies}
 use Rattle.nd_chronicle.specs.Happening.{Chronicle, Passed, Sent}
 use Rattle.nd_chronicle.specs.History.{beginning}
@@ -17,7 +18,7 @@ use Rattle.nd_existence.specs.Intervals.{AreTimed}
 use Rattle.nd_existence.proofs.Adding.{event_adds}
 use Rattle.nd_existence.proofs.Timing.{event_timed}
 use Rattle.nd_existence.specs.LinkIntervals.{LeavesTime}
-use Rattle.nd_existence.proofs.LinkWalking.{IsFine, same_start, there_is, fine_with}
+use Rattle.nd_existence.proofs.LinkWalking.{IsFine, there_is, fine_with}
 
 -- ---- frames
 
@@ -65,7 +66,7 @@ fine_begun node start log numbered plain fine = record {
   timed = fine.timed;
   plain = λ i s is.
       cond_both (node == i) (Some start) (start_of i log) (λ (o : Option Start). o ≡ Some s → s.policies.speakers ≡ false)
-      (λ own e. subst (λ (x : Start). x.policies.speakers ≡ false) (same_start start s e) plain) (λ other e. fine.plain i s e) is;
+      (λ own e. subst (λ (x : Start). x.policies.speakers ≡ false) (same_Some start s e) plain) (λ other e. fine.plain i s e) is;
 }
 
 module _ (limits : Limits) (now : ℕ) where

@@ -1,8 +1,9 @@
 -- Each millisecond of a link ends, and so does a walk up to a moment.
 use Rattle.std.proofs.Common.{◌≡◌, ℕ, zero, suc, ◌+◌, ◌<◌, ◌≤◌, true, false, [], ◌++◌, Option, Some, None, refl, sym, ◌∙◌, ap, subst, arith, inl, inr}
 use Rattle.std.specs.Prelude.{◌==◌, is_some}
-use Rattle.std.proofs.lemmas.Bool.{true≢false, cases_lt, cases_Bool}
-use Rattle.std.proofs.lemmas.Bool.Decides.{Decides-eqb, nat_tests}
+use Rattle.std.proofs.lemmas.Bool.{true≢false, cases_lt, cases_Bool, ne_eqb}
+use Rattle.std.proofs.lemmas.Bool.Decides.{Decides-eqb}
+use Rattle.std.proofs.lemmas.Option.{same_Some}
 use Rattle.nd_chronicle.specs.Start.{Start}
 use Rattle.nd_chronicle.specs.Happening.{Chronicle}
 use Rattle.nd_chronicle.specs.Due.{Due, comes}
@@ -26,15 +27,9 @@ pub record IsFine (log : Log) : Type 0 where
 pub fine_nothing : IsFine []
 fine_nothing = record { numbered = tt; timed = λ i. tt; plain = λ i start is. absurd (let never : ⊥ = cc in never) }
 
-pub same_start : (a b : Start) → Some a ≡ Some b → a ≡ b
-same_start a b e = cc
-
 pub there_is : (o : Option Start) → is_some o ≡ true → (start : Start) × (o ≡ Some start)
 there_is None is = absurd (true≢false (sym is))
 there_is (Some start) is = (start, refl)
-
-differs : (a b : ℕ) → (a ≡ b → ⊥) → (a == b) ≡ false
-differs a b other = grind (arith, nat_tests, other)
 
 -- rows of a node leave the log fine where its chronicle is
 pub fine_with : (at : ℕ) (rows : Chronicle) (log : Log) → IsFine log → AreTimed (rows ++ chronicle_of at log) → IsFine (adding at rows log)
@@ -62,7 +57,7 @@ module _ (m end : ℕ) (le : m ≤ end) where
 
   below_with : (i : ℕ) (rows : Chronicle) (log : Log) → Below i log → Below i (adding i rows log)
   below_with i rows log below other lt start is =
-      subst (λ (c : Chronicle). Due start c m None) (sym (other_rows other i rows log (differs i other (λ e. absurd (omega (arith, lt, e))))))
+      subst (λ (c : Chronicle). Due start c m None) (sym (other_rows other i rows log (ne_eqb i other (λ e. absurd (omega (arith, lt, e))))))
       (below other lt start (sym (start_with other i rows log) ∙ is))
 
   -- a node is walked through the millisecond
@@ -74,7 +69,7 @@ module _ (m end : ℕ) (le : m ≤ end) where
     where
       here : IsIdle i log m
       here other there' =
-          let same : start ≡ other = same_start start other (sym there ∙ there') in
+          let same : start ≡ other = same_Some start other (sym there ∙ there') in
           subst (λ (s : Start). Due s (chronicle_of i log) m None) same (subst (λ (x : Chronicle). Due start x m None) (sym is) (subst (λ (n : ℕ). Due start c n None) f due))
 
       upto : Below (suc i) log

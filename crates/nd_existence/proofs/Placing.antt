@@ -6,6 +6,7 @@ use Rattle.nd_addr.specs.declared.addr.Addr.{Addr}
 use Rattle.nd_packet.specs.Waiting.{replaced}
 use Rattle.std.proofs.lemmas.Bool.Decides.{nat_tests}
 use Rattle.std.proofs.lemmas.Bool.{cond-false, true≢false, cases_Bool}
+use Rattle.nd_text.proofs.AddressTexts.{some_option}
 use Rattle.nd_neighbour.specs.History as neighbours
 use Rattle.nd_neighbour.specs.History.{Row, story}
 use Rattle.nd_neighbour.specs.Place.{MakesPlace, HadPlace, Pushed, Prepares, pushing, WouldBeFull}
@@ -30,8 +31,8 @@ use Rattle.nd_chronicle.specs.Packet as packets
 use Rattle.nd_chronicle.specs.Packet.{HasPlace, HavePlace, Goes, GoesIfPlaced, with_pushed, then_packet}
 use Rattle.nd_chronicle.specs.Refused.{UnlessFull}
 use Rattle.nd_chronicle.specs.Resolve.{Wants, WantsIfPlaced, then_wanted, wanting_of}
+use Rattle.nd_steps.proofs.Saying.{pushed_history}
 use Rattle.nd_existence.proofs.Tables.{nodes_of, nodes_stand}
-use Rattle.nd_existence.proofs.Deciding.{option_cases}
 use Rattle.nd_existence.proofs.Walking.{losing_keeps}
 
 module _ (limit now key : ℕ) (h : List Row) where
@@ -40,7 +41,7 @@ module _ (limit now key : ℕ) (h : List Row) where
   full_or_not =
       let ns = nodes_of h in
       let by = full_by_history limit now key ns h (nodes_stand h) in
-      elim (option_cases (entry_in key ns)) [
+      elim (some_option (entry_in key ns)) [
         | inr n ↦ inr (λ full. let none = (by.1 full).0 in let no : Some n.0 ≡ None = sym n.1 ∙ none in absurd (let never : ⊥ = cc in never))
         | inl none ↦ elim (cases_Bool (has_place limit now ns)) [
           | inl has ↦ inr (λ full. absurd (true≢false (sym has ∙ (by.1 full).1)))
@@ -57,7 +58,7 @@ module _ (limit now key : ℕ) (h : List Row) where
       let none : entry_in key ns ≡ None = s.each key ∙ cond-false (is_present (story key h)) (Some (the_entry key (story key h))) None absent in
       elim (cases_Bool (ltb (length ns) limit)) [
         | inl few ↦ (None, HadPlace ns s (grind (arith, nat_tests, few)) refl)
-        | inr many ↦ elim (option_cases (stalest now ns)) [
+        | inr many ↦ elim (some_option (stalest now ns)) [
           | inr n ↦ (Some n.0.key, Pushed ns n.0.key s (grind (arith, nat_tests, many)) (stalest_is_longest ns h s now n.0 n.1 (stalest_in now ns n.0 s.order n.1)) refl)
           | inl fresh ↦
               let no : has_place limit now ns ≡ false = ap (λ b. b || is_some (stalest now ns)) many ∙ ap is_some fresh in
@@ -155,10 +156,6 @@ module _ (start : Start) (at key retrans : ℕ) (packet : List ℕ) (placed : Ch
       losing_keeps at (λ d. (at, key, neighbours.Waits packet) ∷ neighbour_history placed ≡ neighbour_history d) (λ why lost d e. e) Replaced
       (option_to_list (replaced room waiting packet)) ((at, Neighbour key (neighbours.Waits packet)) ∷ placed) refl
 
-pushed_rows : (at : ℕ) (pushed : Option ℕ) (c : Chronicle) → neighbour_history (with_pushed at pushed c) ≡ pushing at pushed (neighbour_history c)
-pushed_rows at None c = refl
-pushed_rows at (Some key) c = refl
-
 -- where there is room for two, a packet to the first one leaves place for the second one
 pub second_placed : (start : Start) (c : Chronicle) (now key next : ℕ) (packet : List ℕ) (d : Chronicle) → HasRoom start.limits.neighbours now key (Some next) (neighbour_history c)
     → Goes start c now key packet d → WouldBeFull start.limits.neighbours now next (neighbour_history d) → ⊥
@@ -170,5 +167,5 @@ second_placed start c now key next packet d room g full =
     ap neighbour_history g.goes
     ∙ (sym (packet_rows_by start now key (retrans_timer c) packet g.placed (is_present s) (mac_of s) (room_in (resolution_of s)) (waiting_of s))
     ∙ ap (λ (rest : List Row). sendings.then_packet (is_present s) (mac_of s) now key (retrans_timer c) start.limits.waiting packet rest)
-    (ap neighbour_history g.place.with_it ∙ pushed_rows now g.place.pushed c)) in
+    (ap neighbour_history g.place.with_it ∙ pushed_history now g.place.pushed c)) in
     room.both (retrans_timer c) start.limits.waiting packet made g.place.place (subst (λ (rest : List Row). WouldBeFull start.limits.neighbours now next rest) rows full)

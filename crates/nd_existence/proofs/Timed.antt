@@ -2,11 +2,13 @@
 use Rattle.std.proofs.Common.{◌≡◌, ℕ, ◌+◌, ◌<◌, Bool, true, false, cond, eqb, List, [], ◌∷◌, Option, Some, None, refl, sym, ◌∙◌, subst, arith}
 use Rattle.std.proofs.lemmas.Bool.Decides.{nat_tests}
 use Rattle.std.proofs.lemmas.Bool.{cond_both, cond-true, true≢false}
+use Rattle.std.proofs.lemmas.Option.{same_Some}
 use Rattle.rand_core.specs.Stream.{Stream}
 use Rattle.nd_advertiser.specs.History as advertising
 use Rattle.nd_advertiser.specs.Advertising.{is_on, settings_of, advertised_by, sent_of, next_of, interval_after}
 use Rattle.nd_advertiser.specs.Config.{Settings, is_max_interval, is_min_interval, config_fault}
 use Rattle.nd_advertiser.specs.declared.config_fault.ConfigFault.{ConfigFault}
+use Rattle.nd_advertiser.proofs.Dates.{interval_stays}
 use Rattle.nd_slaac.specs.History as addresses
 use Rattle.nd_chronicle.specs.Start.{Start, link_local_key}
 use Rattle.nd_chronicle.specs.Happening.{Chronicle, Passed, Drew, Heard, Dropped, Up, Neighbour, Address, LeftRouter, Unlisted, ClearedPrefixes, ClearedRedirects, ClearedDns, SolicitedRouters, Configured, Offered, Ceased, Advertised, Planned, RoutePut, RedirectMade, Sent, Lost, Path, Resolved, Refused, Ignored, Shown, TooLate}
@@ -26,13 +28,10 @@ assigned_settings own at key addresses.Solicited h = refl
 assigned_settings own at key addresses.Conflict h = refl
 assigned_settings own at key addresses.Ended h = refl
 
-some_is : (a b : Settings) → Some a ≡ Some b → a ≡ b
-some_is a b e = cc
-
 -- the settings in force leave some time between two advertisements
 pub timed : (start : Start) (c : Chronicle) (s : Settings) → AreTimed c → settings_of (advertising_history start c) ≡ Some s → 0 < s.min_interval
 timed start [] s t is = absurd (let no : ⊥ = cc in no)
-timed start ((at, Configured settings) ∷ c) s t is = subst (λ (x : Settings). 0 < x.min_interval) (some_is settings s is) t.0
+timed start ((at, Configured settings) ∷ c) s t is = subst (λ (x : Settings). 0 < x.min_interval) (same_Some settings s is) t.0
 timed start ((at, Address key kind) ∷ c) s t is = timed start c s t (sym (assigned_settings (link_local_key start) at key kind (advertising_history start c)) ∙ is)
 timed start ((at, Passed) ∷ c) s t is = timed start c s t is
 timed start ((at, Drew what value) ∷ c) s t is = timed start c s t is
@@ -78,9 +77,6 @@ dated_on h m is = cond_both (is_on h) _ None (λ (o : Option ℕ). o ≡ Some m 
 drawn_above : (s : Settings) (stream : Stream) → 0 < s.min_interval → 0 < interval_drawn s stream
 drawn_above s stream some = omega (arith, some)
 
-cut_above : (before interval : ℕ) → 0 < interval → 0 < interval_after before interval
-cut_above before interval some = grind (arith, nat_tests, some)
-
 later_is : (a m : ℕ) → m < a → Some a ≡ Some m → ⊥
 later_is a m lt e = let same : a ≡ m = cc in absurd (omega (arith, lt, same))
 
@@ -88,7 +84,7 @@ later_is a m lt e = let same : a ≡ m = cc in absurd (omega (arith, lt, same))
 next_later : (h : List advertising.Row) (m interval : ℕ) → is_on h ≡ true → 0 < interval → next_of (advertising.Sent m interval ∷ h) ≡ Some m → ⊥
 next_later h m interval on some is =
     let date : next_of (advertising.Sent m interval ∷ h) ≡ Some (m + interval_after (sent_of h) interval) = rw on refl in
-    later_is (m + interval_after (sent_of h) interval) m (let lt = cut_above (sent_of h) interval some in omega (arith, lt)) (sym date ∙ is)
+    later_is (m + interval_after (sent_of h) interval) m (let lt = interval_stays (sent_of h) interval some in omega (arith, lt)) (sym date ∙ is)
 
 pub of_router : (host : Bool) (next : Option ℕ) (m : ℕ) → cond host None next ≡ Some m → next ≡ Some m
 of_router true next m is = absurd (let no : ⊥ = cc in no)

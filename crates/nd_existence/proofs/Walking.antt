@@ -2,6 +2,7 @@
 use Rattle.std.proofs.Common.{◌≡◌, ℕ, zero, suc, ◌+◌, ◌<◌, ◌≤◌, Bool, true, false, cond, List, [], ◌∷◌, length, Option, Some, None, refl, subst, arith, inl, inr}
 use Rattle.std.specs.Prelude.{◌&&◌, not, nat_lt}
 use Rattle.std.proofs.lemmas.Bool.Decides.{nat_tests, eqb_tells}
+use Rattle.nd_text.proofs.AddressTexts.{some_option}
 use Rattle.nd_advertiser.specs.Advertising.{advertised_by}
 use Rattle.nd_advertiser.specs.Config.{Settings}
 use Rattle.nd_decode.specs.Message.{Parts}
@@ -32,7 +33,7 @@ use Rattle.nd_chronicle.specs.Advertising.{with_interval, advertising_by, then_a
 use Rattle.nd_chronicle.specs.Due.{What, RouterEnds, AddressFalls, NeighbourFalls, RoutersSolicited, RouterAdvertises, Redraws, Due, NoRouter, NoAddress, NoNeighbour, NoSolicitation, NoAdvertisement, is_host, solicited_routers, heard_router, router_solicitation_date, router_advertisement_date, then_address, then_neighbour, comes}
 use Rattle.nd_chronicle.specs.History.{Walk, over, adds, passes}
 use Rattle.nd_existence.specs.Intervals.{AreTimed}
-use Rattle.nd_existence.proofs.Deciding.{option_cases, dated}
+use Rattle.nd_existence.proofs.Deciding.{dated}
 use Rattle.nd_existence.proofs.Tables.{nodes_of, nodes_stand, addresses_of, addresses_stand}
 use Rattle.nd_existence.proofs.Listings.{listing, listing_stands}
 use Rattle.nd_existence.proofs.Turning.{neighbour_turns, address_ends, address_steps}
@@ -130,7 +131,7 @@ module _ (start : Start) (m end : ℕ) (le : m ≤ end) where
 
     neighboured : (left : ℕ) (c : Chronicle) (ns : List NeighbourEntry) → kept_neighbours.turns_left ns < left → cache.Stands ns (neighbour_history c) → BehindAddresses start m c → Leads c
     neighboured zero c ns lt s b = absurd (omega (arith, lt))
-    neighboured (suc left) c ns lt s b = elim (option_cases (kept_neighbours.due_in m ns)) [
+    neighboured (suc left) c ns lt s b = elim (some_option (kept_neighbours.due_in m ns)) [
       | inl none ↦ solicited 3 c (omega arith) b.0 b.1 b.2 (none_falls ns (neighbour_history c) s m none)
       | inr n ↦
           let turn = neighbour_turns m ns n.0 s.order n.1 in
@@ -152,9 +153,9 @@ module _ (start : Start) (m end : ℕ) (le : m ≤ end) where
 
     addressed : (left : ℕ) (c : Chronicle) (xs : List Address) → dates.turns_left start.transmits xs < left → own.Stands xs (address_history c) → BehindRouters m c → Leads c
     addressed zero c xs lt s b = absurd (omega (arith, lt))
-    addressed (suc left) c xs lt s b = elim (option_cases (dates.first_at dates.end_date m xs)) [
+    addressed (suc left) c xs lt s b = elim (some_option (dates.first_at dates.end_date m xs)) [
       | inr a ↦ stepped left (λ e ys lt' s' b'. addressed left e ys lt' s' b') (addresses.Ends a.0.key) c xs lt s b (address_ends start.transmits m xs s.order a.0 a.1)
-      | inl none ↦ elim (option_cases (dates.first_at dates.next_step m xs)) [
+      | inl none ↦ elim (some_option (dates.first_at dates.next_step m xs)) [
         | inr a ↦ stepped left (λ e ys lt' s' b'. addressed left e ys lt' s' b') (dates.falls_by start.transmits a.0.key a.0.stage) c xs lt s b (address_steps start.transmits m xs s.order a.0 none a.1)
         | inl rests ↦
             neighboured (suc (kept_neighbours.turns_left (nodes_of (neighbour_history c)))) c (nodes_of (neighbour_history c)) (omega arith) (nodes_stand (neighbour_history c))
@@ -164,7 +165,7 @@ module _ (start : Start) (m end : ℕ) (le : m ≤ end) where
 
     routed : (left : ℕ) (c : Chronicle) (es : List (Lasting ℕ)) → length es < left → StandsUntilTold same es (announcements (router_history c)) → AreTimed c → Leads c
     routed zero c es lt s t = absurd (omega (arith, lt))
-    routed (suc left) c es lt s t = elim (option_cases (first_due m es)) [
+    routed (suc left) c es lt s t = elim (some_option (first_due m es)) [
       | inl none ↦
           addressed (suc (dates.turns_left start.transmits (addresses_of (address_history c)))) c (addresses_of (address_history c)) (omega arith) (addresses_stand (address_history c))
           (t, first_is_due es (router_history c) s m None none)

@@ -4,10 +4,11 @@ use Rattle.std.specs.Prelude.{codes, Result, Ok, Err}
 use Rattle.std.specs.Fmt.{decimal}
 use Rattle.std.proofs.lemmas.Bool.Decides.{eqb_tells}
 use Rattle.std.proofs.lemmas.Bool.{cases_lt}
+use Rattle.std.proofs.lemmas.Option.{same_Some}
 use Rattle.hex.specs.Hex as hex
 use Rattle.nd_text.specs.Parsing.{address_groups}
 use Rattle.nd_text.specs.Spelling.{SpellsAddress}
-use Rattle.nd_text.proofs.AddressTexts.{address_read, groups_found}
+use Rattle.nd_text.proofs.AddressTexts.{address_read, groups_found, some_option}
 use Rattle.nd_addr.specs.declared.addr.Addr.{Addr}
 use Rattle.nd_addr.specs.Number.{addr_at, number_of}
 use Rattle.nd_addr.specs.Prefix.{PrefixValue, prefix_at}
@@ -15,7 +16,7 @@ use Rattle.nd_addr.specs.Spelling.{SpellsPrefix}
 use Rattle.nd_addr.specs.Text.{groups_of}
 use Rattle.nd_addr.proofs.Numbers.{number_below}
 use Rattle.nd_addr.proofs.Numbered.{addr_back, sixteen}
-use Rattle.nd_existence.proofs.Deciding.{Decided, option_cases, both_or, same_or, some_below}
+use Rattle.nd_existence.proofs.Deciding.{Decided, both_or, same_or, some_below}
 use Rattle.ndpctl_run.specs.Address.{IsAddressWord}
 use Rattle.ndpctl_run.specs.Bytes.{IsBytesWord}
 use Rattle.ndpctl_run.specs.Number.{IsNumberWord, IsNumberOr}
@@ -120,15 +121,12 @@ bytes_or word = elim (same_or word (codes "-")) [
 
 -- ---- addresses
 
-groups_same : (a b : List ℕ) → Some a ≡ Some b → a ≡ b
-groups_same a b e = cc
-
 address_at : (word : List ℕ) (k : ℕ) → Decided (IsAddressWord word (addr_at k))
-address_at word k = elim (option_cases (address_groups word)) [
+address_at word k = elim (some_option (address_groups word)) [
   | inl none ↦ inr (λ is. let f : None ≡ Some (groups_of (addr_at k).0) = sym none ∙ address_read word (groups_of (addr_at k).0) is.spelled in absurd (let no : ⊥ = cc in no))
   | inr g ↦ elim (same_or g.0 (groups_of (addr_at k).0)) [
     | inl e ↦ inl (record { spelled = subst (λ (groups : List ℕ). SpellsAddress word groups) e (groups_found word (Some g.0) (sym g.1)); bytes = sixteen k })
-    | inr d ↦ inr (λ is. d (groups_same g.0 (groups_of (addr_at k).0) (sym g.1 ∙ address_read word (groups_of (addr_at k).0) is.spelled)))
+    | inr d ↦ inr (λ is. d (same_Some g.0 (groups_of (addr_at k).0) (sym g.1 ∙ address_read word (groups_of (addr_at k).0) is.spelled)))
   ]
 ]
 

@@ -1,7 +1,7 @@
 -- What comes of an event, by what its parts lead to.
 use Rattle.std.proofs.Common.{◌≡◌, ℕ, ◌<◌, ◌≤◌, true, List, [], ◌∷◌, ◌++◌, length, append-nil, Some, None, Err, refl, sym, ◌∙◌, ap, subst, arith}
 use Rattle.std.specs.Prelude.{◌==◌, nat_lt, MatchBool, slice_get, Result, IsErrOf, OnErr, ⊤}
-use Rattle.std.proofs.lemmas.Bool.{le-ltb, lt-ltb}
+use Rattle.std.proofs.lemmas.Bool.{le-ltb, lt-ltb, ne_eqb}
 use Rattle.std.proofs.lemmas.Bool.Decides.{Decides-eqb}
 use Rattle.std.proofs.lemmas.Option.{slice_get_within}
 use Rattle.rand_core.specs.Stream.{Stream}
@@ -33,7 +33,6 @@ use Rattle.nd_link.specs.declared.refusal.Refusal.TheVariants as refusals
 use Rattle.nd_link.specs.Delivery.{Goes, IsKept, IsWay}
 use Rattle.nd_link.specs.Told.{Tells, TellsReports, refusal_of}
 use Rattle.nd_link.proofs.Lists.{get_same}
-use Rattle.nd_link.proofs.Standing.{apart}
 use Rattle.nd_link.proofs.Arriving.{nodes_refused}
 use Rattle.nd_link.proofs.Passage.{frames_reached, moment_reached, nodes_reached, reports_reached}
 use Rattle.nd_link.proofs.Sending.{count_frames, kept_at, kept_length, named}
@@ -153,7 +152,7 @@ module _ {W R A : Type 0} (stream : R → Stream) where
         let here = subst (λ (k : ℕ). arrives k arrived.sent.frame.items bytes) goes.place arrived.arrived in
         let bytes_are : bytes ≡ goes.frame.sent.frame.items = faithful arrived.sent.frame.items bytes here ∙ ap (λ (f : SentFrame A). f.frame.items) same in
         leads_to old new x y (Arrives now way.0 (nodes.Receives bytes) (Some number)) (Happens now (links.Delivers to number))
-        (λ log d s is. delivery goes.there goes.frame log d s (by_false (goes.frame.sent.sender == to) _ _ (apart goes.frame.sent.sender to goes.other)
+        (λ log d s is. delivery goes.there goes.frame log d s (by_false (goes.frame.sent.sender == to) _ _ (ne_eqb goes.frame.sent.sender to goes.other)
         (subst (λ (k : ℕ). AddsRows usual_limits now k (nodes.Receives goes.frame.sent.frame.items) (Carries k now number ∷ reached now log) d) goes.place
         (subst (λ (b : List ℕ). AddsRows usual_limits now way.0 (nodes.Receives b) (Carries way.0 now number ∷ reached now log) d) bytes_are is))))
 

@@ -4,7 +4,7 @@ use Rattle.std.specs.Prelude.{slice_get, nat_lt, if◌then◌else◌}
 use Rattle.std.proofs.lemmas.Bool.{cases_lt, ltb-false}
 use Rattle.std.proofs.lemmas.Bool.Decides.{Decides-ltb}
 use Rattle.std.proofs.lemmas.List.{length-take-le}
-use Rattle.std.proofs.lemmas.Option.{slice_get_cases, slice_get_within}
+use Rattle.std.proofs.lemmas.Option.{none-some, slice_get_cases, slice_get_within}
 use Rattle.rand_core.specs.Stream.{Stream}
 use Rattle.nd_chronicle.specs.Start.{Start}
 use Rattle.nd_chronicle.specs.Happening.{Chronicle}
@@ -59,16 +59,10 @@ module _ {R A : Type 0} (stream : R → Stream) (list : List (Node R A)) (n : No
 
 module _ {R A : Type 0} (stream : R → Stream) where
   pub none_dated : (list : List (Node R A)) → list ≡ [] → AreDated stream list
-  none_dated list e = subst (AreDated stream) (sym e) (λ i m is start c s. absurd (nothing m is))
-    where
-      nothing : (m : Node R A) → None ≡ Some m → ⊥
-      nothing m is = cc
+  none_dated list e = subst (AreDated stream) (sym e) (λ i m is start c s. absurd (none-some m is))
 
   pub none_later : (list : List (Node R A)) (P : ℕ → Node R A → Type 0) → list ≡ [] → (i : ℕ) (m : Node R A) → slice_get list i ≡ Some m → P i m
-  none_later list P e i m is = absurd (nothing (subst (λ (l : List (Node R A)). slice_get l i ≡ Some m) e is))
-    where
-      nothing : None ≡ Some m → ⊥
-      nothing is = cc
+  none_later list P e i m is = absurd (none-some m (subst (λ (l : List (Node R A)). slice_get l i ≡ Some m) e is))
 
   -- the first of some, and of one more
   one_more : (list : List (Node R A)) (n : Node R A) (first : Option (ℕ × ℕ)) → IsDated stream list n → FirstDue stream list first → FirstDue stream (list ++ n ∷ []) (earlier first (length list) (next_of n))

@@ -1,7 +1,7 @@
 -- What a link doesn't refuse.
 use Rattle.std.proofs.Common.{◌≡◌, ℕ, ◌<◌, Bool, true, false, [], ◌∷◌, length, refl, sym, ◌∙◌, ap, arith}
 use Rattle.std.specs.Prelude.{◌==◌, nat_lt, MatchBool}
-use Rattle.std.proofs.lemmas.Bool.{lt-ltb}
+use Rattle.std.proofs.lemmas.Bool.{lt-ltb, ne_eqb}
 use Rattle.std.proofs.lemmas.Option.{slice_get_within}
 use Rattle.std.specs.Prelude.{slice_get}
 use Rattle.rand_core.specs.Stream.{Stream}
@@ -22,7 +22,6 @@ use Rattle.nd_link.specs.Link.{Stands}
 use Rattle.nd_link.proofs.Answering.{count_reached, sent_reached}
 use Rattle.nd_link.proofs.Passage.{frames_reached}
 use Rattle.nd_link.proofs.Sending.{kept_at, named}
-use Rattle.nd_link.proofs.Standing.{apart}
 
 -- the newest entry is a refusal
 abbrev is_refused : Log → Bool
@@ -82,6 +81,6 @@ module _ {W R A : Type 0} (stream : R → Stream) (link : Link W R A) (now : ℕ
       let same : Adds adds.sender adds.at (Sent adds.frame) ∷ adds.is_frame.before ≡ Adds goes.frame.sent.sender n.at (Sent goes.frame.sent.frame.items) ∷ n.is_frame.before =
       one_frame adds.sender goes.frame.sent.sender adds.at n.at adds.frame goes.frame.sent.frame.items adds.is_frame.before n.is_frame.before base adds.is_frame.there n.is_frame.there (adds.is_frame.number_is ∙ sym n.is_frame.number_is) in
       let sender_is : adds.sender ≡ goes.frame.sent.sender = cc in
-      let other : (adds.sender == to) ≡ false = apart adds.sender to (λ e. goes.other (sym sender_is ∙ e)) in
+      let other : (adds.sender == to) ≡ false = ne_eqb adds.sender to (λ e. goes.other (sym sender_is ∙ e)) in
       let rows : AddsRows usual_limits now to (events.Receives adds.frame) (Carries to now number ∷ base) (Refuses now why ∷ base) = by_other (adds.sender == to) _ _ other adds.adds in
       carried_left now why to (events.Receives adds.frame) base number rows.rows rows.all

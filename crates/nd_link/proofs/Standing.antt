@@ -1,10 +1,10 @@
 -- The nodes of a link stand for what is added to its log.
 use Rattle.std.proofs.Common.{◌≡◌, ◌≢◌, ℕ, ◌<◌, ◌≤◌, Bool, true, false, List, [], length, set, Some, None, refl, sym, ◌∙◌, ap, subst, arith, ◌++◌, ⊎_elim}
 use Rattle.std.specs.Prelude.{◌==◌, slice_get}
-use Rattle.std.proofs.lemmas.Bool.{cases_lt, true≢false}
+use Rattle.std.proofs.lemmas.Bool.{cases_lt, eqb-false, ne_eqb}
 use Rattle.std.proofs.lemmas.Bool.Decides.{Decides-eqb}
 use Rattle.std.proofs.lemmas.List.{length-set}
-use Rattle.std.proofs.lemmas.Option.{slice_get_within}
+use Rattle.std.proofs.lemmas.Option.{none-some, same_Some, slice_get_within}
 use Rattle.rand_core.specs.Stream.{Stream}
 use Rattle.nd_chronicle.specs.Start.{Start}
 use Rattle.nd_chronicle.specs.Happening as chronicle
@@ -22,16 +22,6 @@ use Rattle.nd_link.specs.Frames.{kept_frames}
 use Rattle.nd_link.specs.Link.{NodeStands, NodesStand, OthersStand, Stands}
 use Rattle.nd_link.proofs.Lists.{get_there, set_others, set_own}
 
-differs : (i j : ℕ) → (i == j) ≡ false → i ≢ j
-differs i j e same = true≢false (sym ((Decides-eqb i j).1 same) ∙ e)
-
-pub apart : (i j : ℕ) → i ≢ j → (i == j) ≡ false
-apart i j ne = by (i == j) refl
-  where
-    by : (b : Bool) → (i == j) ≡ b → (i == j) ≡ false
-    by true e = absurd (ne ((Decides-eqb i j).0 e))
-    by false e = e
-
 module _ {R A : Type 0} (stream : R → Stream) (list : List (Node R A)) (log : Log) (now : ℕ) (s : NodesStand stream list log now) where
   -- nothing is due anywhere at a moment before that of each node
   pub idle_at : (moment : ℕ) → AreDated stream list → (i : ℕ) → ((n : Node R A) → slice_get list i ≡ Some n → moment < next_of n) → IsIdle i log moment
@@ -39,16 +29,10 @@ module _ {R A : Type 0} (stream : R → Stream) (list : List (Node R A)) (log : 
       (λ less.
       let there = get_there list i less in
       let o = s.each i there.0 there.1 in
-      let same : o.start ≡ start = the_start o.start start (sym o.starts ∙ is) in
+      let same : o.start ≡ start = same_Some o.start start (sym o.starts ∙ is) in
       subst (λ (x : Start). Due x (chronicle_of i log) moment None) same ((dated i there.0 there.1 o.start (chronicle_of i log) o.stands).nothing_before moment (before there.0 there.1)))
-      (λ more. absurd (none_starts start (sym (s.absent i more).starts ∙ is)))
+      (λ more. absurd (none-some start (sym (s.absent i more).starts ∙ is)))
       (cases_lt i (length list))
-    where
-      the_start : (a b : Start) → Some a ≡ Some b → a ≡ b
-      the_start a b e = cc
-
-      none_starts : (a : Start) → None ≡ Some a → ⊥
-      none_starts a e = cc
 
 -- rows are added at one node
 module _ {R A : Type 0} (stream : R → Stream) (list : List (Node R A)) (log : Log) (now i : ℕ) (s : OthersStand stream list log now i) (new : Node R A) (rows : Chronicle) (later : ℕ)
@@ -66,13 +50,13 @@ module _ {R A : Type 0} (stream : R → Stream) (list : List (Node R A)) (log : 
 
   other : (j : ℕ) (n : Node R A) → (i == j) ≡ false → slice_get list j ≡ Some n → NodeStands stream (adding i rows log) later j n
   other j n ne is =
-      let o = s.each j n (λ e. differs i j ne (sym e)) is in
+      let o = s.each j n (λ e. eqb-false i j ne (sym e)) is in
       let by = o.by_then in record {
         start = o.start;
         starts = start_with j i rows log ∙ o.starts;
         stands = subst (node.Stands stream o.start n) (sym (other_rows j i rows log ne)) o.stands;
         by_then = subst (λ (c : Chronicle). chronicle.last_moment o.start.at c ≤ later) (sym (other_rows j i rows log ne)) (omega (arith, by, onward));
-        ahead = others j n (differs i j ne) is;
+        ahead = others j n (eqb-false i j ne) is;
       }
 
   pub rows_stand : NodesStand stream (set list i new) (adding i rows log) later
@@ -83,7 +67,7 @@ module _ {R A : Type 0} (stream : R → Stream) (list : List (Node R A)) (log : 
         let past : length list ≤ j = subst (λ (k : ℕ). k ≤ j) (length-set list i new) more in
         let a = s.absent j past in record {
           starts = start_with j i rows log ∙ a.starts;
-          rows = other_rows j i rows log (apart i j (λ e. absurd (omega (arith, past, there, e)))) ∙ a.rows;
+          rows = other_rows j i rows log (ne_eqb i j (λ e. absurd (omega (arith, past, there, e)))) ∙ a.rows;
         };
   }
     where
@@ -92,7 +76,7 @@ module _ {R A : Type 0} (stream : R → Stream) (list : List (Node R A)) (log : 
           let same : i ≡ j = (Decides-eqb i j).0 e in
           let mine = set_own list i new n (subst (λ (k : ℕ). slice_get (set list i new) k ≡ Some n) (sym same) is) in
           subst (λ (k : ℕ). NodeStands stream (adding i rows log) later k n) same (subst (NodeStands stream (adding i rows log) later i) (sym mine) own)
-      by j n false e is = other j n e (sym (set_others list i j new (differs i j e)) ∙ is)
+      by j n false e is = other j n e (sym (set_others list i j new (eqb-false i j e)) ∙ is)
 
 pub others_of : {R A : Type 0} (stream : R → Stream) (list : List (Node R A)) (log : Log) (now but : ℕ) → NodesStand stream list log now → OthersStand stream list log now but
 others_of stream list log now but s = record { count = s.count; each = λ i n ne is. s.each i n is; absent = s.absent }
@@ -110,12 +94,9 @@ pub none_started : {W R A : Type 0} (stream : R → Stream) (link : Link W R A) 
 none_started {W} {R} {A} stream link no_nodes no_frames start = record {
   nodes = record {
     count = ap length no_nodes;
-    each = λ i n is. absurd (nothing n (subst (λ (l : List (Node R A)). slice_get l i ≡ Some n) no_nodes is));
+    each = λ i n is. absurd (none-some n (subst (λ (l : List (Node R A)). slice_get l i ≡ Some n) no_nodes is));
     absent = λ i le. record { starts = refl; rows = refl };
   };
   frames = ap kept_frames no_frames;
   last = start;
 }
-  where
-    nothing : (n : Node R A) → None ≡ Some n → ⊥
-    nothing n is = cc

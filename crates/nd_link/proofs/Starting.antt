@@ -1,7 +1,7 @@
 -- Another node starts.
 use Rattle.std.proofs.Common.{◌≡◌, ℕ, suc, ◌<◌, ◌≤◌, Bool, false, List, [], ◌∷◌, ◌++◌, length, append-nil, Some, sym, ◌∙◌, ap, subst, arith, ⊎_elim}
 use Rattle.std.specs.Prelude.{slice_get, ◌==◌, if◌then◌else◌}
-use Rattle.std.proofs.lemmas.Bool.{cases_lt}
+use Rattle.std.proofs.lemmas.Bool.{cases_lt, ne_eqb}
 use Rattle.std.proofs.lemmas.Option.{slice_get_within}
 use Rattle.rand_core.specs.Stream.{Stream}
 use Rattle.nd_chronicle.specs.Start.{Start}
@@ -16,7 +16,6 @@ use Rattle.nd_link_log.proofs.Chronicles.{nodes_with, other_rows, own_rows, same
 use Rattle.nd_link.specs.Frames.{frames}
 use Rattle.nd_link.specs.Link.{NodeStands, NodesStand}
 use Rattle.nd_link.proofs.Lists.{push_length, push_others, push_own, same_element}
-use Rattle.nd_link.proofs.Standing.{apart}
 
 -- the log once it has started
 abbrev pub started : ℕ → Start → Log → Log
@@ -55,7 +54,7 @@ module _ {R A : Type 0} (stream : R → Stream) (list : List (Node R A)) (new : 
   other j n lt is =
       let o = s.each j n is in
       let e = at in
-      let ne : (place == j) ≡ false = apart place j (λ same. absurd (omega (arith, lt, e, same))) in
+      let ne : (place == j) ≡ false = ne_eqb place j (λ same. absurd (omega (arith, lt, e, same))) in
       let rows_are = other_rows j place (beginning start) (Begins place start ∷ log) ne in record {
         start = o.start;
         starts = start_with j place (beginning start) (Begins place start ∷ log) ∙ (start_other place j start log ne ∙ o.starts);
@@ -79,7 +78,7 @@ module _ {R A : Type 0} (stream : R → Stream) (list : List (Node R A)) (new : 
         let past : suc (length list) ≤ j = subst (λ (k : ℕ). k ≤ j) (push_length list new) le in
         let e = at in
         let a = s.absent j (omega (arith, past)) in
-        let ne : (place == j) ≡ false = apart place j (λ same. absurd (omega (arith, past, e, same))) in record {
+        let ne : (place == j) ≡ false = ne_eqb place j (λ same. absurd (omega (arith, past, e, same))) in record {
           starts = start_with j place (beginning start) (Begins place start ∷ log) ∙ (start_other place j start log ne ∙ a.starts);
           rows = other_rows j place (beginning start) (Begins place start ∷ log) ne ∙ a.rows;
         };

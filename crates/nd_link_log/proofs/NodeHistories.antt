@@ -1,7 +1,7 @@
 -- Each node of a link lives the history that the events of the link are to it.
 use Rattle.std.proofs.Common.{◌≡◌, inl, inr, ℕ, suc, ◌<◌, ◌≤◌, Bool, true, false, List, [], ◌∷◌, ◌++◌, append-nil, Option, Some, None, refl, sym, ◌∙◌, ap, subst, arith, ⊎_elim}
 use Rattle.std.specs.Prelude.{◌≢◌, ◌==◌, is_some, nat_lt, if◌then◌else◌, MatchBool}
-use Rattle.std.proofs.lemmas.Bool.{cases_lt, ltb-false, ltb-true, true≢false}
+use Rattle.std.proofs.lemmas.Bool.{cases_lt, eqb-false, ltb-false, ltb-true, true≢false}
 use Rattle.std.proofs.lemmas.Bool.Decides.{Decides-eqb}
 use Rattle.nd_table.proofs.Tests.{by_false}
 use Rattle.nd_chronicle.specs.Start.{Limits, Start, no_policies}
@@ -28,9 +28,6 @@ use Rattle.nd_link_log.proofs.Standing.{Reaching, Stands, reaching}
 -- nothing of what is passed in is said to be bytes
 abbrev Between : Log → Type 0
 Between log = Stands ⊥ log
-
-differs : (a b : ℕ) → (a == b) ≡ false → a ≢ b
-differs a b e same = true≢false (sym ((Decides-eqb a b).1 same) ∙ e)
 
 below_not : (i n k : ℕ) → i < n → nat_lt k n ≡ false → k ≢ i
 below_not i n k lt beyond same = let le = ltb-false k n beyond in omega (arith, lt, le, same)
@@ -83,7 +80,7 @@ module _ (limits : Limits) (i : ℕ) (now : ℕ) (reached e : Log) (start : Star
       let same : k ≡ i = (Decides-eqb k i).0 is in
       subst (λ (x : ℕ). AddsRows limits now x event reached e → ToNode (Comes x event)) (sym same)
       (λ mine. record { what = event; is = Its; adds = own_event event reached there refl mine }) r
-  comes_to k event false is r = elsewhere (Comes k event) (differs k i is) (other_event k event reached is refl r)
+  comes_to k event false is r = elsewhere (Comes k event) (eqb-false k i is) (other_event k event reached is refl r)
 
   -- a frame of another node is carried to one
   carried_to : (k number sender at : ℕ) (frame : List ℕ) → IsFrame reached number sender at frame → sender ≢ k → (own : Bool) → (k == i) ≡ own
@@ -93,14 +90,14 @@ module _ (limits : Limits) (i : ℕ) (now : ℕ) (reached e : Log) (start : Star
       subst (λ (x : ℕ). sender ≢ x → AddsRows limits now x (nodes.Receives frame) (Carries x now number ∷ reached) e → ToNode (Delivers x number)) (sym same)
       (λ other mine. record { what = nodes.Receives frame; is = Carried is_frame other; adds = own_event (nodes.Receives frame) (Carries i now number ∷ reached) there refl mine }) differ r
   carried_to k number sender at frame is_frame differ false is r =
-      elsewhere (Delivers k number) (inl (differs k i is)) (other_event k (nodes.Receives frame) (Carries k now number ∷ reached) is refl r)
+      elsewhere (Delivers k number) (inl (eqb-false k i is)) (other_event k (nodes.Receives frame) (Carries k now number ∷ reached) is refl r)
 
   refused_all : (number : ℕ) → (k : ℕ) → ((sender at : ℕ) (frame : List ℕ) → IsFrame reached number sender at frame → sender ≡ k) → (own : Bool) → (k == i) ≡ own
       → chronicle_of i e ≡ chronicle_of i reached → ToNode (Delivers k number)
   refused_all number k none true is same =
       let mine : k ≡ i = (Decides-eqb k i).0 is in
       elsewhere (Delivers k number) (inr (λ sender at frame f. none sender at frame f ∙ mine)) same
-  refused_all number k none false is same = elsewhere (Delivers k number) (inl (differs k i is)) same
+  refused_all number k none false is same = elsewhere (Delivers k number) (inl (eqb-false k i is)) same
 
   delivered_to : (k number : ℕ) → AddsDelivery limits now k number reached e → ToNode (Delivers k number)
   delivered_to k number r = by (r.sender == k) refl r.adds
@@ -109,7 +106,7 @@ module _ (limits : Limits) (i : ℕ) (now : ℕ) (reached e : Log) (start : Star
       by true is h =
           let sender : r.sender ≡ k = (Decides-eqb r.sender k).0 is in
           refused_all number k (λ other at frame f. sym (one_sender reached number r.sender r.at other at r.frame frame r.is_frame f) ∙ sender) (k == i) refl (ap (chronicle_of i) h)
-      by false is h = carried_to k number r.sender r.at r.frame r.is_frame (differs r.sender k is) (k == i) refl h
+      by false is h = carried_to k number r.sender r.at r.frame r.is_frame (eqb-false r.sender k is) (k == i) refl h
 
   pub to_node : (event : Event) → EventHappens limits now event reached e → ToNode event
   to_node Passes h = elsewhere Passes tt (ap (chronicle_of i) h)

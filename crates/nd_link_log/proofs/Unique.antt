@@ -3,12 +3,13 @@ use Rattle.std.proofs.Common.{◌≡◌, ℕ, List, [], ◌∷◌, ◌++◌, Som
 use Rattle.std.specs.Prelude.{◌==◌, nat_lt, MatchBool}
 use Rattle.std.proofs.lemmas.Bool.{cases_lt}
 use Rattle.std.proofs.lemmas.List.{append_cancel_right}
+use Rattle.std.proofs.lemmas.Option.{same_Some}
 use Rattle.nd_chronicle.specs.Start.{Limits, Start}
 use Rattle.nd_chronicle.specs.Happening.{Chronicle, Sent}
 use Rattle.nd_chronicle.specs.Due.{What, Due, comes}
 use Rattle.nd_chronicle.specs.Event as chronicle
 use Rattle.nd_chronicle.specs.Event.{EventAdds}
-use Rattle.nd_chronicle.proofs.Dues.{none_in, one_due, same_in}
+use Rattle.nd_chronicle.proofs.Dues.{none_in, one_due}
 use Rattle.nd_chronicle.proofs.Events.{by_test, one_event}
 use Rattle.nd_link_log.specs.Log.{Log, Own, Adds, Carries, Reaches, Refuses, adding, chronicle_of, last_moment, nodes, sent, start_of}
 use Rattle.nd_link_log.specs.Event.{Event, Passes, Starts, Comes, Delivers, AddsRows, AddsDelivery, EventHappens, max_nodes, passing}
@@ -32,7 +33,7 @@ module _ (log : Log) (moment : ℕ) where
     same_rows other more others there due' gives' =
         let c : Chronicle = chronicle_of node log in
         let s : other ≡ start = one_start node log other start there is in
-        let w : more ≡ what = same_in more what (one_due start c moment (Some more) (Some what) (subst (λ (x : Start). Due x c moment (Some more)) s due') due) in
+        let w : more ≡ what = same_Some more what (one_due start c moment (Some more) (Some what) (subst (λ (x : Start). Due x c moment (Some more)) s due') due) in
         append_cancel_right others rows c (sym gives' ∙ ap (λ (x : Start). comes x moment more c) s ∙ ap (λ (x : What). comes start moment x c) w ∙ gives)
 
     -- what comes first is one

@@ -3,6 +3,7 @@ use Rattle.std.proofs.Common.{◌≡◌, ℕ, ◌+◌, ◌<◌, ◌≤◌, true,
 use Rattle.std.specs.List.{remove}
 use Rattle.std.proofs.lemmas.Bool.Decides.{nat_tests}
 use Rattle.std.proofs.lemmas.Bool.{cond-true, cond-false, true≢false, cases_Bool}
+use Rattle.std.proofs.lemmas.Option.{same_Some}
 use Rattle.nd_neighbour.specs.History.{Row, Story, story, Solicited, Probed, Failed, Aged}
 use Rattle.nd_neighbour.specs.EntryKept.{NeighbourEntry, Stage, Resolving, Known, known_mac}
 use Rattle.nd_neighbour.specs.ReachabilityConfirmation.{Evidence}
@@ -28,9 +29,6 @@ falls_by key (Some mac) w None r ws = refl
 falls_by key (Some mac) w (Some u) r ws = refl
 
 -- a neighbour for which something is due is in the table
-same_moment : (m now : ℕ) → Some m ≡ Some now → m ≡ now
-same_moment m now e = cc
-
 module _ (ns : List NeighbourEntry) (history : List Row) (s : Stands ns history) where
   due_entry : (moment key : ℕ) → IsDue history moment key → (n : NeighbourEntry) × (entry_in key ns ≡ Some n) × (n.due ≡ moment)
   due_entry moment key due =
@@ -47,7 +45,7 @@ module _ (ns : List NeighbourEntry) (history : List Row) (s : Stands ns history)
       let known = entry_present n.key (story n.key history) n (sym (s.each n.key) ∙ has) in
       record {
         key = n.key;
-        due = subst (λ (m : ℕ). IsDue history m n.key) (same_moment n.due now (due_now date_of now ns n t.first)) (entry_due n.key n has);
+        due = subst (λ (m : ℕ). IsDue history m n.key) (same_Some n.due now (due_now date_of now ns n t.first)) (entry_due n.key n has);
         least = λ k due. let d = due_entry now k due in due_least address date_of now k ns n d.0 s.order t.first d.1 (ap Some d.2);
         what = t.falls_is ∙ (ap falls known.1 ∙ falls_by n.key (mac_of (story n.key history)) (evidence_of (story n.key history)) (use_of (story n.key history)) (resolution_of (story n.key history)) (waiting_of (story n.key history)));
       }
@@ -91,7 +89,7 @@ module _ (now : ℕ) (old new : List NeighbourEntry) (i : ℕ) (n : NeighbourEnt
         rw more (record {
           stands = λ history s.
               (changing old new n.key now Solicited i n (solicited now n) refl lt at_i (due_has address date_of now old n s.order first) (solicited_key now n (Resolving r t b ws) kept) refl (staying left)
-              (λ story present known. asks n.key now n story known present (same_moment n.due now (due_now date_of now old n first)) (ap known_mac kept))).stands history s;
+              (λ story present known. asks n.key now n story known present (same_Some n.due now (due_now date_of now old n first)) (ap known_mac kept))).stands history s;
         })
     | inr last ↦
         let left : stays (falls n) ≡ false = rw (kept, last) refl in
@@ -105,7 +103,7 @@ module _ (now : ℕ) (old new : List NeighbourEntry) (i : ℕ) (n : NeighbourEnt
         rw more (record {
           stands = λ history s.
               (changing old new n.key now Probed i n (solicited now n) refl lt at_i (due_has address date_of now old n s.order first) (solicited_key now n (Known mac c since (Some p)) kept) refl (staying left)
-              (λ story present known. probes n.key now mac n story known present (same_moment n.due now (due_now date_of now old n first)) (ap known_mac kept) left)).stands history s;
+              (λ story present known. probes n.key now mac n story known present (same_Some n.due now (due_now date_of now old n first)) (ap known_mac kept) left)).stands history s;
         })
     | inr last ↦
         let left : stays (falls n) ≡ false = rw (kept, last) refl in
@@ -123,7 +121,7 @@ module _ (ns : List NeighbourEntry) (history : List Row) (s : Stands ns history)
       AtMost-none (next_in ns) d.0.due is (least_at_most address date_of key ns d.0 d.0.due d.1 (omega arith))
   next_is_due (Some next) is =
       let f = least_found address date_of ns next s.order is in (
-        (f.0.key, subst (λ (m : ℕ). IsDue history m f.0.key) (same_moment f.0.due next f.2) (entry_due ns history s f.0.key f.0 f.1)),
+        (f.0.key, subst (λ (m : ℕ). IsDue history m f.0.key) (same_Some f.0.due next f.2) (entry_due ns history s f.0.key f.0 f.1)),
         λ moment key due.
             let d = due_entry ns history s moment key due in
             subst (λ (m : ℕ). next ≤ m) d.2 (AtMost-some (next_in ns) d.0.due next is (least_at_most address date_of key ns d.0 d.0.due d.1 (omega arith))),

@@ -7,7 +7,7 @@ use Rattle.std.proofs.lemmas.Bool.{cases_Bool, cond-false, cond-true, eqb-true, 
 use Rattle.std.proofs.lemmas.Bool.Decides.{nat_tests}
 use Rattle.nd_neighbour.specs.declared.unreachability_detection.Probing.{Probing}
 use Rattle.nd_table.specs.DueKept.{NotBefore}
-use Rattle.nd_table.proofs.Due.{AtMost, NotBefore-set, due_has, due_now, least_at_most}
+use Rattle.nd_table.proofs.Due.{AtMost-from, NotBefore-set, due_has, due_now, least_at_most}
 use Rattle.nd_table.proofs.Keyed.{at_key-set, key_is}
 use Rattle.nd_neighbour.specs.Due.{Falls}
 use Rattle.nd_neighbour.specs.DueKept.{NoneBefore, Turns, date_of, falls, next_in, solicited, solicited_to, stays}
@@ -161,11 +161,6 @@ leased_fresh (Known mac true since (Some p)) x due lt is = grind (arith, nat_tes
 
 -- ---- an entry is changed
 
--- the least moment of some isn't later than one of them
-pub not_after : (now moment : ℕ) (o : Option ℕ) → NotBefore now o → AtMost o moment → now ≤ moment
-not_after now moment None from most = absurd most
-not_after now moment (Some x) from most = omega (arith, from, most)
-
 module _ (key : ℕ) (old : List NeighbourEntry) (rises : Rises old) (i : ℕ) (n m : NeighbourEntry) (lt : i < length old) (is : n ≡ get_or old i n) (found : entry_in key old ≡ Some n) (same_key : m.key ≡ n.key)
     (same_mac : known_mac m.stage ≡ known_mac n.stage) where
   m_key : m.key ≡ key
@@ -192,7 +187,7 @@ module _ (key : ℕ) (old : List NeighbourEntry) (rises : Rises old) (i : ℕ) (
   module _ (longer : leased_to n.stage n.due ≤ leased_to m.stage m.due) (later : n.due ≤ m.due) where
     due_later : (now : ℕ) → NoneBefore old now → NoneBefore (set old i m) now
     due_later now none =
-        let there : now ≤ n.due = not_after now n.due (next_in old) none (least_at_most address date_of key old n n.due found (omega arith)) in
+        let there : now ≤ n.due = AtMost-from now n.due (next_in old) none (least_at_most address date_of key old n n.due found (omega arith)) in
         NotBefore-set date_of now old i m none (omega (arith, there, later))
 
     -- one that keeps its lease too leaves these

@@ -11,7 +11,7 @@ use Rattle.nd_addr.specs.declared.role.Role.{Role}
 use Rattle.nd_addr.specs.declared.role.Role.TheVariants.{Host, Router}
 use Rattle.nd_addr.specs.Kind.{multicast_prefix}
 use Rattle.nd_addr.specs.Number.{holds, number_of}
-use Rattle.nd_table.proofs.Due.{least_at_most}
+use Rattle.nd_table.proofs.Due.{AtMost-from, least_at_most}
 use Rattle.nd_addr.specs.Prefix.{PrefixValue}
 use Rattle.nd_table.specs.declared.lasting.Lasting.{Lasting}
 use Rattle.nd_table.specs.Ends.{is_before}
@@ -25,7 +25,7 @@ use Rattle.nd_neighbour.specs.LeaseKept.{LeavesLeases, leased_to, leased_until}
 use Rattle.nd_neighbour.specs.Shown.{is_leased}
 use Rattle.nd_neighbour.specs.ShownKept.{left_in, seen, state_in}
 use Rattle.nd_neighbour.specs.TableKept.{Table, address, entry_in}
-use Rattle.nd_neighbour.proofs.Leases.{in_lease, leased_fresh, not_after}
+use Rattle.nd_neighbour.proofs.Leases.{in_lease, leased_fresh}
 use Rattle.nd_routers.specs.RoutersKept as routers
 use Rattle.nd_slaac.specs.Dates as address_dates
 use Rattle.nd_params.specs.ReachableTime.{redraw_after}
@@ -170,7 +170,7 @@ module _ {R A : Type 0} (old : Node R A) (now x : ℕ) (destination : Addr) (fro
   due_of_one : (key : ℕ) (n : NeighbourEntry) → entry_in key was ≡ Some n → next_of old ≤ n.due
   due_of_one key n found =
       let h : next_of old ≤ next_of old = omega arith in
-      not_after (next_of old) n.due (next_in was)
+      AtMost-from (next_of old) n.due (next_in was)
       (before_neighbours (next_of old) (routers.next_end old.routers.entries) (address_dates.next_in old.addresses.addresses) (next_in was) (next_solicitation old.role old.solicitations) (next_advertisement old.role old.router)
       (old.params.drawn_at + redraw_after) h)
       (least_at_most address date_of key was n n.due found (omega arith))

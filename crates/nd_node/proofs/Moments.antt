@@ -1,6 +1,7 @@
 -- The earliest of some moments, and what isn't due before it.
 use Rattle.std.proofs.Common.{◌≡◌, ℕ, ◌<◌, ◌≤◌, List, Option, Some, None, ap, arith, ⊎_elim}
 use Rattle.std.proofs.lemmas.Bool.{cases_lt}
+use Rattle.std.proofs.lemmas.Option.{none-some}
 use Rattle.nd_table.specs.DueKept.{NotBefore}
 use Rattle.nd_neighbour.specs.History as neighbours
 use Rattle.nd_neighbour.specs.Due as neighbours_due
@@ -42,10 +43,7 @@ no_neighbour history None n moment due lt = λ key is. due moment key is
 no_neighbour history (Some m) n moment due lt = λ key is. absurd (omega (arith, due.1 moment key is))
 
 pub none_at : (moment : ℕ) (o : Option ℕ) (n : ℕ) → moment < earlier o n → o ≡ Some moment → ⊥
-none_at moment None n h is = absurd_none is
-  where
-    absurd_none : None ≡ Some moment → ⊥
-    absurd_none e = cc
+none_at moment None n h is = none-some moment is
 none_at moment (Some m) n h is = let e : m ≡ moment = cc in omega arith
 
 pub before_second : (moment : ℕ) (o : Option ℕ) (n : ℕ) → moment < earlier o n → moment < n

@@ -11,11 +11,11 @@ use Rattle.nd_table.specs.Keyed as keyed
 use Rattle.nd_table.specs.Keyed.{at_key}
 use Rattle.nd_table.specs.KeyedKept.{Unique}
 use Rattle.nd_table.specs.Date.{Date}
-use Rattle.nd_table.specs.DueKept.{NotBefore, is_at}
+use Rattle.nd_table.specs.DueKept.{is_at}
 use Rattle.nd_table.specs.Dates.{Planned, rank, AllAddresses, has, first_moment, date_at, AreDates, Redated}
 use Rattle.nd_table.specs.Ends.{end_time}
 use Rattle.nd_table.proofs.Keyed.{key_is}
-use Rattle.nd_table.proofs.Due.{AtMost, AtMost-same, AtMost-some, AtMost-none, least_at_most, least_unique}
+use Rattle.nd_table.proofs.Due.{AtMost, AtMost-same, AtMost-some, AtMost-none, least_at_most, least_unique, AtMost-now}
 use Rattle.nd_table.proofs.Dates.{least_unique_is, entry_of, kept, first_before, first_is_there, fewer, redated}
 use Rattle.nd_table.specs.declared.lasting.Lasting.{Lasting}
 use Rattle.nd_table.specs.Listing.{end_in, renewed, without, told, announced, open_at, fits}
@@ -87,17 +87,13 @@ first_now now number es (d ∷ ds) u are r a here first = by_first (first_due no
 pub none_now : (now : ℕ) (es : List (Lasting ℕ)) (ds : List Date) → Unique key_of es → AreDates key_of date_of ds es → next_end es ≡ first_moment ds → NoneBefore es now → (first_moment ds ≡ Some now → ⊥) → first_due now es ≡ None
 none_now now es ds u are next h later = by_first (first_due now es) refl
   where
-    not_now : (l : Option ℕ) → NotBefore now l → AtMost l now → (l ≡ Some now → ⊥) → ⊥
-    not_now None g le other = le
-    not_now (Some x) g le other = other (ap Some (omega arith))
-
     by_first : (o : Option ℕ) → first_due now es ≡ o → first_due now es ≡ None
     by_first None none = none
     by_first (Some f) is =
         let found = least_unique key_of (key_at now) es f u is in
         let at = at-key now found.0 f found.2 in
         let least : AtMost (next_end es) now = least_at_most key_of date_of found.0.key es found.0 now found.1 (AtMost-same (date_of found.0) now at.1) in
-        absurd (not_now (next_end es) h least (λ e. later (sym next ∙ e)))
+        absurd (AtMost-now now (next_end es) h least (λ e. later (sym next ∙ e)))
 
 pub first_planned : (now : ℕ) (inside es : List (Lasting ℕ)) (planned : Planned) (o : Option Addr) → inside ≡ es → IsPlanned inside planned → keyed.Rises rank planned.dates → AllAddresses planned.dates → NoneBefore es now
     → IfSome o (λ addr. IfSome (slice_get planned.dates 0) (λ d. (d.moment ≡ now) × (d.number ≡ number_of addr.0))) → IfSome o (λ _. first_moment planned.dates ≡ Some now) → IfNone o (first_moment planned.dates ≡ Some now → ⊥)

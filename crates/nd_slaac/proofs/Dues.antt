@@ -14,7 +14,7 @@ use Rattle.nd_slaac.specs.TableKept.{key_of, address_in, Stands, GainsRow}
 use Rattle.nd_slaac.specs.Due.{Falls, Ends, Solicits, Assigns, IsStep, date_by, IsDue, key_in, pass_of, NotAfter, IsFirst, FirstDue, NextDue, happens, due_row}
 use Rattle.nd_slaac.specs.Dates.{earlier, end_date, stage_date, next_step, first_at, next_in, NoneBefore, falls_by, stage_after, stepped, Turns, Goes, Steps, Rests, turns_to, turns_left}
 use Rattle.nd_slaac.specs.MayCome.{IsTurn, MayCome}
-use Rattle.nd_table.proofs.Due.{AtMost, AtMost-some, AtMost-none, due_now, due_has, due_least, none_due, least_at_most, least_found, lesser_is, NotBefore-both, NotBefore-set, NotBefore-remove}
+use Rattle.nd_table.proofs.Due.{AtMost, AtMost-some, AtMost-none, AtMost-from, due_now, due_has, due_least, none_due, least_at_most, least_found, lesser_is, NotBefore-both, NotBefore-set, NotBefore-remove}
 use Rattle.nd_slaac.proofs.First.{at_most_end, at_most_step, NoneBefore-at}
 use Rattle.nd_slaac.proofs.Stories.{made, was_formed, known_forming, formed_is, steps}
 use Rattle.nd_slaac.proofs.Changes.{when_stepped}
@@ -184,10 +184,6 @@ module _ (transmits : ℕ) where
           ],
           λ moment falls due. AtMost-some (next_in xs) moment next is (next_least moment falls due),
         )
-
-  AtMost-from : (now n : ℕ) (o : Option ℕ) → NotBefore now o → AtMost o n → now ≤ n
-  AtMost-from now n None h le = absurd le
-  AtMost-from now n (Some x) h le = omega arith
 
   -- what a turn tells may come
   module _ (xs : List Address) (history : List Row) (s : Stands xs history) (now : ℕ) (none : NoneBefore xs now) where

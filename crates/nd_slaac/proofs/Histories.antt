@@ -21,10 +21,10 @@ pub conflict_by : (k w : Bool) → (k && not true && w) ≡ true → ⊥
 conflict_by true w h = true≢false (sym h)
 conflict_by false w h = true≢false (sym h)
 
-assigned_by : (k c : Bool) → (k && not c && not true) ≡ true → ⊥
-assigned_by true true h = true≢false (sym h)
-assigned_by true false h = true≢false (sym h)
-assigned_by false c h = true≢false (sym h)
+pub assigned_tentative : (k c : Bool) → (k && not c && not true) ≡ true → ⊥
+assigned_tentative true true h = true≢false (sym h)
+assigned_tentative true false h = true≢false (sym h)
+assigned_tentative false c h = true≢false (sym h)
 
 -- so many RetransTimers after the beginning, and so many before the end
 counted_back : (begin retrans count back : ℕ) → back ≤ count → begin + count * retrans ≡ begin + (count - back) * retrans + back * retrans
@@ -159,7 +159,7 @@ module _ (transmits : ℕ) where
           few = omega (arith, sent_is, step.1);
         }
     tried_on Conflict may now = absurd (conflict_by (is_known (story key history)) (not (was_assigned (story key history))) (sym (ap is_tentative (same_at Conflict refl)) ∙ now))
-    tried_on Assigned may now = absurd (assigned_by (is_known (story key history)) (has_conflict (story key history)) (sym (ap is_tentative (same_at Assigned refl)) ∙ now))
+    tried_on Assigned may now = absurd (assigned_tentative (is_known (story key history)) (has_conflict (story key history)) (sym (ap is_tentative (same_at Assigned refl)) ∙ now))
     tried_on Ended may now = absurd (unknown_tentative (sym (ap is_tentative (ended_story key at history)) ∙ now))
 
   -- and with one of another address

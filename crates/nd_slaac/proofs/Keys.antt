@@ -1,8 +1,9 @@
 -- The numbers of the addresses of a list.
-use Rattle.std.proofs.Common.{◌≡◌, ℕ, ◌<◌, Bool, true, false, eqb, ltb, List, [], ◌∷◌, length, get_or, set, Option, Some, None, refl, sym, ◌∙◌, ap, arith, suc, zero, add-one, inl, inr}
+use Rattle.std.proofs.Common.{◌≡◌, ℕ, ◌<◌, true, false, eqb, ltb, List, [], ◌∷◌, length, get_or, set, Option, Some, None, refl, sym, ◌∙◌, ap, arith, suc, zero, add-one, inl, inr}
 use Rattle.std.specs.Prelude.{is_some, slice_get, IfSome, IfNone, ◌||◌}
 use Rattle.std.proofs.lemmas.Bool.{cases_Bool}
 use Rattle.nd_table.proofs.Keyed.{put_in}
+use Rattle.nd_table.proofs.Dates.{swap}
 use Rattle.nd_slaac.specs.AddressKept.{Address}
 use Rattle.nd_slaac.specs.TableKept.{key_of, address_in, Stands}
 use Rattle.nd_slaac.specs.Room.{is_among}
@@ -45,12 +46,6 @@ put_behind m x xs lt = rw (lt, add-one) refl
 
 put_before : (m x : Address) (xs : List Address) → ltb x.key m.key ≡ false → put_in key_of m (x ∷ xs) ≡ m ∷ x ∷ xs
 put_before m x xs ge = rw ge refl
-
-swap : (a b c : Bool) → (a || (b || c)) ≡ (b || (a || c))
-swap true true c = refl
-swap true false c = refl
-swap false true c = refl
-swap false false c = refl
 
 -- a new one is among them, wherever it is put
 pub among-put : (key : ℕ) (m : Address) (xs : List Address) → is_among key (keys_in (put_in key_of m xs)) ≡ is_among key (m.key ∷ keys_in xs)

@@ -6,7 +6,7 @@ use Rattle.nd_table.specs.declared.lasting.Lasting.{Lasting}
 use Rattle.nd_table.specs.Ends.{end_time, is_before}
 use Rattle.nd_table.specs.Listing.{open_at, end_in, renewed, without, told, announced, fits}
 use Rattle.nd_table.specs.ListingKept.{announced_all, entered, Distinct, count_after}
-use Rattle.nd_table.proofs.Finding.{Tells, end_in-renewed, end_in-without, end_in-push, end_in-filter-none, absent_of, as_long, one_longer, without_absent}
+use Rattle.nd_table.proofs.Finding.{Tells, end_in-renewed, end_in-without, end_in-push, end_in-filter-none, absent_of, as_long, fewer_filtered, one_longer, without_absent}
 use Rattle.nd_table.proofs.Steps.{AllOpen, AllOpen-open}
 
 module _ {K : Type 0} (same : K → K → Bool) (tells : Tells same) where
@@ -98,18 +98,10 @@ module _ {K : Type 0} (same : K → K → Bool) (tells : Tells same) where
 
 -- a message that announces no more keys than there is room for fits
 module _ {K : Type 0} (same : K → K → Bool) (tells : Tells same) where
-  pub fewer_open : (p : Lasting K → Bool) (es : List (Lasting K)) → length (filter p es) ≤ length es
-  fewer_open p [] = omega arith
-  fewer_open p (e ∷ es) =
-      elim (cases_Bool (p e)) [
-        | inl t ↦ let ih = fewer_open p es in rw t (omega (arith, ih))
-        | inr f ↦ let ih = fewer_open p es in rw f (omega (arith, ih))
-      ]
-
   one_more : (now : ℕ) (key : K) (w : ℕ) (es : List (Lasting K)) → length (told same now key w es) ≤ length es + 1
   one_more now key w es =
       elim (cases_Bool (eqb w 0)) [
-        | inl z ↦ let le = fewer_open (λ e. not (same e.key key)) es in rw z (omega (arith, le))
+        | inl z ↦ let le = fewer_filtered (λ e. not (same e.key key)) es in rw z (omega (arith, le))
         | inr n ↦ elim (cases_Bool (is_some (end_in same key es))) [
           | inl t ↦ let l = as_long same tells key (end_time now w) es in rw (n, t) (omega (arith, l))
           | inr f ↦ let l = one_longer es (record { key = key; end = end_time now w }) in rw (n, f) (omega (arith, l))
@@ -120,11 +112,11 @@ module _ {K : Type 0} (same : K → K → Bool) (tells : Tells same) where
   fits_few limit now [] es le = refl
   fits_few limit now ((key, w) ∷ more) es le =
       let longer : length (announced same now key w es) ≤ length (open_at now es) + 1 = one_more now key w (open_at now es) in
-      let opened : length (open_at now (announced same now key w es)) ≤ length (announced same now key w es) = fewer_open (λ e. is_before now e.end) (announced same now key w es) in
+      let opened : length (open_at now (announced same now key w es)) ≤ length (announced same now key w es) = fewer_filtered (λ e. is_before now e.end) (announced same now key w es) in
       let first : nat_le (length (announced same now key w es)) limit ≡ true = le-leb _ _ (omega (arith, le, longer)) in
       let rest : fits same limit now more (announced same now key w es) ≡ true = fits_few limit now more (announced same now key w es) (omega (arith, le, longer, opened)) in
       rw (first, rest) refl
 
   -- the same if the entries that have ended are counted, too
   pub fits_beside : (limit now : ℕ) (more : List (K × ℕ)) (es : List (Lasting K)) → length es + length more ≤ limit → fits same limit now more es ≡ true
-  fits_beside limit now more es le = fits_few limit now more es (omega (arith, le, fewer_open (λ e. is_before now e.end) es))
+  fits_beside limit now more es le = fits_few limit now more es (omega (arith, le, fewer_filtered (λ e. is_before now e.end) es))

@@ -12,7 +12,7 @@ use Rattle.nd_table.specs.KeyedKept.{Unique, place_of}
 use Rattle.nd_table.specs.DueKept.{is_at, least_date, first_at, NotBefore}
 use Rattle.nd_table.specs.Dates.{rank, AllAddresses, is_date, has, without, put_date, first_moment, date_at, AreDates, Redated}
 use Rattle.nd_table.proofs.Keyed.{key_is, above_at, Rises-unique, others, at_key-others, Unique-others, length-others, put_in, put_low, put_high, place_of-le}
-use Rattle.nd_table.proofs.Due.{at_is, AtMost, AtMost-some, AtMost-none, AtMost-same, due_now, due_has, due_least, none_due, least_at_most, least_unique}
+use Rattle.nd_table.proofs.Due.{at_is, AtMost, AtMost-some, AtMost-none, AtMost-now, AtMost-same, due_now, due_has, due_least, none_due, least_at_most, least_unique}
 
 pub is_parts : (m k : ℕ) (d : Date) → is_date m k d ≡ true → (d.moment ≡ m) × (d.number ≡ k)
 is_parts m k d h = (grind (arith, nat_tests, h), grind (arith, nat_tests, h))
@@ -27,7 +27,7 @@ rank_parts d m k fit fit' e = by_parts m k d (omega arith) (omega arith)
 pub rank_is : (d : Date) (m k : ℕ) → is_date m k d ≡ true → rank d ≡ m * 2 ^ 128 + k
 rank_is d m k h = let e = is_parts m k d h in omega (arith, e.0, e.1)
 
-swap : (a b c : Bool) → (a || (b || c)) ≡ (b || (a || c))
+pub swap : (a b c : Bool) → (a || (b || c)) ≡ (b || (a || c))
 swap true true c = refl
 swap true false c = refl
 swap false true c = refl
@@ -275,15 +275,11 @@ module _ {N : Type 0} (key : N → ℕ) (date : N → Option ℕ) where
     pub none_here : (o : Option ℕ) → least_date date ns ≡ o → NotBefore now o → (o ≡ Some now → ⊥) → first_at date now ns ≡ None
     none_here o is h later = by_first (first_at date now ns) refl
       where
-        not_now : (l : Option ℕ) → NotBefore now l → AtMost l now → (l ≡ Some now → ⊥) → ⊥
-        not_now None h le other = le
-        not_now (Some x) h le other = other (ap Some (omega arith))
-
         by_first : (f : Option N) → first_at date now ns ≡ f → first_at date now ns ≡ None
         by_first None first = first
         by_first (Some n) first =
             let least : AtMost (least_date date ns) now = least_at_most key date (key n) ns n now (due_has key date now ns n s first) (AtMost-same (date n) now (due_now date now ns n first)) in
-            absurd (not_now o h (subst (λ (l : Option ℕ). AtMost l now) is least) later)
+            absurd (AtMost-now now o h (subst (λ (l : Option ℕ). AtMost l now) is least) later)
 
   date_behind : (n : N) (ns : List N) (k : ℕ) → (key n ≡ k → ⊥) → date_at key date k (n ∷ ns) ≡ date_at key date k ns
   date_behind n ns k differ = ap (option_and_then date) (cond-false (eqb (key n) k) (Some n) (at_key key k ns) (ne_eqb (key n) k differ))

@@ -36,6 +36,16 @@ pub AtMost-none : (o : Option ℕ) (n : ℕ) → o ≡ None → AtMost o n → �
 AtMost-none None n is h = h
 AtMost-none (Some x) n is h = absurd (cc)
 
+-- the least is not before this moment, so that moment isn't
+pub AtMost-from : (now n : ℕ) (o : Option ℕ) → NotBefore now o → AtMost o n → now ≤ n
+AtMost-from now n None from most = absurd most
+AtMost-from now n (Some x) from most = omega (arith, from, most)
+
+-- it is this moment
+pub AtMost-now : (now : ℕ) (o : Option ℕ) → NotBefore now o → AtMost o now → (o ≡ Some now → ⊥) → ⊥
+AtMost-now now None from most other = most
+AtMost-now now (Some x) from most other = other (ap Some (omega (arith, from, most)))
+
 lesser_assoc : (a b c : Option ℕ) → lesser a (lesser b c) ≡ lesser (lesser a b) c
 lesser_assoc None b c = refl
 lesser_assoc (Some x) None c = refl

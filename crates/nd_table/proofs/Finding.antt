@@ -1,13 +1,18 @@
 -- An entry found by its key, in lists that are changed.
-use Rattle.std.proofs.Common.{length, ◌+◌, ◌≡◌, ◌≢◌, ℕ, Bool, true, false, cond, List, [], ◌∷◌, ◌++◌, Option, Some, None, refl, sym, ap, ◌∙◌, arith, ◌⊎◌}
+use Rattle.std.proofs.Common.{length, ◌+◌, ◌≤◌, ◌≡◌, ◌≢◌, ℕ, Bool, true, false, cond, List, [], ◌∷◌, ◌++◌, Option, Some, None, refl, sym, ap, ◌∙◌, arith, ◌⊎◌}
 use Rattle.std.specs.Prelude.{map, filter, is_some, ◌||◌, if◌then◌else◌}
 use Rattle.std.specs.List.{list_all}
 use Rattle.std.proofs.lemmas.Bool.{true≢false, and_parts, cond-true}
+use Rattle.std.proofs.lemmas.List.Sums.{count_by-le-length, length-filter}
 use Rattle.nd_table.specs.declared.lasting.Lasting.{Lasting}
 use Rattle.nd_table.specs.Ends.{is_before}
 use Rattle.nd_table.specs.Announcements.{is_open}
 use Rattle.nd_table.specs.Listing.{open_at, end_in, renewed, without}
 use Rattle.nd_table.specs.ListingKept.{Distinct}
+
+-- those that pass a test are no more than all
+pub fewer_filtered : {X : Type 0} (p : X → Bool) (xs : List X) → length (filter p xs) ≤ length xs
+fewer_filtered p xs = omega (arith, length-filter p xs, count_by-le-length p xs)
 
 -- a key that is among entries is the first one's or among the others
 pub there_more : {K : Type 0} (same : K → K → Bool) (key : K) (e : Lasting K) (es : List (Lasting K)) → is_some (end_in same key (e ∷ es)) ≡ (same e.key key || is_some (end_in same key es))

@@ -8,7 +8,7 @@ use Rattle.nd_table.specs.Ends.{end_time, is_before}
 use Rattle.nd_table.specs.Announcements.{Row, Announced, Ended, Cleared, last_moment, end_after, end_of, is_open, stands, place}
 use Rattle.nd_table.specs.Listing.{open_at, end_in, Lists, renewed, without, told, announced, then_announced}
 use Rattle.nd_table.specs.ListingKept.{StandsUntilTold, Stands, announced_all}
-use Rattle.nd_table.proofs.Finding.{Tells, Has, end_in-renewed, end_in-without, end_in-push, end_in-open, absent_of, as_long, one_longer}
+use Rattle.nd_table.proofs.Finding.{Tells, Has, end_in-renewed, end_in-without, end_in-push, end_in-open, absent_of, as_long, fewer_filtered, one_longer}
 use Rattle.nd_table.proofs.LastingOrder.{Rises-agree, Rises-renewed, Rises-filter, Rises-push, distinct_of}
 
 -- where an end is open there is one
@@ -209,15 +209,11 @@ module _ {K : Type 0} (same : K → K → Bool) (tells : Tells same) where
   gains_all now [] old history le s = s
   gains_all now ((key, w) ∷ more) old history le s = gains_all now more _ _ (omega arith) (gains_silently old history now key w le s)
 
-  shorter : (p : Lasting K → Bool) (es : List (Lasting K)) → length (filter p es) ≤ length es
-  shorter p [] = omega arith
-  shorter p (e ∷ es) = let rest = shorter p es in cond_both (p e) (e ∷ filter p es) (filter p es) (λ xs. length xs ≤ length (e ∷ es)) (λ _. omega (arith, rest)) (λ _. omega (arith, rest))
-
   told_length : (now : ℕ) (key : K) (w limit : ℕ) (es : List (Lasting K)) → length es ≤ limit → nat_le (length (told same now key w es)) limit ≡ (eqb w 0 || (is_some (end_in same key es) || nat_lt (length es) limit))
   told_length now key w limit es le =
       cond_both (eqb w 0) (without same key es) (cond (is_some (end_in same key es)) (map (renewed same key (end_time now w)) es) (es ++ record { key = key; end = end_time now w } ∷ []))
       (λ xs. nat_le (length xs) limit ≡ (eqb w 0 || (is_some (end_in same key es) || nat_lt (length es) limit)))
-      (λ z. let s = shorter (λ e. not (same e.key key)) es in grind (arith, nat_tests, z, s, le))
+      (λ z. let s = fewer_filtered (λ e. not (same e.key key)) es in grind (arith, nat_tests, z, s, le))
       (λ n. cond_both (is_some (end_in same key es)) (map (renewed same key (end_time now w)) es) (es ++ record { key = key; end = end_time now w } ∷ [])
       (λ xs. nat_le (length xs) limit ≡ (eqb w 0 || (is_some (end_in same key es) || nat_lt (length es) limit)))
       (λ h. grind (arith, nat_tests, h, as_long same tells key (end_time now w) es, le, n))
@@ -226,4 +222,4 @@ module _ {K : Type 0} (same : K → K → Bool) (tells : Tells same) where
   -- an announcement leads to no more entries than the limit where it enters none, or there is room
   pub announced_length : (now : ℕ) (key : K) (w limit : ℕ) (es : List (Lasting K)) → length es ≤ limit → nat_le (length (announced same now key w es)) limit ≡ (eqb w 0 || (is_some (end_in same key (open_at now es)) || nat_lt (length (open_at now es)) limit))
   announced_length now key w limit es le =
-      let s = shorter (λ e. is_before now e.end) es in told_length now key w limit (open_at now es) (omega (arith, s, le))
+      let s = fewer_filtered (λ e. is_before now e.end) es in told_length now key w limit (open_at now es) (omega (arith, s, le))

@@ -2,6 +2,7 @@
 use Rattle.std.proofs.Common.{◌≡◌, ℕ, ◌<◌, ◌≤◌, Bool, List, [], ◌∷◌, Option, Some, None, refl, sym, ◌∙◌, ap, arith, ◌⊎◌, inl, inr, ⊎_elim}
 use Rattle.std.specs.Prelude.{is_some, map}
 use Rattle.std.proofs.lemmas.Bool.{cond-false, true≢false}
+use Rattle.std.proofs.lemmas.Option.{same_Some}
 use Rattle.nd_table.specs.declared.lasting.Lasting.{Lasting}
 use Rattle.nd_table.specs.Announcements.{Row}
 use Rattle.nd_table.specs.Listing.{end_in, AllAfter, Rises, Lists}
@@ -40,16 +41,13 @@ module _ {K : Type 0} (same : K → K → Bool) (tells : Tells same) where
   later f e g es fs differ h ends =
       AllAfter-has same tells f (f e.key) es g.key h (ap is_some (sym (end_of_other e es g.key differ) ∙ (ends g.key ∙ end_of_head g fs)))
 
-  same_end : (a b : Option ℕ) → Some a ≡ Some b → a ≡ b
-  same_end a b h = cc
-
   pub one_list : (f : K → ℕ) (es fs : List (Lasting K)) → Rises same f es → Rises same f fs → SameEnds es fs → es ≡ fs
   one_list f [] [] r s ends = refl
   one_list f [] (g ∷ fs) r s ends = absurd (true≢false (ap is_some (sym (end_of_head g fs) ∙ sym (ends g.key))))
   one_list f (e ∷ es) [] r s ends = absurd (true≢false (ap is_some (sym (end_of_head e es) ∙ ends e.key)))
   one_list f (e ∷ es) (g ∷ fs) r s ends = ⊎_elim
       (λ is.
-      let end : e.end ≡ g.end = same_end e.end g.end (sym (end_of_head e es) ∙ (ends e.key ∙ (ap (λ k. end_in same k (g ∷ fs)) is ∙ end_of_head g fs))) in
+      let end : e.end ≡ g.end = same_Some e.end g.end (sym (end_of_head e es) ∙ (ends e.key ∙ (ap (λ k. end_in same k (g ∷ fs)) is ∙ end_of_head g fs))) in
       let rest : es ≡ fs = one_list f es fs r.1 s.1 (same_tail f e g es fs is r.0 s.0 ends) in
       let made : K → Option ℕ → Lasting K = λ k o. record { key = k; end = o } in
       let head : e ≡ g = ap (λ k. made k e.end) is ∙ ap (λ o. made g.key o) end in

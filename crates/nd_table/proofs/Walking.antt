@@ -12,9 +12,9 @@ use Rattle.nd_table.specs.Ends.{is_before}
 use Rattle.nd_table.specs.Listing.{open_at, end_in, without, told, announced, fits}
 use Rattle.nd_table.specs.ListingKept.{Distinct, count_after, enters}
 use Rattle.nd_table.specs.WalkKept.{count_if, count_either, count_empty, count_name, times, LeadsTo}
-use Rattle.nd_table.proofs.Finding.{Tells, end_in-without}
+use Rattle.nd_table.proofs.Finding.{Tells, end_in-without, fewer_filtered}
 use Rattle.nd_table.proofs.Steps.{AllOpen-open, AllOpen-announced}
-use Rattle.nd_table.proofs.Behind.{open_all, fewer_open, told_has, counted_told, one_shorter, Distinct-filter, Distinct-announced}
+use Rattle.nd_table.proofs.Behind.{open_all, told_has, counted_told, one_shorter, Distinct-filter, Distinct-announced}
 
 -- the last of the first names takes the place of one that leaves
 pub sum_without : {X : Type 0} (f : X → ℕ) (xs : List X) (i m : ℕ) (d : X) → i ≤ m → m < length xs → sum_by f (take m (set xs i (get_or xs m d))) + f (get_or xs i d) ≡ sum_by f (take (suc m) xs)
@@ -293,7 +293,7 @@ module _ {K Q : Type 0} (same : K → K → Bool) (tells : Tells same) (named : 
 pub begins : {K Q : Type 0} (same : K → K → Bool) (tells : Tells same) (named : Q → K) (w : Walk K) (kept : List (Option Q)) → Distinct same w.entries.now → length w.entries.now ≤ w.limit → w.limit < 2 ^ 32 → 2 * w.limit ≤ length kept
     → w.standing ≡ length (open_at w.now w.entries.now) → w.changed ≡ 0 → LeadsTo same named w kept (open_at w.now w.entries.now)
 begins same tells named w kept distinct few limited room standing none =
-    let fewer = fewer_open same tells (λ e. is_before w.now e.end) w.entries.now in
+    let fewer = fewer_filtered (λ e. is_before w.now e.end) w.entries.now in
     let once = Distinct-filter same tells _ w.entries.now distinct in
     record {
       limited = limited;

@@ -85,7 +85,7 @@ groups_read (suc n) text (g ∷ k ∷ gs) (word, rest, is, first, more) le =
     let b : behind_of text ≡ Some rest = ap behind_of is ∙ front.1 in
     next_word n text g rest e b ∙ ap (group_before (Some g)) (groups_read n rest (k ∷ gs) more (omega arith))
 
-some_option : {A : Type 0} (o : Option A) → (o ≡ None) ⊎ ((a : A) × (o ≡ Some a))
+pub some_option : {A : Type 0} (o : Option A) → (o ≡ None) ⊎ ((a : A) × (o ≡ Some a))
 some_option None = inl refl
 some_option (Some a) = inr (a, refl)
 
