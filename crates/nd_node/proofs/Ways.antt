@@ -1,5 +1,5 @@
 -- A question where packets go is answered by the way of the path, where the link-layer address is known.
-use Rattle.std.proofs.Common.{◌≡◌, ℕ, ◌<◌, ◌≤◌, Bool, true, false, List, Option, Some, None, refl, sym, ◌∙◌, ap, subst}
+use Rattle.std.proofs.Common.{◌≡◌, ℕ, true, false, List, Option, Some, None, refl, sym, ◌∙◌, ap}
 use Rattle.std.specs.Prelude.{IfSome, is_some}
 use Rattle.std.specs.Option.{option_map}
 use Rattle.std.proofs.lemmas.Bool.{cond-false, cond-true}
@@ -31,7 +31,7 @@ use Rattle.nd_node.specs.declared.resolve.Resolution.TheVariants as answers
 use Rattle.nd_node.specs.NodeKept.{next_of}
 use Rattle.nd_node.specs.Path.{PathSeen, first_end, path_by, path_to_all}
 use Rattle.nd_node.specs.PathKept.{LeavesWays, hop_kept, path_by_hop, path_kept, towards, up_kept}
-use Rattle.nd_node.specs.Resolve.{IsWay, LeadsTo}
+use Rattle.nd_node.specs.ResolveKept.{IsWay, LeadsTo}
 use Rattle.nd_node.proofs.Paths.{mac_of_path, next_of_path}
 
 -- ---- what leaves the ways

@@ -17,6 +17,7 @@ pub mod EventKept
 pub mod Frame
 pub mod OutgoingPacket
 pub mod Resolve
+pub mod ResolveKept
 pub mod Path
 pub mod PathKept
 pub mod ReachabilityConfirmation

@@ -1,10 +1,7 @@
 -- Where packets to a destination go, for a caller that keeps them (RFC 4861, sections 5.2, 7.2.2 and 7.3.3).
-use Rattle.std.specs.Prelude.{◌≡◌, ℕ, ◌≤◌, false, List, [], ◌∷◌, ◌++◌, Option, Some, None}
+use Rattle.std.specs.Prelude.{◌≡◌, ℕ, ◌≤◌, false, List, [], ◌∷◌, ◌++◌}
 use Rattle.rand_core.specs.Stream.{Stream}
 use Rattle.nd_addr.specs.declared.addr.Addr.{Addr}
-use Rattle.nd_addr.specs.Number.{number_of}
-use Rattle.nd_neighbour.specs.LeaseKept.{mac_at}
-use Rattle.nd_neighbour.specs.TableKept.{entry_in}
 use Rattle.nd_nexthop.specs.NextHop.{NextHop}
 use Rattle.nd_chronicle.specs.Answer.{Answer, Done, Refused, answer_after}
 use Rattle.nd_chronicle.specs.Happening as happenings
@@ -13,14 +10,12 @@ use Rattle.nd_chronicle.specs.Resolve.{PathAdds, Wants, WantsIfPlaced}
 use Rattle.nd_chronicle.specs.Start.{Start}
 use Rattle.nd_out.specs.declared.out.Out.{Out}
 use Rattle.nd_out.specs.declared.out.Out.TheVariants as reports
-use Rattle.nd_out.specs.declared.out.Way.TheVariants as ways
 use Rattle.nd_out.specs.Out.{refusal_of, way_of}
 use Rattle.nd_steps.specs.Outputs.{Tells}
 use Rattle.nd_node.specs.declared.node.Node.{Node}
 use Rattle.nd_node.specs.declared.resolve.Resolution.{Resolution}
 use Rattle.nd_node.specs.declared.resolve.Resolution.TheVariants as answers
 use Rattle.nd_node.specs.NodeKept.{Stands}
-use Rattle.nd_node.specs.PathKept.{LeavesWays, path_kept, towards}
 
 -- how the question is answered, as an event
 abbrev pub answer_by : Resolution → Answer
@@ -56,19 +51,3 @@ pub record AddsWish {R A : Type 0} (stream : R → Stream) (old new : Node R A) 
 pub record AddsPath {R A : Type 0} (stream : R → Stream) (old new : Node R A) (before after : List (ℕ × Out A)) (now : ℕ) (next : NextHop) (destination : Addr) (answer : Answer) : Type 0 where
   pub each : (start : Start) (c : Chronicle) → Stands stream start old c → last_moment start.at c ≤ now
       → (d : Chronicle) × PathAdds start now next destination ((now, Passed) ∷ c) d × Stands stream start new d × Tells c d before after × (answer ≡ answer_after d false)
-
--- where a link-layer address is answered, the neighbour and that address are those of the path
-abbrev pub IsWay : {R A : Type 0} → Node R A → ℕ → Addr → Resolution → Type 0
-IsWay node now destination (answers.Path (ways.To to (Some mac))) =
-    (towards (path_kept node now destination).next destination ≡ number_of to.0) × ((path_kept node now destination).mac ≡ Some (number_of mac.0))
-IsWay node now destination (answers.Path (ways.To to None)) = Unit {0}
-IsWay node now destination (answers.Path ways.NoRoute) = Unit {0}
-IsWay node now destination (answers.Refused refusal) = Unit {0}
-
--- where a link-layer address is answered, it is that of this neighbour, and the ways of all packets are what they were
-abbrev pub LeadsTo : {R A : Type 0} → Addr → Node R A → Node R A → Resolution → Type 0
-LeadsTo to old new (answers.Path (ways.To reached (Some mac))) =
-    (reached ≡ to) × LeavesWays old new × (mac_at (entry_in (number_of to.0) new.neighbours.entries) ≡ Some (number_of mac.0))
-LeadsTo to old new (answers.Path (ways.To reached None)) = Unit {0}
-LeadsTo to old new (answers.Path ways.NoRoute) = Unit {0}
-LeadsTo to old new (answers.Refused refusal) = Unit {0}

@@ -25,7 +25,8 @@ ghost use Rattle.nd_node.specs.EventKept.{AddsEvent};
 ghost use Rattle.nd_node.specs.Frame.{AddsAlone, Stays};
 ghost use Rattle.nd_node.specs.Hearing.{Keeps};
 ghost use Rattle.nd_node.specs.Memory.{AddsRefusal, IsAnsweredAtOnce, NeedsNoEntry};
-ghost use Rattle.nd_node.specs.Resolve.{AddsPath, AddsWish, IsWay, LeadsTo, WishTold, answer_by, answer_row, with_answer};
+ghost use Rattle.nd_node.specs.Resolve.{AddsPath, AddsWish, WishTold, answer_by, answer_row, with_answer};
+ghost use Rattle.nd_node.specs.ResolveKept.{IsWay, LeadsTo};
 ghost use Rattle.nd_node.specs.Time.{Leads};
 
 use crate::answer::Answer;

@@ -6,8 +6,6 @@ use Rattle.std.proofs.lemmas.Bool.{cases_Bool, cond-false, cond-true}
 use Rattle.std.specs.Global.{Global}
 use Rattle.nd_addr.specs.declared.addr.Addr.{Addr}
 use Rattle.nd_addr.specs.declared.mac.Mac.{Mac}
-use Rattle.nd_addr.specs.declared.role.Role.{Role}
-use Rattle.nd_addr.specs.declared.role.Role.TheVariants.{Host, Router}
 use Rattle.nd_addr.specs.Number.{number_of}
 use Rattle.nd_table.specs.Listing.{open_at}
 use Rattle.nd_neighbour.specs.declared.shown.Reachability.{Reachability}
@@ -20,9 +18,9 @@ use Rattle.nd_node.specs.declared.resolve.Resolution.TheVariants as resolutions
 use Rattle.nd_node.specs.NodeKept.{Stands, next_of}
 use Rattle.nd_node.specs.Path.{IsPath, PathSeen, first_end}
 use Rattle.nd_node.specs.PathKept.{InLease, hop_kept, left_by_hop, left_kept, path_by_hop, path_kept, towards, up_kept}
-use Rattle.nd_node.specs.Resolve.{IsWay}
+use Rattle.nd_node.specs.ResolveKept.{IsWay}
 use Rattle.nd_node.proofs.Lasting.{kept_lasts}
-use Rattle.nd_node.proofs.Leaving.{LeftGoesOn, left_lasts}
+use Rattle.nd_node.proofs.Leaving.{LeftGoesOn, left_lasts, passing_leaves}
 use Rattle.nd_node.proofs.Leases.{kept_is_path, lease_settled}
 use Rattle.nd_random.specs.declared.source.Source.{Source}
 use Rattle.nd_random.specs.Source.{stream_of_source}
@@ -36,16 +34,15 @@ use Rattle.nd_session.specs.Slots.{AreForgotten, IsRecalled, Slots}
 -- ---- what is remembered
 
 -- the time that has passed decides no path
-hop_later : (role : Role) (node : Node Source Global) (at now : ℕ) (destination : Addr) → hop_kept role (record node { last = at }) now destination ≡ hop_kept role node now destination
-hop_later Host node at now destination = refl
-hop_later Router node at now destination = refl
+hop_later : (node : Node Source Global) (at now : ℕ) (destination : Addr) → hop_kept node.role (record node { last = at }) now destination ≡ hop_kept node.role node now destination
+hop_later node at now destination = (passing_leaves node at).hop now destination
 
 pub path_later : (node : Node Source Global) (at now : ℕ) (destination : Addr) → path_kept (record node { last = at }) now destination ≡ path_kept node now destination
 path_later node at now destination =
-    ap (λ (h : NextHop). path_by_hop (up_kept node) now (next_of node) (first_end node.role (open_at now node.prefixes.entries)) node.neighbours.entries destination h) (hop_later node.role node at now destination)
+    ap (λ (h : NextHop). path_by_hop (up_kept node) now (next_of node) (first_end node.role (open_at now node.prefixes.entries)) node.neighbours.entries destination h) (hop_later node at now destination)
 
 left_later : (node : Node Source Global) (at now : ℕ) (destination : Addr) → left_kept (record node { last = at }) now destination ≡ left_kept node now destination
-left_later node at now destination = ap (λ (h : NextHop). left_by_hop now node.neighbours.entries destination h) (hop_later node.role node at now destination)
+left_later node at now destination = ap (λ (h : NextHop). left_by_hop now node.neighbours.entries destination h) (hop_later node at now destination)
 
 -- what is remembered is so when time has passed
 pub remembers_later : (slots : Slots) (node later : Node Source Global) (at : ℕ) → later ≡ record node { last = at } → AreRemembered slots node → AreRemembered slots later
@@ -146,10 +143,10 @@ module _ (slots : Slots) (node : Node Source Global) (now : ℕ) (destination : 
   recalled_settled = lease_settled node now now destination (omega arith) recalled_in_lease.holds
 
   -- packets go there at the node at which the time has passed
-  pub recalled_goes : (way : Way) → ways.To path.to (Some path.mac) ≡ way → (session : Session) → session.node ≡ record node { last = now } → GoesThere now destination (Path way path.state path.until) session
-  recalled_goes way way_is session is =
-      let at : path_kept node now destination ≡ path_kept session.node now destination = sym (ap (λ (n : Node Source Global). path_kept n now destination) is ∙ path_later node now now destination) in
-      subst (λ (w : Way). GoesThere now destination (Path w path.state path.until) session) way_is
+  pub recalled_goes : (way : Way) → ways.To path.to (Some path.mac) ≡ way → (later : Node Source Global) → later ≡ record node { last = now } → GoesThere now destination (Path way path.state path.until) later
+  recalled_goes way way_is later is =
+      let at : path_kept node now destination ≡ path_kept later now destination = sym (ap (λ (n : Node Source Global). path_kept n now destination) is ∙ path_later node now now destination) in
+      subst (λ (w : Way). GoesThere now destination (Path w path.state path.until) later) way_is
       (λ lt. record {
         holds = subst (λ (p : PathSeen). now < p.until) at recalled_in_lease.holds;
         to_is = subst (λ (p : PathSeen). towards p.next destination ≡ number_of path.to.0) at recalled_in_lease.to_is;
@@ -187,15 +184,15 @@ kept_leased node session now destination path is settled same = record {
 }
 
 -- within its lease packets go where they go by the node
-pub way_goes : (node : Node Source Global) (session : Session) (now : ℕ) (destination : Addr) (way : Way) (path : PathSeen) → path ≡ path_kept node now destination → session.node ≡ node
-    → IsWay node now destination (resolutions.Path way) → GoesThere now destination (Path way path.state path.until) session
-way_goes node session now destination (ways.To to (Some mac)) path is same goes = λ lt.
+pub way_goes : (node later : Node Source Global) (now : ℕ) (destination : Addr) (way : Way) (path : PathSeen) → path ≡ path_kept node now destination → later ≡ node
+    → IsWay node now destination (resolutions.Path way) → GoesThere now destination (Path way path.state path.until) later
+way_goes node later now destination (ways.To to (Some mac)) path is same goes = λ lt.
     subst (λ (n : Node Source Global). InLease n now destination to mac) (sym same) (record { holds = subst (λ (p : PathSeen). now < p.until) is lt; to_is = goes.0; mac_is = goes.1 })
-way_goes node session now destination (ways.To to None) path is same goes = tt
-way_goes node session now destination ways.NoRoute path is same goes = tt
+way_goes node later now destination (ways.To to None) path is same goes = tt
+way_goes node later now destination ways.NoRoute path is same goes = tt
 
 -- an answer without a lease says nothing of that
-pub nothing_goes : (session : Session) (now : ℕ) (destination : Addr) (way : Way) → GoesThere now destination (Path way None now) session
-nothing_goes session now destination (ways.To to (Some mac)) = λ lt. absurd (omega (arith, lt))
-nothing_goes session now destination (ways.To to None) = tt
-nothing_goes session now destination ways.NoRoute = tt
+pub nothing_goes : (node : Node Source Global) (now : ℕ) (destination : Addr) (way : Way) → GoesThere now destination (Path way None now) node
+nothing_goes node now destination (ways.To to (Some mac)) = λ lt. absurd (omega (arith, lt))
+nothing_goes node now destination (ways.To to None) = tt
+nothing_goes node now destination ways.NoRoute = tt

@@ -14,11 +14,13 @@ use Rattle.nd_node.specs.Node.{last_of}
 use Rattle.nd_node.specs.EventKept.{AddsEvent}
 use Rattle.nd_node.specs.NodeKept.{Stands, next_of}
 use Rattle.nd_out.specs.declared.out.Out.{Out}
-use Rattle.nd_out.specs.declared.out.Way.TheVariants as ways
 use Rattle.nd_node.specs.Path.{IsPath, PathSeen}
 use Rattle.nd_node.specs.PathKept.{InLease}
+use Rattle.nd_node.specs.declared.node.Node.{Node}
 use Rattle.nd_node.specs.Resolve.{answer_by, with_answer}
+use Rattle.nd_node.specs.ResolveKept.{IfReached}
 use Rattle.nd_node.specs.Time.{Leads, Onward}
+use Rattle.nd_random.specs.declared.source.Source.{Source}
 use Rattle.nd_random.specs.Source.{stream_of_source}
 use Rattle.nd_session.specs.Event.{LedBy}
 use Rattle.nd_session.specs.declared.resolve.PathAnswer.{PathAnswer}
@@ -45,12 +47,10 @@ HasLease now destination (Refused refusal) session = Unit {0}
 HasLease now destination (Path way state until) session = IsLeased now destination state until session
 
 -- within the lease that is answered packets go to the neighbour and to the link-layer address that are answered
-abbrev pub GoesThere : ℕ → Addr → PathAnswer → Session → Type 0
-GoesThere now destination (Path (ways.To to (Some mac)) state until) session = now < until → InLease session.node now destination to mac
-GoesThere now destination (Path (ways.To to None) state until) session = Unit {0}
-GoesThere now destination (Path ways.NoRoute state until) session = Unit {0}
-GoesThere now destination (Refused refusal) session = Unit {0}
-GoesThere now destination (Past last) session = Unit {0}
+abbrev pub GoesThere : ℕ → Addr → PathAnswer → Node Source Global → Type 0
+GoesThere now destination (Path way state until) node = IfReached way (λ to mac. now < until → InLease node now destination to mac)
+GoesThere now destination (Refused refusal) node = Unit {0}
+GoesThere now destination (Past last) node = Unit {0}
 
 -- The question is the event, and its answer is returned by the call, and not reported: with that the queue would have all that is reported of it.
 pub record AnsweredBy (now : ℕ) (destination : Addr) (answer : PathAnswer) (old new : Session) : Type 0 where
@@ -58,7 +58,7 @@ pub record AnsweredBy (now : ℕ) (destination : Addr) (answer : PathAnswer) (ol
   pub is : resolution_in answer ≡ Some resolution
   pub leads : Leads stream_of_source old.node new.node old.queue (with_answer new.queue now destination resolution) (FollowsBy now (events.Resolves destination) (answer_by resolution))
   pub lease : HasLease now destination answer new
-  pub goes : (start : Start) (c : Chronicle) → Stands stream_of_source start old.node c → GoesThere now destination answer new
+  pub goes : (start : Start) (c : Chronicle) → Stands stream_of_source start old.node c → GoesThere now destination answer new.node
 
 -- The question is the event at a node at which nothing is due, its answer is returned by the call, and nothing is reported.
 pub record AnsweredAtOnce (now : ℕ) (destination : Addr) (answer : PathAnswer) (old new : Session) : Type 0 where
@@ -68,7 +68,7 @@ pub record AnsweredAtOnce (now : ℕ) (destination : Addr) (answer : PathAnswer)
   pub adds : (outs : List (ℕ × Out Global)) → AddsEvent stream_of_source old.node new.node outs (with_answer outs now destination resolution) now (events.Resolves destination) (answer_by resolution)
   pub queue : new.queue ≡ old.queue
   pub lease : HasLease now destination answer new
-  pub goes : GoesThere now destination answer new
+  pub goes : GoesThere now destination answer new.node
 
 -- A question of a past moment changes nothing. Before another one what is due up to it is done; then it adds what it adds, and is answered. When out of memory
 -- a part of what is due is done, and the question adds nothing.

@@ -10,7 +10,7 @@ ghost use Rattle.nd_node.specs.Node.{last_of};
 ghost use Rattle.nd_node.specs.NodeKept.{Stands, next_of};
 ghost use Rattle.nd_node.specs.Path.{path_in};
 ghost use Rattle.nd_node.specs.PathKept.{left_kept, path_kept, towards};
-ghost use Rattle.nd_node.specs.Resolve.{IsWay};
+ghost use Rattle.nd_node.specs.ResolveKept.{IsWay};
 ghost use Rattle.nd_node.specs.Time.{Onward, Passes};
 ghost use Rattle.nd_random.specs.Source.{stream_of_source};
 ghost use Rattle.nd_session.specs.Event.{LedBy};
@@ -142,7 +142,7 @@ impl Session {
     fn with_lease(&mut self, now: u64, destination: Addr, resolution: Resolution) -> PathAnswer
         ensures answer { resolution_in result ≡ Some resolution }
         ensures lease { HasLease now destination result self.new }
-        ensures goes { IsWay self.old.node now destination resolution → GoesThere now destination result self.new }
+        ensures goes { IsWay self.old.node now destination resolution → GoesThere now destination result self.new.node }
         ensures node { self.new.node ≡ self.old.node }
         ensures queue { self.new.queue ≡ self.old.queue }
         ensures room { self.new.room ≡ self.old.room }

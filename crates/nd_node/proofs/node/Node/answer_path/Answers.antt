@@ -12,7 +12,7 @@ use Rattle.nd_node.proofs.OutgoingPackets.{hop_later}
 use Rattle.nd_node.proofs.Refusals.{path_to_hop}
 use Rattle.nd_node.proofs.Wishes.{answered_with, not_resolved, resolved}
 use Rattle.nd_node.specs.NodeKept.{next_of}
-use Rattle.nd_node.specs.Resolve.{IsWay}
+use Rattle.nd_node.specs.ResolveKept.{IsWay}
 use Rattle.nd_node.proofs.Leases.{kept_hop}
 use Rattle.nd_node.proofs.node.Node.answer_path.Goals as goal
 

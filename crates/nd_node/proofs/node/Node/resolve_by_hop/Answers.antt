@@ -3,7 +3,7 @@ use Rattle.nd_addr.specs.Number.{number_of}
 use Rattle.nd_out.specs.declared.out.Way.TheVariants.{NoRoute}
 use Rattle.nd_node.specs.declared.resolve.Resolution.TheVariants as answers
 use Rattle.nd_node.proofs.Wishes.{answered_with, path_by_router, path_of_none}
-use Rattle.nd_node.specs.Resolve.{IsWay}
+use Rattle.nd_node.specs.ResolveKept.{IsWay}
 use Rattle.nd_node.proofs.Ways.{way_by_router}
 use Rattle.nd_node.proofs.node.Node.resolve_by_hop.Goals as goal
 

@@ -5,7 +5,7 @@ use Rattle.nd_out.specs.declared.out.Way.TheVariants.{To}
 use Rattle.nd_node.specs.declared.resolve.Resolution.TheVariants as answers
 use Rattle.nd_node.proofs.Refusals.{path_to_destination}
 use Rattle.nd_node.proofs.Wishes.{answered_with, path_to_all, path_to_one}
-use Rattle.nd_node.specs.Resolve.{IsWay}
+use Rattle.nd_node.specs.ResolveKept.{IsWay}
 use Rattle.nd_node.proofs.Ways.{way_to_all, way_to_one}
 use Rattle.nd_node.proofs.node.Node.resolve_directly.Goals as goal
 

@@ -9,7 +9,7 @@ use Rattle.nd_node.proofs.Wishes.{answered_with, wish_refused_full, wish_taken}
 use Rattle.nd_neighbour.specs.EntryKept.{NeighbourEntry}
 use Rattle.nd_neighbour.specs.LeaseKept.{mac_at}
 use Rattle.nd_neighbour.specs.TableKept.{entry_in}
-use Rattle.nd_node.specs.Resolve.{LeadsTo}
+use Rattle.nd_node.specs.ResolveKept.{LeadsTo}
 use Rattle.nd_node.proofs.Ways.{leads_to, ways_left}
 use Rattle.nd_node.proofs.node.Node.want_neighbour.Goals as goal
 
