@@ -1,6 +1,6 @@
 ghost use Rattle.std.specs.Prelude.{◌<◌, ◌^◌};
 
-use crate::messages::advertisement;
+use crate::advertisement::advertisement;
 use nd_addr::Addr;
 use nd_decode::Options;
 use nd_dns::*;

@@ -1,6 +1,6 @@
 ghost use Rattle.std.specs.Prelude.{◌<◌, ◌^◌};
 
-use crate::messages::advertisement;
+use crate::advertisement::advertisement;
 use nd_addr::{Addr, Mac, Prefix};
 use nd_decode::PrefixInfo;
 use nd_slaac::*;

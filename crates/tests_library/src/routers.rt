@@ -1,6 +1,6 @@
 ghost use Rattle.std.specs.Prelude.{◌<◌, ◌^◌};
 
-use crate::messages::advertisement;
+use crate::advertisement::advertisement;
 use nd_addr::{Addr, Preference, Prefix};
 use nd_routers::*;
 use std::alloc::Global;

@@ -1,15 +1,14 @@
 ghost use Rattle.std.specs.Prelude.{◌<◌, ◌^◌};
 
 use linked_list_allocator::LocalHeap;
-use nd_addr::{Addr, Mac, Preference, Prefix, Role};
-use nd_advertiser::{Config, ConfigFlags};
+use nd_addr::{Addr, Mac, Prefix, Role};
 use nd_forwarding::{KeptRoute, Route};
-use nd_node::{Answer, Clearable, Event, Limits, Node, OutgoingPacket, Table};
+use nd_node::{Answer, Event, Limits, Node};
 use nd_out::{Out, Refusal};
 use nd_slaac::Transmits;
 use rand_core::SeedableRng;
 use rand_pcg::Pcg32;
-use std::alloc::{AllocError, Global};
+use std::alloc::AllocError;
 use std::process::Abort;
 use std::test::*;
 
@@ -24,9 +23,6 @@ const SMALL: usize = 16;
 /// As many large blocks are parted into small ones.
 const LAST: usize = 2;
 
-/// The most tries of an event, each of which has 16 bytes more than the one before. No event of these tests asks for more than two kilobytes.
-const MOST_TRIES: usize = 128;
-
 /// The most blocks of one size.
 const MOST_BLOCKS: usize = 2048;
 
@@ -36,16 +32,14 @@ pub(crate) const OWN: Addr = Addr([
     0xfe, 0x80, 0, 0, 0, 0, 0, 0, 0x36, 0x56, 0x78, 0xff, 0xfe, 0x9a, 0xbc, 0xde,
 ]);
 
-const ROUTER: Addr = Addr([0xfe, 0x80, 0, 0, 0, 0, 0, 0, 0, 0, 0, 0xff, 0xfe, 0, 0, 1]);
-
 /// Of which nothing was heard.
 pub(crate) const STRANGER: Addr = Addr([0xfe, 0x80, 0, 0, 0, 0, 0, 0, 0, 0, 0, 0, 0, 0, 0, 9]);
 
 /// Which says nothing: the Ethernet type of IPv6, and no packet.
 pub(crate) const EMPTY: [u8; 14] = [0, 0, 0, 0, 0, 0, 0, 0, 0, 0, 0, 0, 0x86, 0xdd];
 
-/// A Router Advertisement of `ROUTER` with its link-layer address, the prefix 2001:db8::/64 on the link for 30 days, the server 2001:db8::53 and the
-/// search name example.com for 1800 s.
+/// A Router Advertisement of fe80::ff:fe00:1 with its link-layer address, the prefix 2001:db8::/64 on the link for 30 days, the server 2001:db8::53
+/// and the search name example.com for 1800 s.
 pub(crate) const ADVERTISEMENT: [u8; 158] = [
     0x33, 0x33, 0, 0, 0, 1, 2, 0, 0, 0, 0, 1, 0x86, 0xdd, 0x60, 0, 0, 0, 0, 0x68, 0x3a, 0xff, 0xfe,
     0x80, 0, 0, 0, 0, 0, 0, 0, 0, 0, 0xff, 0xfe, 0, 0, 1, 0xff, 2, 0, 0, 0, 0, 0, 0, 0, 0, 0, 0, 0,
@@ -56,7 +50,7 @@ pub(crate) const ADVERTISEMENT: [u8; 158] = [
     0x6f, 0x6d, 0, 0, 0, 0,
 ];
 
-/// A Redirect of `ROUTER`: 2001:db8:1::5 by fe80::2, with the link-layer address of that.
+/// A Redirect of fe80::ff:fe00:1: 2001:db8:1::5 by fe80::2, with the link-layer address of that.
 pub(crate) const REDIRECT: [u8; 102] = [
     0x34, 0x56, 0x78, 0x9a, 0xbc, 0xde, 2, 0, 0, 0, 0, 1, 0x86, 0xdd, 0x60, 0, 0, 0, 0, 0x30, 0x3a,
     0xff, 0xfe, 0x80, 0, 0, 0, 0, 0, 0, 0, 0, 0, 0xff, 0xfe, 0, 0, 1, 0xfe, 0x80, 0, 0, 0, 0, 0, 0,
@@ -112,16 +106,6 @@ pub(crate) fn receives<'h>(
     Ok(Event::Receives(frame))
 }
 
-/// Sends a packet without a payload.
-pub(crate) fn sends(heap: &LocalHeap, destination: Addr) -> Event<&LocalHeap> {
-    Event::Sends(OutgoingPacket {
-        source: OWN,
-        destination,
-        next_header: 59,
-        payload: Vec::new(heap),
-    })
-}
-
 /// Takes all that is left of a heap, but for the last of it in blocks of 16 bytes: one byte more is refused.
 pub(crate) fn exhaust<'h>(
     rt: &impl Abort,
@@ -150,97 +134,6 @@ fn fill<'h>(
         }
     }
     Ok(())
-}
-
-/// The rows of all tables of a node.
-fn shown<'h>(
-    rt: &impl Abort,
-    node: &Node<Pcg32, &'h LocalHeap>,
-    heap: &'h LocalHeap,
-) -> String<&'h LocalHeap> {
-    let mut text = String::new(heap);
-    let tables = [
-        Table::Neighbours,
-        Table::Routers,
-        Table::Prefixes,
-        Table::Addresses,
-        Table::Dns,
-        Table::Redirects,
-        Table::Params,
-        Table::Advertise,
-        Table::Routes,
-    ];
-    for table in tables {
-        for row in &node.rows(&heap, 3000, table).expect(rt, "memory") {
-            text.push_str(row.as_str()).expect(rt, "memory");
-            text.push_str("\n").expect(rt, "memory");
-        }
-    }
-    text
-}
-
-/// Passes an event while this number of blocks of 16 bytes is left.
-fn try_event<'h>(
-    rt: &impl Abort,
-    heap: &'h LocalHeap,
-    node: &mut Node<Pcg32, &'h LocalHeap>,
-    event: &Event<&'h LocalHeap>,
-    now: u64,
-    spare: usize,
-    outs: &mut Vec<(u64, Out<&'h LocalHeap>), &'h LocalHeap>,
-) -> Result<Answer, AllocError>
-    requires { now < 2 ^ 62 }
-{
-    let mut blocks = exhaust(rt, heap);
-    for _ in 0..spare {
-        let _block = blocks.pop();
-    }
-    come(node, now, event, outs)
-}
-
-/// Each request of an event is the one that is refused in some try, since each try has 16 bytes more than the one before; and each that is
-/// refused leaves all tables as they were, and reports nothing. The tries are few, so the event asks for little memory.
-fn refuse_each<'h>(
-    rt: &impl Abort,
-    heap: &'h LocalHeap,
-    node: &mut Node<Pcg32, &'h LocalHeap>,
-    now: u64,
-    event: &Event<&'h LocalHeap>,
-)
-    requires { now < 2 ^ 62 }
-{
-    let before = shown(rt, node, heap);
-    let mut refused = 0;
-    for spare in 0..MOST_BLOCKS {
-        let mut outs = Vec::new(heap);
-        if try_event(rt, heap, node, event, now, spare, &mut outs).is_ok() {
-            break;
-        }
-        assert!(rt; shown(rt, node, heap).as_str() == before.as_str());
-        assert!(rt; outs.is_empty());
-        refused = spare + 1;
-    }
-    assert!(rt; refused > 0 && refused <= MOST_TRIES);
-}
-
-#[test]
-fn each_request_of_a_hosts_event_is_refused_once(rt: HostRuntime) {
-    let heap = LocalHeap::new(rt.alloc(), AMPLE).expect(&rt, "memory");
-    let mut node = host(&rt, &heap);
-    let events = [
-        sends(&heap, STRANGER),
-        receives(&heap, &ADVERTISEMENT).expect(&rt, "memory"),
-        receives(&heap, &REDIRECT).expect(&rt, "memory"),
-        sends(&heap, Addr::ALL_NODES),
-        Event::Forgets(STRANGER),
-        sends(&heap, STRANGER),
-        Event::Clears(Clearable::Neighbours),
-        Event::Shows(Table::Dns),
-        Event::Clears(Clearable::Routers),
-    ];
-    for event in &events {
-        refuse_each(&rt, &heap, &mut node, 3000, event);
-    }
 }
 
 /// A payload for which no MTU of a link has room: RFC 2464, section 2, has 1500 bytes.
@@ -276,56 +169,4 @@ pub(crate) fn routes() -> Option<[KeptRoute; 2]> {
             route: Route::Via(hop),
         },
     ])
-}
-
-/// A router that advertises, at 3 s, up to which all that is due is done: its first advertisement was sent.
-fn router<'h>(rt: &impl Abort, heap: &'h LocalHeap) -> Node<Pcg32, &'h LocalHeap> {
-    let generator = Pcg32::seed_from_u64(0);
-    let mut node = Node::new(
-        heap,
-        Role::Router,
-        MAC,
-        0,
-        Transmits::ONE,
-        Limits::usual(),
-        generator,
-    )
-    .expect(rt, "memory");
-    let flags = ConfigFlags {
-        managed: false,
-        other: false,
-        preference: Preference::Medium,
-    };
-    let config = Config::new(200, 600, 1800, 64, flags, 0, 0, 0).expect(rt, "settings");
-    let [on_link, behind] = routes().expect(rt, "routes");
-    let events = [
-        (0, Event::Advertises(config)),
-        (0, Event::PutsRoute(on_link)),
-        (0, Event::PutsRoute(behind)),
-        (3000, Event::Passes),
-    ];
-    let mut outs = Vec::new(heap);
-    for (at, event) in &events {
-        come(&mut node, *at, event, &mut outs).expect(rt, "memory");
-    }
-    node
-}
-
-/// A packet that is sent on, and the Redirect before it; what is shown; an advertisement that is due, 16 s after the first at most, and
-/// the last one.
-#[test]
-fn each_request_of_a_routers_event_is_refused_once(rt: HostRuntime) {
-    let heap = LocalHeap::new(rt.alloc(), AMPLE).expect(&rt, "memory");
-    let mut node = router(&rt, &heap);
-    let events = [
-        (3000, receives(&heap, &TRANSIT).expect(&rt, "memory")),
-        (3000, Event::Shows(Table::Advertise)),
-        (3000, Event::Shows(Table::Routes)),
-        (3000, Event::Clears(Clearable::Neighbours)),
-        (20_000, Event::Passes),
-        (20_000, Event::Stops),
-    ];
-    for (now, event) in &events {
-        refuse_each(&rt, &heap, &mut node, *now, event);
-    }
 }

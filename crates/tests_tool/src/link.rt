@@ -1,6 +1,6 @@
 ghost use Rattle.std.specs.Prelude.{◌<◌, ◌^◌};
 
-use crate::runs::joined;
+use crate::link_runs::joined;
 use nd_addr::{Mac, Role};
 use nd_link::*;
 use nd_node::Event;
