@@ -1,11 +1,12 @@
-"""check_dist: dist/, the node in C as it is committed. Its stamp has the sum of today's sources. Where the tools are those of the stamp, dist/ is made
-again, and has the same bytes. It compiles without a warning; the examples print what they print over the archive, and the rows of `ndpctl run`
-have their texts. A simulation of many nodes in one thread has the same lines as over the archive, and more threads are refused. Its README.md has the
-bytes that the functions return."""
+"""check_dist: dist/, the node in C as it is committed. Its files are those of its stamp. With `full` the stamp has the sum of today's sources, and where
+the tools are those of the stamp, dist/ is made again, and has the same bytes. It compiles without a warning; the examples print what they print over
+the archive, and the rows of `ndpctl run` have their texts. A simulation of many nodes in one thread has the same lines as over the archive, and more
+threads are refused. Its README.md has the bytes that the functions return."""
 import os
 import re
 import sys
 import time
+from concurrent.futures import ThreadPoolExecutor
 
 from check_hostile import SEED
 from check_programs import BINDINGS, FEW_NODES, SMALL, TESTS, check_host, check_lines, check_many, check_router, check_traces, simulated
@@ -17,9 +18,11 @@ import stamp  # noqa: E402
 
 DIST = f"{TOP}/dist"
 EXAMPLES = ("host", "router", "hear", "many")
+COMPILERS = ("gcc", "clang")
 # The memory of nd.c for `fuzz`: enough for two nodes with the greatest limits, so that ND_NO_MEMORY is never returned. `many` has it too, as
 # examples/README.md says.
-MUCH_MEMORY = 1 << 26
+MUCH_BYTES = 1 << 26
+MUCH_MEMORY = [f"-DND_MEMORY_BYTES={MUCH_BYTES}"]
 # The memory of nd.c in README.md's line for a small processor.
 LITTLE_MEMORY = ["-DND_MEMORY_BYTES=131072", "-DND_FRAME_BYTES=2048"]
 # Prints the bytes that README.md has, and how many nodes of the usual limits, and of those of a small node, can be opened: at most four.
@@ -50,47 +53,50 @@ int main(void)
 
 
 def check_stamp():
-    """Requires that dist/ is of today's sources."""
+    """Requires that the files of dist/ are those of its stamp, and with `full` that it is of today's sources."""
     kept = read(stamp.STAMP)
-    said = "sources changed since dist/ was made: `make -C bindings dist page` makes it again"
-    report_if("dist/STAMP has the sum of today's sources", kept.startswith(f"sources {stamp.sum_of_sources()}\n"), said)
+    listed = re.findall(r"^sha256 .*$", kept, re.M)
+    others = "\n".join(sorted(set(listed) ^ set(stamp.sums(DIST))))
+    report_if(f"dist/STAMP has the sums of the {len(listed)} files of dist/", listed and not others, others)
+    if IS_FULL:
+        said = "sources changed since dist/ was made: `make -C bindings dist page` makes it again"
+        report_if("dist/STAMP has the sum of today's sources", f"sources {stamp.sum_of_sources()}\n" in kept, said)
     return kept
 
 
 def check_made(room, kept):
     """Makes dist/ again where the tools are those of its stamp, and compares the bytes."""
+    if not IS_FULL:
+        return skip("what is made again", "`bindings/check full` makes it, which takes some minutes")
     what = "dist/ is made again"
-    if os.environ.get("ND_ARCHIVE"):
-        return skip(what, "ND_ARCHIVE names an archive, so what it is made of isn't built here")
     try:
         build.need("rt", "gcc", "wasm-opt", "wasm2c")
         if f"tools {stamp.tools(build.kit())}\n" not in kept:
-            return skip(what, "the tools are others than those of dist/STAMP")
+            return skip("what is made again", "the tools are others than those of dist/STAMP")
         build.prepare()
         build.dist(f"{room}/dist")
     except build.Skipped as why:
-        return skip(what, why)
+        return skip("what is made again", str(why))
     except SystemExit as why:
         return report_if(what, False, str(why))
-    names = sorted({*os.listdir(DIST), *os.listdir(f"{room}/dist")})
+    names = sorted({*os.listdir(DIST), *os.listdir(f"{room}/dist")} - {os.path.basename(stamp.STAMP)})
     others = [name for name in names if not (os.path.exists(f"{DIST}/{name}") and os.path.exists(f"{room}/dist/{name}"))
               or read(f"{DIST}/{name}") != read(f"{room}/dist/{name}")]
     return report_if(f"{what}, and has the same bytes: {', '.join(names)}", not others, f"other bytes: {', '.join(others)}")
 
 
-def check_compiled(room, compiler):
-    """Compiles nd.c and the examples, and requires that these print what they print over the archive."""
+def check_compiled(room, compiler, said):
+    """Requires that nd.c was compiled, compiles the examples, and requires that these print what they print over the archive."""
     what = f"dist/nd.c by {compiler}"
-    over_archive = f"{room}/many"
+    over_archive, node = f"{room}/many", f"{room}/{compiler}.o"
     room = f"{room}/{compiler}"
     os.mkdir(room)
-    said = run([compiler, "-O2", "-Wall", "-Wextra", "-Werror", f"-I{DIST}", "-c", f"{DIST}/nd.c", "-o", f"{room}/nd.o"])
     if not report_if(f"{what}, without a warning", said.returncode == 0 and not said.stderr, said.stderr[-4000:]):
         return
     words = [compiler, "-std=c11", "-D_POSIX_C_SOURCE=200809L", "-O2", *WARNINGS, f"-I{DIST}"]
     sources = {name: [f"{TOP}/examples/c/{name}.c"] for name in EXAMPLES} | {"trace": [f"{TESTS}/trace.c", f"{TESTS}/uncounted.c"]}
     for name, files in sources.items():
-        said = run([*words, *files, f"{room}/nd.o", "-lm", "-pthread", "-o", f"{room}/{name}"])
+        said = run([*words, *files, node, "-lm", "-pthread", "-o", f"{room}/{name}"])
         if not report_if(f"{name} over {what} is built", said.returncode == 0, said.stderr):
             return
     check_host(f"host over {what}", f"{room}/host")
@@ -99,7 +105,7 @@ def check_compiled(room, compiler):
     check_traces(f"{room}/trace", f"trace over {what}")
     check_simulated(f"many over {what}", f"{room}/many", over_archive)
     check_threads_refused(f"many over {what}", f"{room}/many")
-    check_bytes_said(room, what, f"{room}/nd.o", 3, compiler)
+    check_bytes_said(room, what, node, 3, compiler)
 
 
 def check_threads_refused(what, program):
@@ -130,14 +136,17 @@ def check_simulated(what, program, over_archive):
     """Checks a simulation over nd.c, and compares it with that over the archive, which is there if the archive is."""
     said = check_many(program, FEW_NODES, what)
     if not os.path.exists(over_archive):
-        return skip(f"{what}: as over the archive", "the archive is not there")
+        return skip("the archives", "the archive is not there")
     return report_if(f"{what}: as over the archive", said and said == simulated(over_archive, FEW_NODES), str(said))
 
 
-def compiled(room, name, *more):
-    """Compiles nd.c with these flags, and returns the path of its object, or None if that fails."""
-    said = run(["gcc", "-O1", *more, f"-I{DIST}", "-c", f"{DIST}/nd.c", "-o", f"{room}/{name}.o"])
-    return f"{room}/{name}.o" if report(f"dist/nd.c, {' '.join(more)}", said) else None
+def compiled(room):
+    """Compiles nd.c in each way that is tried, side by side, by the compilers that are there. Returns what each said, by the name of its object."""
+    ways = {name: [name, "-O2", "-Wall", "-Wextra", "-Werror"] for name in COMPILERS if has(name)}
+    ways |= {name: ["gcc", "-O1", *flags] for name, flags in (("much", MUCH_MEMORY), ("little", LITTLE_MEMORY)) if "gcc" in ways}
+    with ThreadPoolExecutor(os.cpu_count()) as pool:
+        said = pool.map(lambda name: run([*ways[name], f"-I{DIST}", "-c", f"{DIST}/nd.c", "-o", f"{room}/{name}.o"]), ways)
+        return dict(zip(ways, said))
 
 
 def over_dist(room, name, node, sources, *more):
@@ -147,18 +156,17 @@ def over_dist(room, name, node, sources, *more):
     return program if report(f"{name} over dist/nd.c is built", run(words)) else None
 
 
-def check_much_and_little(room):
+def check_much_and_little(room, much, little):
     """Runs `fuzz` over nd.c, whose heap refuses nothing, and `exhausted` over one that packets fill."""
     seconds, seed = (600, int(time.time())) if IS_FULL else (5, SEED)
-    much = f"-DND_MEMORY_BYTES={MUCH_MEMORY}"
-    node = compiled(room, "much", much)
-    fuzz = node and over_dist(room, "fuzz", node, [f"{TESTS}/fuzz.c", f"{TESTS}/uncounted.c"], much)
+    node = f"{room}/much.o" if report(f"dist/nd.c, {' '.join(MUCH_MEMORY)}", much) else None
+    fuzz = node and over_dist(room, "fuzz", node, [f"{TESTS}/fuzz.c", f"{TESTS}/uncounted.c"], *MUCH_MEMORY)
     if fuzz:
         report(f"fuzz over dist/nd.c: {seconds} seconds, from seed {seed}", run([fuzz, str(seconds), str(seed)]))
     many = node and over_dist(room, "many", node, [f"{TOP}/examples/c/many.c"])
     if many:
         check_memory_of_many(many)
-    node = compiled(room, "little", *LITTLE_MEMORY)
+    node = f"{room}/little.o" if report(f"dist/nd.c, {' '.join(LITTLE_MEMORY)}", little) else None
     exhausted = node and over_dist(room, "exhausted", node, [f"{TESTS}/exhausted.c", f"{TESTS}/uncounted.c"], *LITTLE_MEMORY)
     if exhausted:
         report("exhausted over dist/nd.c: a memory that packets fill, and a day", run([exhausted]))
@@ -168,19 +176,20 @@ def check_much_and_little(room):
 
 def check_memory_of_many(program):
     """Requires that the usual simulation fits into the memory that examples/README.md gives it, and that a larger one says how much it needs."""
-    is_said = f"-DND_MEMORY_BYTES={MUCH_MEMORY} " in read(f"{TOP}/examples/README.md")
+    is_said = f"{MUCH_MEMORY[0]} " in read(f"{TOP}/examples/README.md")
     report_if("many over dist/nd.c: the memory of examples/README.md", is_said and run([program]).returncode == 0)
     said = run([program, "hosts=1000", "links=1"])
     needed = re.search(r"-DND_MEMORY_BYTES=(\d+)", said.stderr)
-    is_more = said.returncode == 1 and needed and int(needed[1]) > MUCH_MEMORY
+    is_more = said.returncode == 1 and needed and int(needed[1]) > MUCH_BYTES
     report_if("many over dist/nd.c: how much memory a thousand hosts on a link need", is_more, str(said))
 
 
 def check_dist(room):
     kept = check_stamp()
     check_made(room, kept)
-    if has("gcc", "fuzz and exhausted over dist/nd.c"):
-        check_much_and_little(room)
-    for compiler in ("gcc", "clang"):
-        if has(compiler, f"dist/nd.c by {compiler}"):
-            check_compiled(room, compiler)
+    said = compiled(room)
+    if "much" in said:
+        check_much_and_little(room, said["much"], said["little"])
+    for compiler in COMPILERS:
+        if compiler in said:
+            check_compiled(room, compiler, said[compiler])

@@ -47,7 +47,7 @@ def finish(room, name, process):
 
 
 def under_valgrind(what, words):
-    if has("valgrind", f"{what}, under valgrind"):
+    if has("valgrind"):
         report(f"{what}, under valgrind", run([*VALGRIND, *words], input=hostile.named()[0]))
 
 
@@ -125,11 +125,11 @@ def check_fuzz(room, archive, build):
     said = [run([broken, "5", str(SEED)], env={**os.environ, "FAULT": str(i)}) for i in range(1, faults + 1)]
     missed = [str(i) for i, it in enumerate(said, 1) if it.returncode != 1 or not it.stderr.startswith("failed: ")]
     report_if(f"fuzz: each of {faults} faults is noticed", faults and not missed, f"not noticed: {' '.join(missed)}")
-    if has("clang", "fuzz for libFuzzer"):
+    if has("clang"):
         words = ["clang", "-std=c11", "-O1", "-g", "-DFUZZER", "-fsanitize=fuzzer,address", *WARNINGS, f"-I{INCLUDE}"]
         made = run([*words, f"{TESTS}/fuzz.c", counting, archive, "-o", f"{room}/fuzzer"])
         if "libclang_rt" in made.stderr:
-            return skip("fuzz for libFuzzer", "its runtime is not there")
+            return skip("programs by clang", "the runtime of libFuzzer is not there")
         if report("fuzz for libFuzzer is built", made):
             report("fuzz by libFuzzer: 5000 inputs", run([f"{room}/fuzzer", "-runs=5000", "-max_len=1024", f"-seed={SEED}"]))
     return None

@@ -75,11 +75,11 @@ def all_rows(step):
 
 def has_node(what):
     """Returns true if node is there, and has what the page's script asks of a browser."""
-    if not has("node", f"{what} in node"):
+    if not has("node"):
         return False
     if run(["node", "-e", "new DecompressionStream('gzip'); new Response('')"]).returncode == 0:
         return True
-    skip(f"{what} in node", "node is older than 18")
+    skip("the page in node", "node is older than 18")
     return False
 
 
@@ -90,7 +90,7 @@ def check_in_node(what, path):
         said = run(["node", f"{TESTS}/lines.mjs", path, role], input="".join(f"{frame}\n" for frame, _ in rows))
         report_rows(f"{what} in node, {name}", rows, said.stdout.splitlines() or [said.stderr])
     if not os.path.exists(NDPCTL):
-        return skip(f"{what} beside ndpctl check", "crates/ndpctl/out/ndpctl is not there")
+        return skip("programs compared with ndpctl", "crates/ndpctl/out/ndpctl is not there")
     text = "".join(f"{frame}\n" for frame, _ in changed_frames(STEP))
     said, wanted = run(["node", f"{TESTS}/lines.mjs", path, "either"], input=text), run([NDPCTL, "check"], input=text)
     report_if(f"{what} in node: as ndpctl check, {len(wanted.stdout.splitlines())} lines", said.stdout == wanted.stdout != "", said.stderr)
@@ -282,12 +282,14 @@ def check_made_again(room):
     """Makes the modules of the page again, that of a node with ND_TARGETS=1. Their bytes are compared if the tools are those that the page names: others
     may make other bytes of the same code."""
     if not IS_FULL:
-        return skip("the page's modules are made again", "`bindings/check full` makes them, which takes some minutes")
+        return skip("what is made again", "`bindings/check full` makes it, which takes some minutes")
     again, names = f"{room}/index.html", list(page.MODULES) if os.environ.get("ND_TARGETS") else ["tell"]
     if "node" not in names:
-        skip("the page's module of a node is made again", "ND_TARGETS=1 makes it, which takes some minutes")
+        skip("other processors", "ND_TARGETS=1 makes the page's module of a node, which takes some minutes")
     said = run([sys.executable, f"{BINDINGS}/targets/page.py", again, *names])
-    print("".join(f"{line}\n" for line in said.stdout.splitlines() if line.startswith("skipped: ")), end="")
+    for line in said.stdout.splitlines():
+        if line.startswith("skipped: "):
+            skip("what is made again", line.removeprefix("skipped: "))
     if not report_if("targets/page.py", said.returncode == 0, said.stdout + said.stderr) or not os.path.exists(again):
         return None
     (committed, named), (made, here) = (page.parts_of(read(path)) for path in (page.PAGE, again))
@@ -296,7 +298,7 @@ def check_made_again(room):
             is_same = page.unpacked(committed[name]) == page.unpacked(made[name])
             report_if(f"the page's module {name!r} is what its crate is made into", is_same, "make -C bindings page makes it again")
     else:
-        skip("the bytes of the page's modules", f"they were made with {named}, and here is {here}")
+        skip("what is made again", f"the page's modules were made with {named}, and here is {here}")
         check_in_node("the page that is made here", again)
         check_runs_in_node("the page that is made here", again, room)
     return None

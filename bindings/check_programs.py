@@ -2,8 +2,10 @@
 fewer frames where that takes long."""
 import os
 import re
+import subprocess
 import sys
 
+import archives
 from check_hostile import check_hostile
 from checking import INCLUDE, IS_FULL, TOP, WARNINGS, has, read, report, report_if, run, skip, timed
 
@@ -43,15 +45,20 @@ def archive_of(crate, variable):
         return os.environ[variable]
     folder = f"{TOP}/crates/{crate}"
     if not os.path.isdir(folder):
-        return skip(f"the archive of {crate}", f"crates/{crate} is not there")
-    if not has("rt", f"the archive of {crate}"):
+        return skip("the archives", f"crates/{crate} is not there")
+    if not has("rt"):
         return None
-    return f"{folder}/out/lib{crate}.a" if report(f"the archive of {crate} is built", run(["rt", "lib"], cwd=folder)) else None
+    try:
+        made, verdict = archives.make(crate)
+    except subprocess.CalledProcessError as why:
+        return report_if(f"the archive of {crate} is built", False, (why.stdout + why.stderr)[-4000:]) or None
+    report_if(f"the archive of {crate} is built, and its verdict is that of PROVER.md", f"\n{verdict}\n" in read(f"{TOP}/docs/PROVER.md"), verdict)
+    return made
 
 
 def renamed(room, archive):
     """Returns a copy of the archive of a node in which the memory functions have the names of nd.h. None if there is none."""
-    if not archive or not has("objcopy", "the archive of nd_c"):
+    if not archive or not has("objcopy"):
         return None
     words = ["objcopy", f"--redefine-syms={BINDINGS}/c/memory.names", archive, f"{room}/libnd_c.a"]
     return words[-1] if report("the memory functions of the archive have the names of nd.h", run(words)) else None
@@ -59,7 +66,7 @@ def renamed(room, archive):
 
 def check_symbols(what, archive, needed):
     """Requires that an archive needs no other symbols than these."""
-    if has("nm", f"the symbols of {what}"):
+    if has("nm"):
         listed = run(["nm", archive]).stdout
         others = set(re.findall(r"^ +U (\S+)", listed, re.M)) - set(re.findall(r"^\w+ [TtRrDdBb] (\S+)", listed, re.M)) - needed
         report_if(f"{what} needs no other symbols than {len(needed)}", not others, f"it needs {sorted(others)}\n")
@@ -76,14 +83,14 @@ def check_runs(what, words, text="", under=None):
     """Runs a program, and then under valgrind, on the text `under` if it is given. Returns what it printed first."""
     first = run(words, input=text)
     report(what, first)
-    if has("valgrind", f"{what}, under valgrind"):
+    if has("valgrind"):
         report(f"{what}, under valgrind", run([*VALGRIND, *words], input=text if under is None else under))
     return first.stdout
 
 
 def check_hear(room):
     archive = archive_of("nd_hear_c", "ND_HEAR_ARCHIVE")
-    if not archive or not has("gcc", "the example hear"):
+    if not archive or not has("gcc"):
         return
     check_symbols("the archive of nd_hear_c", archive, set())
     program = build(room, "hear", [f"{TOP}/examples/c/hear.c", archive])
@@ -99,7 +106,7 @@ def check_long_line(room, archive):
     that are written behind the frame are digits again if the frame is behind the line."""
     for compiler in ("gcc", "clang"):
         what = f"hear by {compiler}: a line as long as its buffer"
-        if not has(compiler, what):
+        if not has(compiler):
             continue
         words = [compiler, "-std=c11", "-D_POSIX_C_SOURCE=200809L", "-O2", f"-I{INCLUDE}", f"{TOP}/examples/c/hear.c", archive, "-o", f"{room}/long"]
         said = run([f"{room}/long"], input="3" * 16399) if report(f"{what}: it is built", run(words)) else None
@@ -209,7 +216,7 @@ def check_simulations(room, archive):
         if said:
             check_threads_of_many(program, numbers, said)
     words = [program, *(f"{name}={number}" for name, number in FEW_NODES.items()), f"threads={FEW_NODES['links']}"]
-    if has("valgrind", "many, under valgrind"):
+    if has("valgrind"):
         report("many, under valgrind", run([*VALGRIND, *words]))
         report("many, under helgrind", run(["valgrind", "--tool=helgrind", "-q", "--error-exitcode=99", *words]))
 
@@ -224,7 +231,7 @@ def check_traces(program, what="trace"):
             wrong.append(f"{row.name}: {said.stderr}{difference(said.stdout, row.text)}")
     report_if(f"{what}: {len(known)} rows of ndpctl run", not wrong, "\n".join(wrong[:8]))
     longest = max(known, key=lambda row: len(row.script))
-    if has("valgrind", f"{what}, under valgrind"):
+    if has("valgrind"):
         report(f"{what}: {longest.name}, under valgrind", run([*VALGRIND, program, *longest.words], input=longest.script))
 
 
@@ -239,7 +246,7 @@ def difference(said, wanted):
 def check_beside_ndpctl(program):
     """Runs longer scripts over the library and by ndpctl, with the same seeds."""
     if not os.path.exists(NDPCTL):
-        return skip("trace beside ndpctl run", "crates/ndpctl/out/ndpctl is not there")
+        return skip("programs compared with ndpctl", "crates/ndpctl/out/ndpctl is not there")
     for seed in (1, 2, 3):
         for role in ("host", "router"):
             args = ["run", "--role", role, "--mac", frames.HOST_MAC, "--draws", f"seed:{seed}"]
@@ -306,7 +313,7 @@ def check_loops(room, archive):
 def check_stack(room, archive):
     """Measures how much stack the calls of other tests take, and requires that nd.h says enough."""
     if os.uname().machine != "x86_64":
-        return skip("the stack of a call", "nd.h says it of x86-64")
+        return skip("programs for x86-64", "nd.h says of x86-64 how much stack a call has")
     bytes_said = re.search(r"A call has ([\d,]+) bytes of stack\.", read(f"{INCLUDE}/nd.h"))[1].replace(",", "")
     calls = set(re.findall(r"^\w+ (nd_\w+)\(", read(f"{INCLUDE}/nd.h") + read(f"{INCLUDE}/nd_hear.h"), re.M))
     calls -= {"nd_version", "nd_refusal_of", "nd_limit_of", "nd_free"}
@@ -336,7 +343,7 @@ def check_tests(room, archive):
     threads = build(room, "threads", [f"{TESTS}/threads.c", HEAP, archive], "-pthread")
     if threads:
         print(check_runs("threads", [threads], MIXED, FEW), end="")
-        if has("valgrind", "threads, under helgrind"):
+        if has("valgrind"):
             report("threads, under helgrind", run(["valgrind", "--tool=helgrind", "-q", "--error-exitcode=99", threads], input=FEW))
     limits = build(room, "limits", [f"{TESTS}/limits.c", COUNTING, archive])
     if limits:
@@ -391,14 +398,14 @@ def check_leases(room, archive):
             said = run([program, str(number), "50000", str(seed)], input=STEADY)
             report(f"leases: {role}, runs of 50000 steps, seed {seed}", said)
             print(said.stdout, end="")
-        if has("valgrind", f"leases: {role}, under valgrind"):
+        if has("valgrind"):
             report(f"leases: {role}, under valgrind", run([*VALGRIND, program, str(number), "1000", "4861"], input=STEADY))
 
 
 def check_bare(room, archive):
     """Builds and runs a host without a C library, in a pool."""
     if os.uname().machine != "x86_64":
-        return skip("bare", "it is for x86-64")
+        return skip("programs for x86-64", "bare is for x86-64")
     more = ["-ffreestanding", "-fno-stack-protector", "-nostdlib", "-static", "-no-pie"]
     pool = build(room, "pool", [f"{TESTS}/pool.c", POOL])
     if pool:
@@ -434,22 +441,22 @@ def check_examples(room, archive):
     check_simulations(room, archive)
     loop = build(room, "loop", [f"{TOP}/examples/c/loop.c", HEAP, archive])
     if loop and not os.environ.get("ND_LIVE"):
-        skip("loop on a TAP device", "it takes the kernel's time: ND_LIVE=1 runs it")
+        skip("a TAP device", "ND_LIVE=1 runs the example loop on one")
     elif loop:
         said = run([f"{TESTS}/live.sh", loop])
-        print(said.stdout, end="") if "skipped: " in said.stdout else report("loop on a TAP device", said)
+        skip("a TAP device", said.stdout.strip()) if "skipped: " in said.stdout else report("loop on a TAP device", said)
 
 
 def check_make(archive):
     """Makes what the Makefile makes for this machine."""
-    if not has("make", "the Makefile"):
+    if not has("make"):
         return
     words = ["make", "-s", "-C", BINDINGS]
     report("make", run([*words, f"ND_ARCHIVE={archive}"]))
 
 
 def check_rust(room):
-    if not has("cargo", "the crate for Rust"):
+    if not has("cargo"):
         return
     environment = {**os.environ, "ND_LIB": room, "CARGO_TARGET_DIR": f"{room}/target"}
     words = ["--offline", "--locked", "--quiet", "--manifest-path"]
@@ -469,7 +476,7 @@ def check_programs(room):
     if not archive:
         return None
     check_symbols("the archive of nd_c", archive, NEEDED)
-    if has("gcc", "the programs in C"):
+    if has("gcc"):
         with timed("the examples in C"):
             check_examples(room, archive)
         with timed("the tests in C"):

@@ -12,7 +12,7 @@ LONGEST = 600
 
 def check_python(room):
     what = "the module for Python: its tests"
-    if not has("cc", what):
+    if not has("cc"):
         return
     environment = {name: value for name, value in os.environ.items() if name not in ("ND_LIB", "CC")}
     try:

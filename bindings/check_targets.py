@@ -95,12 +95,12 @@ def check_target(room, target, wanted):
 
 def check_wasm64(wanted):
     what = "wasm64: the example of a host in node"
-    if not os.path.exists(f"{OUT}/nd.wasm") or not has("node", what):
+    if not os.path.exists(f"{OUT}/nd.wasm") or not has("node"):
         return
     words = ["node", "--experimental-wasm-memory64", f"{BINDINGS}/targets/host.mjs", f"{OUT}/nd.wasm", HOST[0], "0"]
     said = run(words, input=read(f"{TOP}/examples/host.hex"))
     if said.returncode == 9 or "CompileError" in said.stderr:
-        return skip(what, "node has no 64-bit memory")
+        return skip("other processors", "node has no 64-bit memory")
     report_if(what, said.stdout == read(f"{TOP}/examples/host.txt"), said.stdout + said.stderr)
     words = ["node", "--experimental-wasm-memory64", f"{TESTS}/runs.mjs", f"{TOP}/docs/try/index.html", f"{OUT}/nd.wasm"]
     said = run(words, input=json.dumps(runs()))
@@ -114,10 +114,12 @@ def check_targets(room, archive):
     """Builds the targets, and compares them with the archive for this machine."""
     if os.environ.get("ND_ARCHIVE"):
         return skip("other processors", "ND_ARCHIVE names an archive for this machine")
-    if not has("gcc", "other processors"):
+    if not has("gcc"):
         return None
     made = run([sys.executable, f"{BINDINGS}/targets/build.py", "aarch64", "riscv64", "wasm64"])
-    print("".join(f"{line}\n" for line in made.stdout.splitlines() if line.startswith("skipped: ")), end="")
+    for line in made.stdout.splitlines():
+        if line.startswith("skipped: "):
+            skip("other processors", line.removeprefix("skipped: "))
     if not report_if("targets/build.py", made.returncode == 0, made.stdout + made.stderr):
         return None
     trace = f"{room}/trace_here"
@@ -131,7 +133,7 @@ def check_targets(room, archive):
         what, compiler, qemu, of = target
         why = lacking(compiler, qemu)
         if why or not os.path.exists(of or f"{DIST}/nd.c"):
-            skip(what, why or "it was not built")
+            skip("other processors", f"{what}: {why or 'it was not built'}")
         else:
             check_target(room, target, wanted)
     return check_wasm64(wanted)

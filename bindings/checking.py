@@ -1,5 +1,6 @@
-"""checking: what the checks of the bindings share: running a command, and counting what passed and failed."""
+"""checking: what the checks of the bindings share: running a command, and counting what passed, what failed and what was skipped."""
 import os
+import re
 import shutil
 import subprocess
 import sys
@@ -14,6 +15,11 @@ WARNINGS = ["-Wall", "-Wextra", "-Wpedantic", "-Werror"]
 IS_FULL = "full" in sys.argv[1:]
 
 passed, failed = 0, 0
+# The parts that were skipped, and why.
+skipped = {}
+# The part that is skipped without a tool.
+PARTS = {"rt": "the archives", "g++": "headers in C++", "clang": "programs by clang", "valgrind": "programs under valgrind", "cargo": "programs in Rust",
+         "node": "the page in node", **dict.fromkeys(("gcc", "cc", "objcopy", "nm", "make"), "programs in C")}
 
 
 def run(words, **more):
@@ -36,16 +42,32 @@ def report(what, process):
     return report_if(what, process.returncode == 0, (process.stdout + process.stderr)[-4000:])
 
 
-def skip(what, why):
-    print(f"skipped: {what}: {why}", flush=True)
+def parts():
+    """Returns the parts of the checks that may be skipped, as CONTRIBUTING.md lists them."""
+    listed = re.search(r"^## What is skipped\n(.*?)(?=^## )", read(f"{TOP}/CONTRIBUTING.md"), re.M | re.S)
+    return re.findall(r"^\| (?!Part)([^|]*[^|-]) \|", listed[1], re.M) if listed else []
 
 
-def has(tool, what):
-    """Returns true if a tool is there. Else it prints that `what` is skipped."""
+def skip(part, why):
+    """Counts a part that is skipped, in whole or in part, and prints each reason once. A part that CONTRIBUTING.md doesn't list is a failure."""
+    if part not in skipped and part not in parts():
+        report_if(f"CONTRIBUTING.md lists {part!r} as a part that may be skipped", False)
+    elif why not in skipped.setdefault(part, []):
+        skipped[part].append(why)
+        print(f"skipped: {part}: {why}", flush=True)
+
+
+def has(tool):
+    """Returns true if a tool is there. Else the part that needs it is skipped."""
     if shutil.which(tool):
         return True
-    skip(what, f"{tool} is not there")
+    skip(PARTS[tool], f"{tool} is not there")
     return False
+
+
+def result():
+    """Returns the last line of a check."""
+    return f"{passed} passed, {failed} failed" + (f", {len(skipped)} skipped" if skipped else "")
 
 
 @contextmanager

@@ -1,12 +1,16 @@
 #!/usr/bin/env python3
-"""bitcode OUT [CRATE]: builds the archive of crates/nd_c, or of the crate that is named, for aarch64 as `rt lib --target` does, over what `rt lib` keeps,
-and leaves it in OUT as nd.a. OUT/nd.bc is the LLVM module that Rattle passed to clang for it. A folder of a toolchain whose clang copies its input stands in for the kit's."""
+"""bitcode OUT [CRATE]: builds the archive of crates/nd_c, or of the crate that is named, for aarch64 as `rt lib --target` does, over libraries of today's
+sources, and leaves it in OUT as nd.a. OUT/nd.bc is the LLVM module that Rattle passed to clang for it, and OUT/nd.verdict what the prover said last. A
+folder of a toolchain whose clang copies its input stands in for the kit's."""
 import importlib.machinery
 import importlib.util
 import os
 import shutil
 import subprocess
 import sys
+
+sys.path.insert(0, f"{os.path.dirname(os.path.realpath(__file__))}/..")
+import archives  # noqa: E402
 
 TARGET = "aarch64-unknown-linux-gnu"
 CRATES = os.path.realpath(f"{os.path.dirname(__file__)}/../../crates")
@@ -52,6 +56,8 @@ def main(out, name="nd_c"):
     sys.dont_write_bytecode = True
     out, crate = os.path.realpath(out), f"{CRATES}/{name}"
     os.makedirs(out, exist_ok=True)
+    # Libraries of other sources than today's are built again.
+    archives.make(name)
     kit = kit_of(shutil.which("rt"))
     rtlib = library(kit)
     os.chdir(crate)
@@ -61,6 +67,8 @@ def main(out, name="nd_c"):
     said = (made.stdout + made.stderr).strip().splitlines()
     if made.returncode or not os.path.exists(f"{out}/nd.bc"):
         sys.exit("\n".join(["bitcode: Rattle's module was not found", *said[-10:]]))
+    with open(f"{out}/nd.verdict", "w", encoding="utf-8") as file:
+        file.write(f"{said[-1]}\n")
     print(said[-1])
 
 

@@ -173,7 +173,9 @@ def without_includes(text):
 
 
 def dist(folder=DIST):
+    """Makes the files of dist/, and their stamp if they are to be committed."""
     need("rt", "gcc", "wasm-opt", "wasm2c")
+    commit = stamp.commit() if folder == DIST else None
     wide = module("nd_bytewise", PAGE, "-mno-bulk-memory-opt")
     run("wasm-opt", *LOWER, "--memory64-lowering", wide, "-o", f"{OUT}/nd_module.wasm")
     listed = run("wasm-objdump", "-d", f"{OUT}/nd_module.wasm")
@@ -192,7 +194,8 @@ def dist(folder=DIST):
     for name in stamp.EXAMPLES:
         write(f"{folder}/{name}", read(f"{TOP}/examples/{name}"))
     write(f"{folder}/README.md", read(f"{HERE}/dist.md"))
-    write(f"{folder}/STAMP", stamp.text(kit()))
+    if commit:
+        write(f"{folder}/STAMP", stamp.text(commit, kit(), read(f"{OUT}/nd.verdict").strip()))
 
 
 TARGETS = {"aarch64": aarch64, "riscv64": riscv64, "wasm64": wasm64, "dist": dist}

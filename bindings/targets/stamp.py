@@ -1,9 +1,10 @@
-"""stamp: what dist/ was made of. `dist/STAMP` has a sum of all sources, and the tools that made nd.c of them: others may make other bytes of the same
-code."""
+"""stamp: what dist/ was made of. `dist/STAMP` has the commit and a sum of all sources, the tools that made nd.c of them (others may make other bytes of
+the same code), the verdict of the prover on the library, and the SHA-256 of each file of dist/."""
 import hashlib
 import os
 import re
 import subprocess
+import sys
 
 HERE = os.path.dirname(os.path.realpath(__file__))
 TOP = os.path.dirname(os.path.dirname(HERE))
@@ -61,5 +62,22 @@ def tools(kit):
     return f"{name}, binaryen {version('wasm-opt', '--version')}, wabt {version('wasm2c', '--version')}"
 
 
-def text(kit):
-    return f"sources {sum_of_sources()}\ntools {tools(kit)}\n"
+def sums(folder):
+    """Returns a line for each file of a folder but its stamp, with its sum."""
+    return [f"sha256 {hashlib.sha256(read(f'{folder}/{name}')).hexdigest()} {name}" for name in sorted(os.listdir(folder)) if name != "STAMP"]
+
+
+def commit():
+    """Returns the commit that last changed a source. Exits if a source has changes that are not committed."""
+    names = [*OTHERS, "crates.txt", *(f"crates/{crate}/{part}" for crate, _ in crates_of("nd_c") for part in ("src", "specs", "proofs"))]
+    names = [name for name in names if os.path.exists(f"{TOP}/{name}")]
+    git = ["git", "-C", TOP]
+    changed = subprocess.run([*git, "status", "--porcelain", "--", *names], capture_output=True, text=True, check=True).stdout
+    if changed:
+        sys.exit(f"FAILED: dist/ is made of what is committed:\n{changed}")
+    return subprocess.run([*git, "log", "-1", "--format=%H", "--", *names], capture_output=True, text=True, check=True).stdout.strip()
+
+
+def text(of, kit, verdict):
+    """Returns the stamp of dist/, which was made of this commit by this kit."""
+    return "\n".join([f"commit {of}", f"sources {sum_of_sources()}", f"tools {tools(kit)}", f"verdict {verdict}", *sums(f"{TOP}/dist"), ""])
