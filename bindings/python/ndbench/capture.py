@@ -183,13 +183,13 @@ class _Pcapng(_File):
 
     def options(self, content: bytes) -> Dict[int, bytes]:
         """Returns the options of a block that have a content, by their codes."""
-        found = {}
-        while len(content) >= 4:
-            code, length = self.unpack("HH", content)
+        found, head, at = {}, struct.Struct(f"{self.order}HH"), 0
+        while at + 4 <= len(content):
+            code, length = head.unpack_from(content, at)
             if code == 0 or length == 0:
                 break
-            found[code] = content[4:4 + length]
-            content = content[4 + (length + 3) // 4 * 4:]
+            found[code] = content[at + 4:at + 4 + length]
+            at += 4 + (length + 3) // 4 * 4
         return found
 
     def interface(self, index: int) -> Interface:

@@ -7,10 +7,11 @@ import struct
 import subprocess
 import sys
 import tempfile
+import time
 import unittest
 from pathlib import Path
 
-from .captures import BEGIN, advertisement, enhanced, interface, pcap, pcapng, section, spaced
+from .captures import BEGIN, advertisement, block, enhanced, interface, pcap, pcapng, section, spaced
 from .paths import PYTHON, corpus, example_frames
 from .test_judge import run
 
@@ -68,6 +69,16 @@ class Times(unittest.TestCase):
         for years, wanted in ((30, 0), (40, 2)):
             content = pcap([(0, advertisement())]) + struct.pack("<IIII", BEGIN + years * 31_536_000, 0, 0, 0)
             self.assertEqual(run(content, "replay", *HOST)[0], wanted)
+
+
+class Costs(unittest.TestCase):
+    def test_a_block_of_options(self) -> None:
+        """Two million bytes of options are read in less than a second. If each one copied those behind it, that would take half a minute."""
+        options = struct.pack("<HHB3x", 1, 1, 0) * 250_000
+        content = section("<") + block("<", 1, struct.pack("<HHI", 1, 0, 0) + options) + enhanced("<", 10 ** 6, 0, advertisement())
+        begin = time.process_time()
+        self.assertEqual(run(content, "judge")[0], 0)
+        self.assertLess(time.process_time() - begin, 5)
 
 
 class Pipes(unittest.TestCase):
