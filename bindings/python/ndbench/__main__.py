@@ -21,7 +21,7 @@ from .setup import add_arguments, setup_of
 from .texts import counted
 
 DONE, DIFFERENT, BAD_INPUT, INTERRUPTED = 0, 1, 2, 130
-LONGEST_MILLISECONDS = 1 << 40  # 34 years: an idle node takes a minute for them
+LONGEST_MILLISECONDS = 1 << 40  # 34 years: an idle node takes seconds for them
 
 
 class BadInput(Exception):

@@ -177,7 +177,7 @@ class Comparison:
         self.is_begun |= packet.time >= self.begin
         if packet.skipped or not self.is_begun:
             return
-        now = moment_of(packet, self.begin, self.node.last_moment())
+        now = moment_of(packet, self.survey.begin or 0, self.begin, self.node.last_moment())
         self.pass_time(now)
         if self.setup.is_own(packet.frame):
             self.take_stack(now, packet)

@@ -72,7 +72,7 @@ def picture_of(packets: Iterable[Packet]) -> Picture:
 
 def picture_with_node(packets: Iterable[Packet], setup: Setup, before: int = 0, after: int = 0) -> Picture:
     """Returns the picture of a capture with a node that hears it: all packets, what the node sends, and its neighbours after each event."""
-    made, replay, states = Picture(), Replay(setup, before, after), States()
+    made, replay, states = Picture(), Replay(setup, before, after, step=0), States()
     try:
         for event in replay.events(_drawn(packets, setup, made)):
             if isinstance(event, nd.Frame):

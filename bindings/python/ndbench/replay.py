@@ -21,7 +21,8 @@ from .tables import TABLES
 from .texts import address_text, frame_text, heard_by_its_role, record_text, seconds_text
 
 MILLISECOND = 10 ** 6    # nanoseconds
-LONGEST_GAP = 1 << 40    # milliseconds: 34 years, for which an idle node takes seconds
+LONGEST_GAP = 1 << 40    # milliseconds: 34 years, from a packet to the next one, and from the first to the last
+STEP = 86_400_000        # milliseconds: a day, whose records the memory of nd.c has room for
 
 
 @dataclass(frozen=True)
@@ -44,21 +45,26 @@ DISABLED = "RFC 4862, 5.4.5"
 BY_SELF = "our choice: the policy self"
 
 
-def moment_of(packet: Packet, begin: int, last: int) -> int:
-    """Returns the moment of a packet, in milliseconds since `begin`, a time in nanoseconds, but not before `last`. Raises CaptureError if it is
-    more than LONGEST_GAP after that, as times that are damaged are."""
-    moment = max((packet.time - begin) // MILLISECOND, last)
+def moment_of(packet: Packet, first: int, begin: int, last: int) -> int:
+    """Returns the moment of a packet, in milliseconds since `begin`, but not before `last`. `begin`, and `first`, that of the first packet, are times
+    in nanoseconds. Raises CaptureError if it is more than LONGEST_GAP after `last`, as times that are damaged are, or after the first packet, so that
+    the gaps of a capture are no longer than that together."""
+    moment, since_first = max((packet.time - begin) // MILLISECOND, last), (packet.time - first) // MILLISECOND
     if moment - last > LONGEST_GAP:
         raise CaptureError(f"packet {packet.number}: its time is {moment - last} ms after that of the packet before")
+    if since_first > LONGEST_GAP:
+        raise CaptureError(f"packet {packet.number}: its time is {since_first} ms after that of the first packet")
     return moment
 
 
 class Replay:
     """A node that hears a capture. `before`: how long before the first packet the node starts; `after`: how long it goes on after the last one,
-    both in milliseconds. `first` is the time of the first packet and `begin` that of the start, in nanoseconds since 1970, once a packet was read."""
+    both in milliseconds. `step`: how long time passes on after a due moment before its records are returned, in milliseconds; with 0 a caller may
+    look at the tables between due moments. `first` is the time of the first packet and `begin` that of the start, in nanoseconds since 1970, once a
+    packet was read."""
 
-    def __init__(self, setup: Setup, before: int = 0, after: int = 0) -> None:
-        self.setup, self.before, self.after = setup, before, after
+    def __init__(self, setup: Setup, before: int = 0, after: int = 0, step: int = STEP) -> None:
+        self.setup, self.before, self.after, self.step = setup, before, after, step
         self.node = setup.opened()
         self.first = self.begin = 0
         self.heard: Optional[Passed] = None
@@ -74,7 +80,7 @@ class Replay:
 
     def hear(self, packet: Packet) -> Iterator[Event]:
         """Lets time pass up to a packet, and passes it to the node if the interface does."""
-        moment = moment_of(packet, self.begin, self.node.last_moment())
+        moment = moment_of(packet, self.first, self.begin, self.node.last_moment())
         yield from self.pass_time(moment)
         if not packet.skipped and self.setup.is_own(packet.frame):
             yield Own(moment, packet)
@@ -86,9 +92,9 @@ class Replay:
         yield from self.node.poll()
 
     def pass_time(self, moment: int) -> Iterator[Event]:
-        """Lets time pass. What is due comes one moment after another, so that a caller may look at the tables between."""
+        """Lets time pass: to what is due, and on by `step`, until `moment`."""
         while self.node.next_due() < moment:
-            self.node.pass_time(self.node.next_due())
+            self.node.pass_time(min(self.node.next_due() + self.step, moment))
             yield from self.node.poll()
         self.node.pass_time(moment)
         yield from self.node.poll()

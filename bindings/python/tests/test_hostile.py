@@ -70,6 +70,16 @@ class Times(unittest.TestCase):
             content = pcap([(0, advertisement())]) + struct.pack("<IIII", BEGIN + years * 31_536_000, 0, 0, 0)
             self.assertEqual(run(content, "replay", *HOST)[0], wanted)
 
+    def test_gaps_that_are_too_long_together(self) -> None:
+        """A gap of one year, and one of 34: each is shorter than 2^40 ms, and both together are longer."""
+        year = 31_536_000
+        late = section("<") + interface("<", resolution=0)
+        late += b"".join(enhanced("<", 1, 0, advertisement(), since=BEGIN + years * year) for years in (0, 1, 35))
+        for command in (["replay", *HOST], ["picture", *HOST], ["compare", "--mac", "02:00:00:00:00:01"]):
+            status, _, err = run(late, *command, "--quiet")
+            wanted = f"ndbench: capture: packet 3: its time is {35 * year * 1000} ms after that of the first packet\n"
+            self.assertEqual((status, err), (2, wanted))
+
 
 class Costs(unittest.TestCase):
     def test_a_block_of_options(self) -> None:
