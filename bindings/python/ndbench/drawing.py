@@ -4,6 +4,7 @@ from __future__ import annotations
 
 import math
 from bisect import bisect_right
+from ipaddress import IPv6Address
 from typing import Dict, List, Tuple
 from xml.sax.saxutils import escape
 
@@ -11,6 +12,7 @@ import nd
 
 from .picture import Arrow, Picture
 from .replay import MILLISECOND
+from .states import Bar
 from .texts import address_text, seconds_text
 
 # Lengths are in pixels.
@@ -51,7 +53,7 @@ class Drawing:
 
     def __init__(self, picture: Picture) -> None:
         self.picture = picture
-        self.lanes = _lanes(picture.arrows)
+        self.lanes = {mac: LEFT + LANE * (number + 0.5) for number, mac in enumerate(_lanes(picture.arrows))}
         self.neighbours = sorted({bar.neighbour for bar in picture.bars})
         self.name_length = CHARACTER * max((len(address_text(neighbour)) for neighbour in self.neighbours), default=0)
         self.top = max(TOP, 20 + self.name_length * math.sin(math.radians(SLANT)))
@@ -70,8 +72,7 @@ class Drawing:
         for arrow, y in zip(self.picture.arrows, self.rows):
             self.draw_arrow(arrow, y, labels)
         self.draw_bars(bars)
-        note = f"{self.picture.left_out} later frames are left out" if self.picture.left_out else ""
-        self.add_text(LEFT, last + 1.6 * ROW, note)
+        self.add_text(LEFT, last + 1.6 * ROW, self.picture.left_out())
         head = f'<svg xmlns="http://www.w3.org/2000/svg" width="{width:.0f}" height="{height:.0f}" viewBox="0 0 {width:.0f} {height:.0f}">'
         return "\n".join([head, f"<style>{STYLE}</style>", '<rect width="100%" height="100%" fill="white"/>', *self.elements, "</svg>", ""])
 
@@ -86,7 +87,7 @@ class Drawing:
 
     def x_of(self, mac: nd.Mac) -> float:
         """Returns where the line of an Ethernet address is."""
-        return LEFT + LANE * (self.lanes.index(mac) + 0.5)
+        return self.lanes[mac]
 
     def draw_lanes(self, bottom: float) -> None:
         """Draws the line of each Ethernet address, with its name above."""
@@ -128,11 +129,14 @@ class Drawing:
 
     def draw_bars(self, left: float) -> None:
         """Draws the states of each neighbour, and what the colours are."""
+        bars: Dict[IPv6Address, List[Bar]] = {neighbour: [] for neighbour in self.neighbours}
+        for bar in self.picture.bars:
+            bars[bar.neighbour].append(bar)
         for index, neighbour in enumerate(self.neighbours):
             x = left + BAR_GAP * index
             place = f"translate({x + 4:.1f} {self.top - 4:.1f}) rotate({-SLANT})"
             self.elements.append(f'<text class="mono" transform="{place}">{escape(address_text(neighbour))}</text>')
-            for bar in (bar for bar in self.picture.bars if bar.neighbour == neighbour):
+            for bar in bars[neighbour]:
                 begin, end = self.height_of(bar.begin), self.height_of(bar.end)
                 size = f'width="{BAR}" height="{max(end - begin, 1):.1f}"'
                 self.elements.append(f'<rect x="{x:.1f}" y="{begin:.1f}" {size} fill="{COLOURS[bar.state]}"><title>{bar.state.name}</title></rect>')

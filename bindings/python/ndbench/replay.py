@@ -61,12 +61,12 @@ class Replay:
     """A node that hears a capture. `before`: how long before the first packet the node starts; `after`: how long it goes on after the last one,
     both in milliseconds. `step`: how long time passes on after a due moment before its records are returned, in milliseconds; with 0 a caller may
     look at the tables between due moments. `first` is the time of the first packet and `begin` that of the start, in nanoseconds since 1970, once a
-    packet was read."""
+    packet was read. `polls`: how often the node was polled; between two polls its tables stay as they are."""
 
     def __init__(self, setup: Setup, before: int = 0, after: int = 0, step: int = STEP) -> None:
         self.setup, self.before, self.after, self.step = setup, before, after, step
         self.node = setup.opened()
-        self.first = self.begin = 0
+        self.first = self.begin = self.polls = 0
         self.heard: Optional[Passed] = None
 
     def events(self, packets: Iterable[Packet]) -> Iterator[Event]:
@@ -89,15 +89,20 @@ class Replay:
         self.heard = Passed(moment, packet)
         yield self.heard
         self.node.receive(moment, packet.frame)
-        yield from self.node.poll()
+        yield from self.records()
 
     def pass_time(self, moment: int) -> Iterator[Event]:
         """Lets time pass: to what is due, and on by `step`, until `moment`."""
         while self.node.next_due() < moment:
             self.node.pass_time(min(self.node.next_due() + self.step, moment))
-            yield from self.node.poll()
+            yield from self.records()
         self.node.pass_time(moment)
-        yield from self.node.poll()
+        yield from self.records()
+
+    def records(self) -> Iterator[nd.Record]:
+        """Takes the node's records."""
+        self.polls += 1
+        return self.node.poll()
 
     def rows(self) -> Iterator[str]:
         """Returns the rows of all tables at the last moment."""

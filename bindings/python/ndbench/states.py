@@ -33,10 +33,13 @@ class States:
     def __init__(self) -> None:
         self.current: Dict[IPv6Address, Current] = {}
         self.ended: List[Bar] = []
+        self.polls = 0
 
     def look(self, replay: Replay) -> None:
-        """Looks at the neighbours at the last moment."""
-        now = replay.node.last_moment()
+        """Looks at the neighbours at the last moment, once for all records of a poll."""
+        if self.polls == replay.polls:
+            return
+        self.polls, now = replay.polls, replay.node.last_moment()
         time, rows = replay.time_of(now), {row.address: row for row in replay.node.neighbours(now)}
         self.age(time)
         for address, current in list(self.current.items()):

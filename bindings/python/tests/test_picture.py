@@ -57,6 +57,12 @@ def height_of(root: ElementTree.Element, label: str) -> float:
     return next(float(element.attrib["y"]) - 4 for element in root.iter(f"{SVG}text") if element.text == label)
 
 
+def sent_by(number: int) -> bytes:
+    """Returns a Router Advertisement to all from a station with this number in its Ethernet address."""
+    frame = advertisement()
+    return frame[:6] + bytes.fromhex("02000000") + number.to_bytes(2, "big") + frame[12:]
+
+
 class Arrows(unittest.TestCase):
     def test_lanes_and_labels(self) -> None:
         root = drawn(captured("failover"))
@@ -107,6 +113,31 @@ class Arrows(unittest.TestCase):
     def test_what_is_above_the_most_is_counted(self) -> None:
         root = drawn(pcap([(0, advertisement())] * (picture.MOST_ROWS + 3)))
         self.assertIn("3 later frames are left out", texts(root))
+
+    def test_stations_above_the_most_are_counted(self) -> None:
+        """Each of these frames is from another station to all; then the first station and the last one send to one another."""
+        flood = [sent_by(number) for number in range(picture.MOST_LANES + 3)]
+        to_last, to_first = (flood[end][6:12] + flood[start][6:] for start, end in ((0, -1), (-1, 0)))
+        content = pcap([(0, frame) for frame in [*flood, to_last, to_first]])
+        root = drawn(content)
+        names = [text for text in texts(root) if text.startswith("02:00:00:0")]
+        self.assertEqual(names, [flood[number][6:12].hex(":") for number in range(picture.MOST_LANES)])
+        self.assertIn("5 frames of 3 more stations are left out", texts(root))
+        # Each frame that is drawn has a head at each other station.
+        self.assertEqual(len(heads(root)), picture.MOST_LANES * (picture.MOST_LANES - 1))
+
+    def test_a_thousand_stations(self) -> None:
+        root = drawn(pcap([(0, sent_by(number)) for number in range(1000)]))
+        self.assertIn(f"{1000 - picture.MOST_LANES} frames of {1000 - picture.MOST_LANES} more stations are left out", texts(root))
+
+    def test_a_node_has_a_lane_and_its_frames_count(self) -> None:
+        """With these draws a node that starts with the capture detects at 0 and solicits at 1 s: two frames more than those of the capture."""
+        flood = drawn(pcap([(0, sent_by(number)) for number in range(picture.MOST_LANES)]), *HOST, "--after", "2000")
+        self.assertIn("34:56:78:9a:bc:de", texts(flood))
+        self.assertIn("1 frame of 1 more station is left out", texts(flood))
+        many = drawn(pcap([(0, advertisement())] * picture.MOST_ROWS), *HOST, "--after", "2000")
+        self.assertEqual(len(list(many.iter(f"{SVG}circle"))), picture.MOST_ROWS)
+        self.assertIn("2 later frames are left out", texts(many))
 
     def test_a_capture_that_is_cut(self) -> None:
         """Its first packet is drawn: alone, and with the detection of a node that starts 500 ms before. Without a packet there is no picture."""
