@@ -176,7 +176,7 @@ class _Pcapng(_File):
         """Takes the description of an interface. Without options its units are microseconds."""
         link, _reserved, most = self.unpack("HHI", content)
         options = self.options(content[8:])
-        resolution = options.get(RESOLUTION_OPTION, b"\6")[0]
+        (resolution,) = self.unpack("B", options.get(RESOLUTION_OPTION, b"\6"))
         units = 2 ** (resolution & 0x7F) if resolution & 0x80 else 10 ** resolution
         (offset,) = self.unpack("q", options.get(OFFSET_OPTION, bytes(8)))
         self.interfaces.append(Interface(link, units, offset, most))

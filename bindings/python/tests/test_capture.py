@@ -116,6 +116,9 @@ class BadInput(unittest.TestCase):
         self.fails(good[:-4] + bytes(4), "packet 3: its block ends with another length")
         self.fails(good + struct.pack("<II", 6, 13), "packet 4: its block has a length of 13")
         self.fails(good + block("<", 6, bytes(16)), "packet 4: its block is too short")
+        for code, length in ((9, 1), (14, 8)):  # an option of an interface without its content
+            cut = block("<", 1, struct.pack("<HHIHH", 1, 0, 0, code, length))
+            self.fails(good + cut, "packet 4: its block is too short")
         self.fails(good + enhanced("<", 10 ** 6, 0, b"\2" * 60, index=3), "packet 4: there is no interface 3")
         self.fails(good + block("<", 6, struct.pack("<IIIII", 0, 0, 0, 61, 61) + bytes(60)), "packet 4: 61 of 61 bytes are kept")
         self.fails(good + b"\x0a\x0d\x0d\x0a" + bytes(8), "packet 4: the section before it has no byte order")
