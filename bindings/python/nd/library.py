@@ -1,7 +1,8 @@
 """The library: finds or compiles it, loads it, and calls it.
 
-`nd.c` runs one call at a time, also for different nodes, since all calls use one memory. `call` holds a lock while a call runs, so threads may
-use this module freely: their calls wait for one another. Do not use it in a signal handler, nor in a forked child of a process with threads.
+`nd.c` runs one call at a time, also for different nodes, since all calls use one memory. `call` holds `lock` while a call runs, so threads may use
+this module freely, even one node: their calls wait for one another. Do not use it in a signal handler, nor in a forked child of a process with
+threads.
 
 The environment: `ND_LIB` names a shared library that is already built, and `CC` the compiler (else `cc`). The compiled library is kept in
 `XDG_CACHE_HOME`, else in the user's `.cache`, under a name that has a sum of its sources and of the command."""
@@ -28,7 +29,7 @@ FLAGS = ["-O1", "-fPIC", "-shared", f"-DND_MEMORY_BYTES={MEMORY_BYTES}"]
 SOURCES = ("nd.c", "nd.h", "nd_hear.h")
 
 # Python may run Node.__del__ within a call of the same thread, before the library is entered: so the lock is one that a thread may take again.
-_lock = threading.RLock()
+lock = threading.RLock()
 _loaded: Optional[ctypes.CDLL] = None
 
 
@@ -116,7 +117,7 @@ def _parts(version_number: int) -> tuple[int, int, int]:
 def call(name: str, *arguments: Any) -> Any:
     """Calls a function of nd.h, and returns its result. No other call runs meanwhile. The first call compiles and loads the library."""
     global _loaded
-    with _lock:
+    with lock:
         if _loaded is None:
             _loaded = _load()
         return getattr(_loaded, name)(*arguments)

@@ -3,7 +3,7 @@ from __future__ import annotations
 
 import ctypes
 import enum
-from typing import Any, Callable, Iterator, Optional, Type, TypeVar, Union
+from typing import Any, Callable, Iterator, NoReturn, Optional, Type, TypeVar, Union
 
 from . import library, raw
 from .errors import NoRoom, checked
@@ -32,15 +32,20 @@ class Node:
     Past or NoMemory if it does not take place. The caller passes only frames to the interface's own address and to multicast addresses, and none
     that the interface itself sent; and to a router, of the frames to multicast addresses only those with ICMPv6 of types 133 to 137.
 
-    All calls of the process wait for one another (library.py). A node is closed by `close`, or at the end of a `with` block."""
+    All calls of the process wait for one another (library.py). A node is closed by `close`, or at the end of a `with` block. It cannot be copied or
+    pickled."""
+
+    _node = raw.nd_node()  # not open: that of an object whose `__init__` did not open one
 
     def __init__(self, options: Options) -> None:
         """Opens a node (RFC 4861, 6.3.2; RFC 4862, 5.3 and 5.4). Nothing is reported yet. Raises Invalid if an option is out of its range, and
-        NoMemory if there is no room for the node."""
+        NoMemory if there is no room for the node. Where it is called again, it closes the node that is open, as `io.FileIO` does a file."""
+        made = options.raw()
+        if self._node.is_open:
+            self.close()
         self._node = raw.nd_node()
         self._buffer = ctypes.create_string_buffer(raw.BUFFER_BYTES)
         self._changes = Change(0)
-        made = options.raw()
         checked(library.call("nd_open", self._node, made, ctypes.sizeof(made)))
 
     def close(self) -> None:
@@ -56,6 +61,9 @@ class Node:
     def __del__(self) -> None:
         if self._node.is_open:
             self.close()
+
+    def __reduce__(self) -> NoReturn:
+        raise TypeError("a node cannot be copied or pickled: its state is in the memory of nd.c")
 
     # ---- time
 
@@ -164,21 +172,24 @@ class Node:
     def poll_one(self) -> Optional[Record]:
         """Takes the oldest record, or returns None if there is none."""
         out = raw.nd_out()
-        try:
-            status = checked(library.call("nd_poll", self._node, out, self._buffer, len(self._buffer)))
-        except NoRoom:
-            self._buffer = ctypes.create_string_buffer(out.length)
-            return self.poll_one()
-        if status != Status.DONE:
-            return None
-        self._changes |= Change(out.changes)
-        return record_of(out, self._buffer.raw[:out.length])
+        with library.lock:  # another thread may poll the same node, into the same buffer
+            try:
+                status = checked(library.call("nd_poll", self._node, out, self._buffer, len(self._buffer)))
+            except NoRoom:
+                self._buffer = ctypes.create_string_buffer(out.length)
+                return self.poll_one()
+            if status != Status.DONE:
+                return None
+            self._changes |= Change(out.changes)
+            content = self._buffer.raw[:out.length]
+        return record_of(out, content)
 
     def changes(self) -> Change:
         """Returns the tables that may have changed with the records that were taken since this was last asked. Besides, a table changes by a call
         for it, as `clear`, and by time: a row is gone, or an address DEPRECATED, when what is left of its lifetime has passed, and ReachableTime is
         drawn anew. The neighbours have no bit: with most frames one of them changes."""
-        changes, self._changes = self._changes, Change(0)
+        with library.lock:
+            changes, self._changes = self._changes, Change(0)
         return changes
 
     # ---- what it knows: questions, which change nothing

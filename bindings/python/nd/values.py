@@ -70,12 +70,14 @@ def moment_of(now: int) -> int:
 
 
 def raw_address(address: AddressLike) -> nd_addr:
-    """Returns an address as a structure. Raises Invalid if it is no IPv6 address."""
+    """Returns an address as a structure. Raises Invalid if it is no IPv6 address, or has a zone: a node has one link, and no name for it."""
     try:
-        packed = IPv6Address(address).packed
+        taken = IPv6Address(address)
     except ValueError as error:
         raise Invalid(f"{address!r} is no IPv6 address") from error
-    return nd_addr((ctypes.c_uint8 * ADDRESS_BYTES)(*packed))
+    if taken.scope_id is not None:
+        raise Invalid(f"{str(address)!r} has a zone: an address without one is expected")
+    return nd_addr((ctypes.c_uint8 * ADDRESS_BYTES)(*taken.packed))
 
 
 def raw_mac(mac: Mac) -> nd_mac:

@@ -115,6 +115,9 @@ def policy_argument(text: str) -> nd.Policy:
 def prefix_argument(text: str) -> IPv6Network:
     """Reads a prefix with its length."""
     try:
-        return IPv6Network(text, strict=False)
+        prefix = IPv6Network(text, strict=False)
     except ValueError as error:
         raise argparse.ArgumentTypeError(f"{text!r} is no prefix") from error
+    if prefix.network_address.scope_id is not None:
+        raise argparse.ArgumentTypeError(f"{text!r} has a zone, and a prefix has none")
+    return prefix

@@ -1,11 +1,18 @@
 """A node: the examples of nd.h, and what its calls return for mistakes."""
 from __future__ import annotations
 
+import copy
+import pickle
+import sys
+import threading
+import time
 import unittest
 from ipaddress import IPv6Address, IPv6Network
-from typing import Iterator, List
+from typing import Any, Iterator, List
+from unittest import mock
 
 import nd
+from nd import library
 from nd.raw import FOREVER
 
 from .paths import example, example_events, example_frames
@@ -144,6 +151,65 @@ class Frames(unittest.TestCase):
         self.assertEqual((dropped.hearing, dropped.why), (nd.Hearing.DROP, nd.Why.NOT_FOR_US))
 
 
+class Threads(unittest.TestCase):
+    def test_two_threads_poll_one_node(self) -> None:
+        """Each record has its own bytes, also where the other thread runs as soon as a call has ended. Of a packet each byte of the payload says how
+        long the payload is, in units of 8."""
+        lengths = [unit * 8 for unit in (*range(1, 200), 255) for _ in range(5)]
+        group, packets, call = bytes.fromhex("333300000001" "020000000009" "86dd"), [], library.call
+
+        def slow_call(name: str, *arguments: Any) -> Any:
+            result = call(name, *arguments)
+            time.sleep(0)
+            return result
+
+        with opened(nd.Role.HOST, HOST_MAC) as node:
+            node.pass_time(1000)
+            list(node.poll())
+            for length in lengths:
+                head = bytes.fromhex("60000000") + length.to_bytes(2, "big") + bytes((17, 64))
+                addresses = IPv6Address("fe80::9").packed + IPv6Address("ff02::1").packed
+                node.receive(1000, group + head + addresses + bytes([length // 8]) * length)
+            threads = [threading.Thread(target=lambda: packets.extend(record.packet for record in node.poll())) for _ in range(2)]
+            with mock.patch.object(library, "call", slow_call):
+                for thread in threads:
+                    thread.start()
+                for thread in threads:
+                    thread.join()
+        self.assertEqual(sorted(map(len, packets)), [40 + length for length in lengths])
+        mixed = [packet for packet in packets if set(packet[40:]) != {(len(packet) - 40) // 8}]
+        self.assertEqual(len(mixed), 0)
+
+
+class Objects(unittest.TestCase):
+    def test_a_second_init_closes_the_node(self) -> None:
+        """1,000 nodes at a time have no room. Wrong options leave the node as it is."""
+        node, options = opened(nd.Role.HOST, HOST_MAC), nd.Options.host(HOST_MAC)
+        for _ in range(1000):
+            node.__init__(options)  # type: ignore[misc]
+        node.pass_time(1000)
+        with self.assertRaises(nd.Invalid):
+            node.__init__(nd.Options(nd.Role.HOST, HOST_MAC, transmits=256))  # type: ignore[misc]
+        self.assertEqual(node.last_moment(), 1000)
+
+    def test_an_object_without_a_node_is_closed(self) -> None:
+        with mock.patch.object(sys, "unraisablehook") as printed:
+            with self.assertRaises(TypeError):
+                nd.Node()  # type: ignore[call-arg]
+            with self.assertRaises(nd.Invalid):
+                nd.Node(nd.Options.host("no address"))
+            with self.assertRaises(nd.Closed):
+                nd.Node.__new__(nd.Node).pass_time(0)
+        printed.assert_not_called()
+
+    def test_a_node_is_not_copied(self) -> None:
+        with opened(nd.Role.HOST, HOST_MAC) as node:
+            for copied in (copy.copy, copy.deepcopy, pickle.dumps):
+                with self.assertRaisesRegex(TypeError, "a node cannot be copied or pickled"):
+                    copied(node)
+            self.assertEqual(node.last_moment(), 0)
+
+
 class Errors(unittest.TestCase):
     def test_a_moment_before_the_last_one(self) -> None:
         with opened(nd.Role.HOST, HOST_MAC, start=500) as node:
@@ -163,6 +229,17 @@ class Errors(unittest.TestCase):
                      lambda: nd.Node(nd.Options(nd.Role.HOST, HOST_MAC, limits=nd.Limits(neighbours=2049))), lambda: nd.pool_bytes(longest=-1)]
             for number, call in enumerate(wrong):
                 with self.subTest(number), self.assertRaises(nd.Invalid):
+                    call()
+
+    def test_an_address_with_a_zone(self) -> None:
+        zone, prefix = "fe80::1%eth0", IPv6Network("2001:db8::/64")
+        with opened(nd.Role.ROUTER, ROUTER_MAC) as node:
+            wrong = [lambda: node.send(0, zone, "::", 17), lambda: node.send(0, "::", IPv6Address(zone), 17), lambda: node.resolve(0, zone),
+                     lambda: node.add_address(0, zone), lambda: node.confirm(0, zone), lambda: node.neighbour(0, zone),
+                     lambda: node.add_route(0, nd.Route(prefix, IPv6Address(zone))),
+                     lambda: node.advertise_prefix(0, nd.Offer(IPv6Network("2001:db8::%eth0/64")))]
+            for number, call in enumerate(wrong):
+                with self.subTest(number), self.assertRaisesRegex(nd.Invalid, "has a zone"):
                     call()
 
     def test_a_closed_node(self) -> None:

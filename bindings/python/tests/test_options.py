@@ -76,3 +76,11 @@ class MacArgument(unittest.TestCase):
 
     def test_a_second_one(self) -> None:
         self.fails(["--mac", "02:00:00:00:00:0a", "--mac", "02:00:00:00:00:0b"], "it is given twice, and a command has one node")
+
+
+class OfferArgument(unittest.TestCase):
+    def test_a_prefix_with_a_zone(self) -> None:
+        with contextlib.redirect_stderr(io.StringIO()) as err, self.assertRaises(SystemExit) as ended:
+            main(["replay", "/no/such/file", "--role", "router", "--mac", "02:00:00:00:00:01", "--offer", "2001:db8::%eth0/64"])
+        self.assertEqual(ended.exception.code, 2)
+        self.assertIn("error: argument --offer: '2001:db8::%eth0/64' has a zone, and a prefix has none\n", err.getvalue())
