@@ -6,6 +6,7 @@ import base64
 import json
 import os
 import re
+import subprocess
 import sys
 
 from check_programs import BINDINGS, NDPCTL, TESTS, difference
@@ -25,6 +26,8 @@ from ndbench.sections import section_of_drop  # noqa: E402
 ROLES = ("host", "router")
 # Of the frames that are cut and changed, so many are passed over before the next one.
 STEP = 29
+# Seconds, for scripts that take about one.
+LONGEST = 120
 WORDS = {number: f"drop {number} {name}" for number, name in rules.REASONS.items()} | hostile.MESSAGES
 
 
@@ -136,6 +139,37 @@ def check_longest_in_node(what, path):
     are_bounded = [text.endswith(line) for text, line in zip(texts[1:], wanted)]
     is_right = texts[0].endswith("2100 drop 2 NotIpv6\n") and all(are_bounded)
     report_if(f"{what} in node: the longest frame, and one byte more", is_right, said.stderr + "\n".join(text[:200] for text in texts))
+
+
+def check_longest_run_in_node(path):
+    """Requires that a node of the page runs up to the greatest moment of a script, and that a line with a later one, for which it may take days, is
+    refused."""
+    if not has_node("the greatest moment"):
+        return
+    words, most = ["run", "--role", "host", "--mac", frames.HOST_MAC, "--draws", "word:0"], 2**44
+    scripts = [f"5 at\n{most} show params\n", f"{most} at\n{most + 1} at\n", f"5 at\n{2**62 - 1} at\n"]
+    try:
+        said = run(["node", f"{TESTS}/runs.mjs", path], input=json.dumps([[words, script] for script in scripts]), timeout=LONGEST).stdout
+    except subprocess.TimeoutExpired:
+        said = ""
+    refused = [f"line 2: found “{at}”. Expected: a moment up to {most}, 557 years, on this page\n" for at in (most + 1, 2**62 - 1)]
+    ends = [f"\n{most} end 1\n", *refused]
+    texts = json.loads(said or "[]")
+    report_if("the page in node: the greatest moment of a script, and later ones", len(texts) == 3 and all(map(str.endswith, texts, ends)),
+              "\n".join(text[-200:] for text in texts) or f"it has not ended after {LONGEST} seconds")
+
+
+def check_longest_capture_in_node(path):
+    """Requires that a capture of two years is replayed, and a longer one is not, though each of its gaps is shorter."""
+    if not has_node("the longest capture"):
+        return
+    digits, most, options = [bytes.fromhex(frame) for frame, _ in rows_of_link()[:3]], 2**36, {"mac": frames.HOST_MAC, "draws": "word:0"}
+    known = {end: next(captures.captures_of(list(zip((0, most // 2, end), digits)))) for end in (most, most + 1)}
+    runs = [[options, base64.b64encode(capture).decode(), 0, end] for end, capture in known.items()]
+    said = run(["node", f"{TESTS}/replays.mjs", path], input=json.dumps(runs))
+    texts = json.loads(said.stdout or '["", ""]')
+    is_right = f"\n{most} " in texts[0] and texts[1] == "Two frames of this capture are more than two years apart."
+    report_if("the page in node: the longest capture, and one of a millisecond more", is_right, said.stderr[-400:] + "\n".join(texts))
 
 
 def check_captures_in_node(what, path):
@@ -317,5 +351,6 @@ def check_page(room):
     check_runs_in_node("the page", page.PAGE, room)
     check_longest_in_node("the page", page.PAGE)
     check_captures_in_node("the page", page.PAGE)
-    for check in (check_faults_in_node, check_words_in_node, check_sections_in_node, check_replays_in_node, check_examples_in_node):
+    for check in (check_longest_run_in_node, check_longest_capture_in_node, check_faults_in_node, check_words_in_node, check_sections_in_node,
+                  check_replays_in_node, check_examples_in_node):
         check(page.PAGE)

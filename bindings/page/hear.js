@@ -80,7 +80,6 @@ async function showCapture() {
     try {
         const timed = framesHeard(), node = await opened(module, { role: 'host', ...options });
         if (timed.length > 0) {
-            if (longestGap(timed) > LONGEST_GAP) throw new Error('Two frames of this capture are more than two years apart.');
             events = replayed(node, options.mac, timed, timed.at(-1).at + AFTER);
             said = hearingSum(timed, options.mac, events);
         } else said = whyNone();

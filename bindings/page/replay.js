@@ -1,7 +1,8 @@
 // A capture at a node: which of its frames the interface of the node takes, at which moments, and what the node does then. The node is proved, this isn't.
 
 const MILLISECOND = 10n ** 6n;
-const LONGEST_GAP = 2 ** 36;
+// Milliseconds from the first frame of a capture to the last one: two years.
+const LONGEST_CAPTURE = 2 ** 36;
 
 const receiver = (frame) => mac(frame.subarray(0, 6));
 const sender = (frame) => mac(frame.subarray(6, 12));
@@ -38,8 +39,6 @@ function packetsOfLink(text) {
     });
 }
 
-const longestGap = (timed) => timed.reduce((most, { at }, index) => Math.max(most, at - (timed[index - 1]?.at ?? at)), 0);
-
 // Returns the Ethernet addresses of nodes in frames. The first is the likeliest to be replayed: of a host that tries an address or asks for routers.
 function stations(frames) {
     const beginners = frames.filter(({ frame }) => /^(rs|ns ::) /.test(lineOf(frame, 'either')));
@@ -59,7 +58,8 @@ function hostFor(whole, known) {
 
 // Lets a node hear frames at their moments, and time pass to `end`. Returns what happens, in order: frames that it hears, and its records.
 function replayed(node, own, frames, end) {
-    const events = [];
+    const events = [], isTooLong = frames.length > 0 && frames.at(-1).at - frames[0].at > LONGEST_CAPTURE;
+    if (isTooLong) throw new Error('Two frames of this capture are more than two years apart.');
     const gather = () => events.push(...node.records().map((it) => ({ at: Number(it.moment), kind: it.kind, text: recordText(it), frame: it.bytes })));
     for (const { at, frame } of frames) {
         node.call('nd_pass', at);

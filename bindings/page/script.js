@@ -15,6 +15,8 @@ const CLEARABLES = ['', 'neighbours', 'routers', 'prefixes', 'redirects', 'dns']
 const REASONS = @REASONS@;
 const POLICIES = { parts: 1, speakers: 2, timers: 4, self: 8, unicast: 16 };
 const FOREVER = 2n ** 64n - 1n, MOMENT_LIMIT = 2n ** 62n;
+// Milliseconds: 557 years, for which an idle node takes less than a second.
+const LONGEST_RUN = 2n ** 44n;
 
 // What a line of the script may be, by its word, and what its numbers may be beyond that (docs/FORMATS.md, docs/LIMITS.md).
 const USAGES = {
@@ -271,6 +273,7 @@ async function opened(module, { role, mac: address, draws = 'seed:0', transmits 
 // Does a line at a node. Returns its moment, the records, and the lines of its output.
 function answer(node, line) {
     const words = new Words(line), now = words.number(MOMENT_LIMIT), verb = words.oneOf(Object.keys(USAGES), 'a command'), last = node.lastMoment();
+    if (now > LONGEST_RUN) throw new Malformed(quoted(String(now)), `a moment up to ${LONGEST_RUN}, 557 years, on this page`);
     const table = verb === 'show' ? words.oneOf(Object.keys(TABLES), 'a table') : null;
     const status = (EVENTS[verb] ?? EVENTS.at)(node, now, words);
     if (status === NO_MEMORY) throw new Error('the memory of the module is full');
