@@ -9,7 +9,8 @@ import time
 from concurrent.futures import ThreadPoolExecutor
 
 from check_hostile import SEED
-from check_programs import BINDINGS, FEW_NODES, SMALL, TESTS, check_host, check_lines, check_many, check_router, check_traces, simulated
+from check_programs import (BINDINGS, FEW_NODES, SMALL, TESTS, check_global, check_host, check_keeping, check_lines, check_many, check_router,
+                            check_too_long, check_traces, simulated)
 from checking import IS_FULL, TOP, WARNINGS, has, read, report, report_if, run, skip
 
 sys.path.insert(0, f"{BINDINGS}/targets")
@@ -17,14 +18,15 @@ import build  # noqa: E402
 import stamp  # noqa: E402
 
 DIST = f"{TOP}/dist"
-EXAMPLES = ("host", "router", "hear", "many")
+EXAMPLES = ("host", "router", "global", "stack", "hear", "many")
 COMPILERS = ("gcc", "clang")
 # The memory of nd.c for `fuzz`: enough for two nodes with the greatest limits, so that ND_NO_MEMORY is never returned. `many` has it too, as
 # examples/README.md says.
 MUCH_BYTES = 1 << 26
 MUCH_MEMORY = [f"-DND_MEMORY_BYTES={MUCH_BYTES}"]
 # The memory of nd.c in README.md's line for a small processor.
-LITTLE_MEMORY = ["-DND_MEMORY_BYTES=131072", "-DND_FRAME_BYTES=2048"]
+LITTLE_FRAME = 2048
+LITTLE_MEMORY = ["-DND_MEMORY_BYTES=131072", f"-DND_FRAME_BYTES={LITTLE_FRAME}"]
 # Prints the bytes that README.md has, and how many nodes of the usual limits, and of those of a small node, can be opened: at most four.
 BYTES = """#include <stdio.h>
 #include "nd.h"
@@ -101,6 +103,8 @@ def check_compiled(room, compiler, said):
             return
     check_host(f"host over {what}", f"{room}/host")
     check_router(f"{room}/router", f"router over {what}")
+    check_global(f"{room}/global", f"global over {what}")
+    check_keeping(f"{room}/stack", f"stack over {what}")
     check_lines(f"hear over {what}", [f"{room}/hear"])
     check_traces(f"{room}/trace", f"trace over {what}")
     check_simulated(f"many over {what}", f"{room}/many", over_archive)
@@ -170,6 +174,9 @@ def check_much_and_little(room, much, little):
     exhausted = node and over_dist(room, "exhausted", node, [f"{TESTS}/exhausted.c", f"{TESTS}/uncounted.c"], *LITTLE_MEMORY)
     if exhausted:
         report("exhausted over dist/nd.c: a memory that packets fill, and a day", run([exhausted]))
+    hear = node and over_dist(room, "hear", node, [f"{TOP}/examples/c/hear.c"])
+    if hear:
+        check_too_long("hear over dist/nd.c", hear, LITTLE_FRAME)
     if node:
         check_bytes_said(room, f"dist/nd.c {' '.join(LITTLE_MEMORY)}", node, 0)
 

@@ -6,11 +6,10 @@ import base64
 import json
 import os
 import re
-import subprocess
 import sys
 
 from check_programs import BINDINGS, NDPCTL, TESTS, difference
-from checking import IS_FULL, TOP, has, read, report_if, run, skip
+from checking import IS_FULL, TOP, has, read, report_if, run, run_for, skip
 
 sys.path[:0] = [f"{BINDINGS}/targets", f"{BINDINGS}/python"]
 import captures  # noqa: E402
@@ -148,13 +147,10 @@ def check_longest_run_in_node(path):
         return
     words, most = ["run", "--role", "host", "--mac", frames.HOST_MAC, "--draws", "word:0"], 2**44
     scripts = [f"5 at\n{most} show params\n", f"{most} at\n{most + 1} at\n", f"5 at\n{2**62 - 1} at\n"]
-    try:
-        said = run(["node", f"{TESTS}/runs.mjs", path], input=json.dumps([[words, script] for script in scripts]), timeout=LONGEST).stdout
-    except subprocess.TimeoutExpired:
-        said = ""
+    said = run_for(LONGEST, ["node", f"{TESTS}/runs.mjs", path], input=json.dumps([[words, script] for script in scripts]))
     refused = [f"line 2: found “{at}”. Expected: a moment up to {most}, 557 years, on this page\n" for at in (most + 1, 2**62 - 1)]
     ends = [f"\n{most} end 1\n", *refused]
-    texts = json.loads(said or "[]")
+    texts = json.loads(said and said.stdout or "[]")
     report_if("the page in node: the greatest moment of a script, and later ones", len(texts) == 3 and all(map(str.endswith, texts, ends)),
               "\n".join(text[-200:] for text in texts) or f"it has not ended after {LONGEST} seconds")
 

@@ -7,7 +7,7 @@ import sys
 
 import archives
 from check_hostile import check_hostile
-from checking import INCLUDE, IS_FULL, TOP, WARNINGS, has, read, report, report_if, run, skip, timed
+from checking import INCLUDE, IS_FULL, TOP, WARNINGS, has, read, report, report_if, run, run_for, skip, timed
 
 BINDINGS = f"{TOP}/bindings"
 TESTS = f"{BINDINGS}/tests"
@@ -37,6 +37,8 @@ SMALL = [8, 2, 4, 4, 2, 2, 4, 8, 1, 1, 3]
 # A simulation whose nodes fit into the memory that dist/nd.c has unless another is asked for.
 FEW_NODES = {"hosts": 9, "links": 3, "routers": 2, "seconds": 120}
 MORE_NODES = {"hosts": 100, "links": 8, "routers": 4, "seconds": 300}
+# Seconds, for an example that takes a small part of one.
+LONGEST = 60
 
 
 def archive_of(crate, variable):
@@ -123,11 +125,33 @@ def check_lines(what, words):
     check_last_line(what, words, read(f"{TOP}/examples/link.hex"))
 
 
+def check_too_long(what, program, most):
+    """Requires that the example `hear`, over a library that takes frames of at most `most` bytes, names a longer one, also in its first line, and
+    prints nothing for it."""
+    text, longer = read(f"{TOP}/examples/link.hex"), f"{'33' * (most + 1)}\n"
+    wanted, words = run([program], input=text).stdout, [*(VALGRIND if has("valgrind", f"{what}, under valgrind") else []), program]
+    said = run(words, input=longer + text + longer)
+    named = f"hear: a frame of {most + 1} bytes is not taken\n" * 2
+    report_if(f"{what}: a frame of {most + 1} bytes", wanted and (said.returncode, said.stdout, said.stderr) == (0, wanted, named), str(said))
+
+
 def check_last_line(what, words, text):
     """Requires that an example reads nothing behind the end of a last line without a line feed. The digit there is no byte, as no other character is."""
     said, wanted = (run(words, input=text + end) for end in ("3", "z"))
     is_same = said.returncode == wanted.returncode == 0 and said.stdout == wanted.stdout
     report_if(f"{what}: a last line that ends with half a byte", is_same, difference(said.stdout, wanted.stdout))
+
+
+def check_no_moment(what, words, text):
+    """Requires that an example names each line that begins with no moment, or with one above 2^46, and passes over it. Some follow each line of a
+    text: first digits of a frame, of which 19, all, or four are decimal."""
+    bad = ["3333000000020200000a1", "33330000000102000000", "3333ff9abcde0200", f"{2**62 - 1} 3333", f"{2**46 + 1}", "", "-1", "x 41", "5x41"]
+    wanted, lines = run(words, input=text), [line for known in text.splitlines() for line in (known, *bad)]
+    said = run_for(LONGEST, words, input="".join(f"{line}\n" for line in lines))
+    named = said and [int(number) for number in re.findall(r"^\w+: line (\d+) has no moment up to 2\^46$", said.stderr, re.M)]
+    all_bad = [number for number in range(1, len(lines) + 1) if number % (len(bad) + 1) != 1]
+    is_so = said and (said.returncode, said.stdout, named) == (0, wanted.stdout, all_bad)
+    report_if(f"{what}: lines without a moment are named", is_so, str(said))
 
 
 def with_a_moment(text):
@@ -141,6 +165,7 @@ def check_host(what, program):
     said = check_runs(what, [program, *HOST], text)
     report_if(f"{what} prints the expected text", said == read(f"{TOP}/examples/host.txt"), said)
     check_last_line(what, [program, *HOST], with_a_moment(text))
+    check_no_moment(what, [program, *HOST], text)
 
 
 def check_router(program, what="router"):
@@ -151,6 +176,7 @@ def check_router(program, what="router"):
     wanted = read(f"{TOP}/examples/router.txt")
     report_if(f"{what} sends the expected frames", said == wanted and wanted.splitlines() == sent, said)
     check_last_line(what, [program, *ROUTER], with_a_moment(text))
+    check_no_moment(what, [program, *ROUTER], text)
 
 
 def check_global(program, what="global"):
@@ -161,6 +187,7 @@ def check_global(program, what="global"):
     wanted = read(f"{TOP}/examples/global.txt")
     report_if(f"{what} prints the expected text", said == wanted and wanted.splitlines()[:len(done)] == done, said)
     check_last_line(what, [program, *ROUTER], with_a_moment(text))
+    check_no_moment(what, [program, *ROUTER], text)
 
 
 def check_keeping(program, what="stack"):
@@ -171,6 +198,7 @@ def check_keeping(program, what="stack"):
     wanted = read(f"{TOP}/examples/stack.txt")
     report_if(f"{what} prints the expected text", said == wanted and wanted.splitlines()[:len(sent)] == sent, said)
     check_last_line(what, [program, *HOST], with_a_moment(text))
+    check_no_moment(what, [program, *HOST], text)
 
 
 def simulated(program, numbers, **more):

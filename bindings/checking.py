@@ -27,6 +27,14 @@ def run(words, **more):
     return subprocess.run(words, **{"capture_output": True, "text": True, **more})
 
 
+def run_for(seconds, words, **more):
+    """Runs a command. Returns None if it has not ended after so many seconds."""
+    try:
+        return run(words, timeout=seconds, **more)
+    except subprocess.TimeoutExpired:
+        return None
+
+
 def report_if(what, is_so, detail=""):
     """Counts and prints a check. `detail` is printed if it failed."""
     global passed, failed

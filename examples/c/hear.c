@@ -62,10 +62,13 @@ int main(void)
     while (fgets(line, sizeof line, stdin) != NULL) {
         nd_heard heard;
         size_t length = bytes_of(line, frame, sizeof frame);
-        nd_hear(frame, length, ND_ROLE_HOST, &heard);
-        if (heard.hearing == ND_HEARING_DROP && heard.why == ND_WHY_NOT_FOR_US)
-            nd_hear(frame, length, ND_ROLE_ROUTER, &heard);
-        print(&heard);
+        int32_t status = nd_hear(frame, length, ND_ROLE_HOST, &heard);
+        if (status == ND_DONE && heard.hearing == ND_HEARING_DROP && heard.why == ND_WHY_NOT_FOR_US)
+            status = nd_hear(frame, length, ND_ROLE_ROUTER, &heard);
+        if (status == ND_DONE)
+            print(&heard);
+        else /* over dist/nd.c: it is longer than ND_FRAME_BYTES */
+            fprintf(stderr, "hear: a frame of %zu bytes is not taken\n", length);
     }
     return 0;
 }

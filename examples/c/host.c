@@ -10,6 +10,15 @@
 
 static uint8_t frame[65536], buffer[65536];
 static char text[INET6_ADDRSTRLEN], line[2 * sizeof frame + 32];
+static const uint64_t LATEST = UINT64_C(1) << 46; /* an idle host takes seconds to this moment, and days to the greatest one (nd.h, TIME) */
+
+/* Reads the moment of the line. Returns what is behind it, or NULL if the line begins with no moment, or with one above LATEST. */
+static char *moment_of(uint64_t *now)
+{
+    char *end;
+    *now = strtoull(line, &end, 10);
+    return end == line || strchr(" \r\n", *end) == NULL || *now > LATEST ? NULL : end + (*end == ' ');
+}
 
 static void drain(nd_node *node) /* prints all records, the oldest first */
 {
@@ -37,11 +46,14 @@ int main(int argc, char **argv)
     options.seed = strtoull(argv[2] + strcspn(argv[2], "0123456789"), NULL, 10);
     if (nd_open(&node, &options, sizeof options) != ND_DONE)
         return fprintf(stderr, "host: not opened\n"), 1;
-    while (fgets(line, sizeof line, stdin) != NULL) {
-        char *digits;
-        uint64_t now = strtoull(line, &digits, 10);
+    for (size_t number = 1; fgets(line, sizeof line, stdin) != NULL; number++) {
+        uint64_t now;
         size_t length = 0;
-        digits += *digits == ' ';
+        char *digits = moment_of(&now);
+        if (digits == NULL) {
+            fprintf(stderr, "host: line %zu has no moment up to 2^46\n", number);
+            continue;
+        }
         for (; length < sizeof frame && isxdigit((unsigned char)digits[0]) && isxdigit((unsigned char)digits[1]); digits += 2)
             sscanf(digits, "%2hhx", &frame[length++]);
         if ((length > 0 ? nd_receive(&node, now, frame, length) : nd_pass(&node, now)) < 0)

@@ -11,6 +11,15 @@
 
 static uint8_t frame[65536], buffer[65536];
 static char line[2 * sizeof frame + 32];
+static const uint64_t LATEST = UINT64_C(1) << 46; /* an idle host takes seconds to this moment, and days to the greatest one (nd.h, TIME) */
+
+/* Reads the moment of the line. Returns what is behind it, or NULL if the line begins with no moment, or with one above LATEST. */
+static char *moment_of(uint64_t *now)
+{
+    char *end;
+    *now = strtoull(line, &end, 10);
+    return end == line || strchr(" \r\n", *end) == NULL || *now > LATEST ? NULL : end + (*end == ' ');
+}
 
 static void drain(nd_node *node) /* prints the frames among the records, the oldest first */
 {
@@ -43,7 +52,6 @@ int main(int argc, char **argv)
     nd_node node = ND_NODE_INIT;
     nd_options options = ND_OPTIONS_INIT;
     uint8_t *m = options.mac.bytes;
-    uint64_t now = 0;
     if (argc != 3 || sscanf(argv[1], "%hhx:%hhx:%hhx:%hhx:%hhx:%hhx", m, m + 1, m + 2, m + 3, m + 4, m + 5) != 6)
         return fprintf(stderr, "usage: router MAC DRAWS < frames\n"), 2;
     options.role = ND_ROLE_ROUTER;
@@ -51,18 +59,21 @@ int main(int argc, char **argv)
     options.seed = strtoull(argv[2] + strcspn(argv[2], "0123456789"), NULL, 10);
     if (nd_open(&node, &options, sizeof options) != ND_DONE || configure(&node) != 0)
         return fprintf(stderr, "router: not opened\n"), 1;
-    while (fgets(line, sizeof line, stdin) != NULL) {
-        char *digits;
+    for (size_t number = 1; fgets(line, sizeof line, stdin) != NULL; number++) {
+        uint64_t now;
         size_t length = 0;
-        now = strtoull(line, &digits, 10);
-        digits += *digits == ' ';
+        char *digits = moment_of(&now);
+        if (digits == NULL) {
+            fprintf(stderr, "router: line %zu has no moment up to 2^46\n", number);
+            continue;
+        }
         for (; length < sizeof frame && isxdigit((unsigned char)digits[0]) && isxdigit((unsigned char)digits[1]); digits += 2)
             sscanf(digits, "%2hhx", &frame[length++]);
         if ((length > 0 ? nd_receive(&node, now, frame, length) : nd_pass(&node, now)) < 0)
             fprintf(stderr, "router: no event at %" PRIu64 "\n", now);
         drain(&node);
     }
-    nd_stop_advertising(&node, now); /* the last advertisement, of lifetime 0 (RFC 4861, 6.2.5) */
+    nd_stop_advertising(&node, nd_last_moment(&node)); /* the last advertisement, of lifetime 0 (RFC 4861, 6.2.5) */
     drain(&node);
     nd_close(&node);
     return 0;

@@ -28,6 +28,7 @@ static uint64_t version; /* nd_lease_version after the last call */
 static size_t kept, questions;
 static uint8_t buffer[LONGEST];
 static char line[2 * LONGEST + 32];
+static const uint64_t LATEST = UINT64_C(1) << 46; /* an idle host takes seconds to this moment, and days to the greatest one (nd.h, TIME) */
 
 static void print(uint64_t moment, const char *word, const uint8_t *bytes, size_t length)
 {
@@ -108,6 +109,14 @@ static void drain(uint64_t now) /* takes all records, those too that a question 
     }
 }
 
+/* Reads the moment of the line. Returns what is behind it, or NULL if the line begins with no moment, or with one above LATEST. */
+static char *moment_of(uint64_t *now)
+{
+    char *end;
+    *now = strtoull(line, &end, 10);
+    return end == line || strchr(" \r\n", *end) == NULL || *now > LATEST ? NULL : end + (*end == ' ');
+}
+
 int main(int argc, char **argv)
 {
     uint8_t *m = options.mac.bytes;
@@ -117,10 +126,13 @@ int main(int argc, char **argv)
     options.seed = strtoull(argv[2] + strcspn(argv[2], "0123456789"), NULL, 10);
     if (nd_open(&node, &options, sizeof options) != ND_DONE)
         return fprintf(stderr, "stack: not opened\n"), 1;
-    while (fgets(line, sizeof line, stdin) != NULL) {
-        char *digits;
-        uint64_t now = strtoull(line, &digits, 10);
-        digits += *digits == ' ';
+    for (size_t number = 1; fgets(line, sizeof line, stdin) != NULL; number++) {
+        uint64_t now;
+        char *digits = moment_of(&now);
+        if (digits == NULL) {
+            fprintf(stderr, "stack: line %zu has no moment up to 2^46\n", number);
+            continue;
+        }
         bool is_packet = *digits == '>';
         given = (struct packet){.length = is_packet ? ETHERNET : 0, .frame = {0, 0, 0, 0, 0, 0, m[0], m[1], m[2], m[3], m[4], m[5], 0x86, 0xdd}};
         for (digits += is_packet; given.length < LONGEST && isxdigit((unsigned char)digits[0]) && isxdigit((unsigned char)digits[1]); digits += 2)

@@ -4,6 +4,9 @@
 use nd::{Draws, Node, Options, Output};
 use std::time::Duration;
 
+/// An idle host takes seconds to this moment, and days to the greatest one (`nd.h`, TIME).
+const LATEST: u64 = 1 << 46;
+
 fn bytes(digits: &str) -> Vec<u8> {
     let pairs = digits.as_bytes().chunks_exact(2);
     pairs.map_while(|pair| u8::from_str_radix(std::str::from_utf8(pair).ok()?, 16).ok()).collect()
@@ -49,9 +52,13 @@ fn main() -> Result<(), Box<dyn std::error::Error>> {
     let words: Vec<String> = std::env::args().collect();
     let [_, mac, draws] = &words[..] else { return Err("usage: host MAC DRAWS < frames".into()) };
     let mut node = Node::open(options(mac, draws).ok_or("a MAC or a source of draws that is none")?)?;
-    for line in std::io::stdin().lines().map_while(Result::ok) {
+    for (number, line) in (1..).zip(std::io::stdin().lines().map_while(Result::ok)) {
         let (moment, frame) = line.split_once(' ').unwrap_or((&line, ""));
-        let (now, frame) = (moment.parse()?, bytes(frame));
+        let Some(now) = moment.parse().ok().filter(|now| *now <= LATEST) else {
+            eprintln!("host: line {number} has no moment up to 2^46");
+            continue;
+        };
+        let frame = bytes(frame);
         let event = if frame.is_empty() { node.pass(now) } else { node.receive(now, &frame) };
         if let Err(error) = event {
             eprintln!("host: no event at {now}: {error}");
