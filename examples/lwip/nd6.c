@@ -247,16 +247,20 @@ static struct lease *lease_of(const void *destination) {
     return &leases[(uint64_t)words[0] * LWIP_ND6_NUM_DESTINATIONS >> 32]; /* by the highest bits, which all others have changed */
 }
 
-/* Packet Too Big, or a message for the node. One behind other headers is dropped, since it may have come in fragments (RFC 6980, 5). */
+/* Receives a Packet Too Big, or a message for the node: one of types 133 to 137, directly behind the IPv6 header of one frame. What came in fragments
+ * is dropped (RFC 6980, 5). After reassembly lwIP counts no headers but the IPv6 header, but `current` is still the header of the fragment that was
+ * received last, whose next header is not ICMPv6. The message has to fit into `buffer` behind an IPv6 header, as nd_poll returns packets. */
 void nd6_input(struct pbuf *p, struct netif *inp) {
-    nd_message header = {.hop_limit = IP6H_HOPLIM(ip6_current_header()), .checksum_good = 1}; /* icmp6_input has looked */
+    const struct ip6_hdr *current = ip6_current_header();
+    nd_message header = {.hop_limit = IP6H_HOPLIM(current), .checksum_good = 1}; /* icmp6_input has looked */
     const struct icmp6_hdr *message = p->payload;
     const u8_t *destination = (const u8_t *)message + sizeof *message + IP6_HLEN - sizeof(nd_addr); /* of the packet that was too big */
+    int is_for_node = message->type >= ICMP6_TYPE_RS && message->type <= ICMP6_TYPE_RD && IP6H_NEXTH(current) == IP6_NEXTH_ICMP6;
     if (message->type == ICMP6_TYPE_PTB && p->len >= sizeof *message + IP6_HLEN && is_same(&lease_of(destination)->destination, destination))
         lease_of(destination)->mtu = (u16_t)LWIP_MIN(LWIP_MAX(lwip_ntohl(message->data), IP6_MIN_MTU_LENGTH), 0xffff);
-    if (inp == interface && ip_current_header_tot_len() == IP6_HLEN && p->tot_len <= sizeof buffer) {
-        memcpy(&header.source, &ip6_current_header()->src, sizeof header.source);
-        memcpy(&header.destination, &ip6_current_header()->dest, sizeof header.destination);
+    if (inp == interface && is_for_node && p->tot_len <= sizeof buffer - IP6_HLEN) {
+        memcpy(&header.source, &current->src, sizeof header.source);
+        memcpy(&header.destination, &current->dest, sizeof header.destination);
         pbuf_copy_partial(p, buffer, p->tot_len, 0);
         nd_receive_message(&node, moment(), &header, buffer, p->tot_len); /* ND_NO_MEMORY: as if the link had lost it */
         drain(NULL);
