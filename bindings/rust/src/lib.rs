@@ -58,10 +58,17 @@
 //! types 133 to 137. The ICMPv6 checksum is in the bytes. The interface has to receive 33:33:00:00:00:01, a router also 33:33:00:00:00:02, and for
 //! each address of [`Node::addresses`] 33:33:ff and its last three bytes (RFC 2464, 7), before detection begins (RFC 4862, 5.4.2); or all multicast.
 //!
+//! # Threads
+//!
+//! A [`Node`] may go from thread to thread, and different threads may use different nodes and [`hear`] at the same time. Over an archive of
+//! `dist/nd.c` their calls wait for one another, since all of them use one memory. Over the archive that `make -C bindings archive` makes, which the
+//! build recognises, no call waits.
+//!
 //! # Memory
 //!
 //! With the feature `memory`, the default, the crate defines the library's memory functions `nd_alloc`, `nd_realloc` and `nd_free` over
-//! [`std::alloc`]. Without it the program defines them, as `nd.h` says. A call that is refused memory returns [`Error::NoMemory`].
+//! [`std::alloc`]. Without it the program defines them, as `nd.h` says. An archive of `dist/nd.c` calls none of them: all its nodes share a memory of
+//! its own. A call that is refused memory returns [`Error::NoMemory`].
 //!
 //! # Versions
 //!
@@ -73,6 +80,7 @@
 mod error;
 mod header;
 mod hear;
+mod lock;
 #[cfg(feature = "memory")]
 mod memory;
 mod node;

@@ -281,8 +281,24 @@ pub struct nd_heard {
     pub reserved: u8,
 }
 
+/// Declares functions of the library. A call of one holds the lock of the library while it runs.
+macro_rules! functions {
+    ($(pub fn $name:ident($($argument:ident: $kind:ty),*) $(-> $result:ty)?;)*) => {
+        mod library {
+            use super::*;
+            extern "C" {
+                $(pub fn $name($($argument: $kind),*) $(-> $result)?;)*
+            }
+        }
+        $(pub unsafe fn $name($($argument: $kind),*) $(-> $result)? {
+            let _held = crate::lock::hold();
+            unsafe { library::$name($($argument),*) }
+        })*
+    };
+}
+
 #[rustfmt::skip]
-extern "C" {
+functions! {
     pub fn nd_version() -> u32;
     pub fn nd_refusal_of(status: i32) -> u32;
     pub fn nd_limit_of(status: i32) -> u32;

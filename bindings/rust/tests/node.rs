@@ -41,11 +41,17 @@ fn milliseconds(number: u64) -> Duration {
 }
 
 fn host_options() -> Options {
-    Options::host(MAC, 0, Draws::Word(0))
+    few(Options::host(MAC, 0, Draws::Word(0)))
 }
 
 fn router_options() -> Options {
-    Options::router(ROUTER_MAC, 0, Draws::Word(0))
+    few(Options::router(ROUTER_MAC, 0, Draws::Word(0)))
+}
+
+/// Returns options with lower limits, so that the nodes of tests that run at a time fit into the one memory of `dist/nd.c`.
+fn few(mut options: Options) -> Options {
+    (options.limits.neighbours, options.limits.destinations, options.limits.names) = (16, 8, 4);
+    options
 }
 
 fn host() -> Node {
@@ -242,8 +248,8 @@ fn mistakes_are_errors() {
     let mut options = host_options();
     options.transmits = 9;
     assert_eq!(Node::open(options).err(), Some(Error::Invalid));
-    assert_eq!(Node::open(Options::host(MAC, MOMENT_LIMIT, Draws::Seed(1))).err(), Some(Error::Invalid));
-    assert_eq!(Node::open(Options::host(MAC, MOMENT_LIMIT - 1, Draws::Seed(1))).unwrap().last_moment(), MOMENT_LIMIT - 1);
+    assert_eq!(Node::open(few(Options::host(MAC, MOMENT_LIMIT, Draws::Seed(1)))).err(), Some(Error::Invalid));
+    assert_eq!(Node::open(few(Options::host(MAC, MOMENT_LIMIT - 1, Draws::Seed(1)))).unwrap().last_moment(), MOMENT_LIMIT - 1);
     node.pass(2000).unwrap();
     assert_eq!(node.pass(1999), Err(Error::Past));
     assert_eq!(node.pass(MOMENT_LIMIT), Err(Error::Invalid));
@@ -601,7 +607,7 @@ fn limits_are_chosen() {
     assert_eq!((counts.limits, counts.addresses), (options.limits, 1));
     let others = [counts.neighbours, counts.routers, counts.prefixes, counts.servers, counts.names, counts.redirects, counts.offers, counts.routes];
     assert_eq!(others, [0; 8]);
-    assert_eq!(host().counts(0).unwrap().limits, usual());
+    assert_eq!(Node::open(Options::host(MAC, 0, Draws::Word(0))).unwrap().counts(0).unwrap().limits, usual());
     options.limits = but(|it| it.waiting = 9);
     assert_eq!(Node::open(options).err(), Some(Error::Invalid));
 }
