@@ -1,7 +1,7 @@
 """check_dist: dist/, the node in C as it is committed. Its files are those of its stamp. With `full` the stamp has the sum of today's sources, and where
 the tools are those of the stamp, dist/ is made again, and has the same bytes. It compiles without a warning; the examples print what they print over
 the archive, and the rows of `ndpctl run` have their texts. A simulation of many nodes in one thread has the same lines as over the archive, and more
-threads are refused. Its README.md has the bytes that the functions return."""
+threads are refused. The crate for Rust passes its tests over it in four threads. Its README.md has the bytes that the functions return."""
 import os
 import re
 import sys
@@ -10,7 +10,7 @@ from concurrent.futures import ThreadPoolExecutor
 
 from check_hostile import SEED
 from check_programs import (BINDINGS, FEW_NODES, SMALL, TESTS, check_global, check_host, check_keeping, check_lines, check_many, check_router,
-                            check_too_long, check_traces, simulated)
+                            check_rust, check_too_long, check_traces, simulated)
 from checking import IS_FULL, TOP, WARNINGS, has, read, report, report_if, run, skip
 
 sys.path.insert(0, f"{BINDINGS}/targets")
@@ -191,6 +191,15 @@ def check_memory_of_many(program):
     report_if("many over dist/nd.c: how much memory a thousand hosts on a link need", is_more, str(said))
 
 
+def check_in_rust(room):
+    """Runs the crate for Rust over an archive of nd.c. Its tests of refused memory are two, and are not for nd.c."""
+    if not os.path.exists(f"{room}/gcc.o") or not has("ar"):
+        return
+    os.mkdir(f"{room}/rust")
+    if report("an archive of dist/nd.c", run(["ar", "rcs", f"{room}/rust/libnd_c.a", f"{room}/gcc.o"])):
+        check_rust(f"{room}/rust", "dist/nd.c", 2)
+
+
 def check_dist(room):
     kept = check_stamp()
     check_made(room, kept)
@@ -200,3 +209,4 @@ def check_dist(room):
     for compiler in COMPILERS:
         if compiler in said:
             check_compiled(room, compiler, said[compiler])
+    check_in_rust(room)

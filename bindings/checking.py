@@ -19,7 +19,7 @@ passed, failed = 0, 0
 skipped = {}
 # The part that is skipped without a tool.
 PARTS = {"rt": "the archives", "g++": "headers in C++", "clang": "programs by clang", "valgrind": "programs under valgrind", "cargo": "programs in Rust",
-         "node": "the page in node", **dict.fromkeys(("gcc", "cc", "objcopy", "nm", "make"), "programs in C")}
+         "rustc": "programs in Rust", "node": "the page in node", **dict.fromkeys(("gcc", "cc", "ar", "objcopy", "nm", "make"), "programs in C")}
 
 
 def run(words, **more):
