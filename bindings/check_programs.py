@@ -129,7 +129,7 @@ def check_too_long(what, program, most):
     """Requires that the example `hear`, over a library that takes frames of at most `most` bytes, names a longer one, also in its first line, and
     prints nothing for it."""
     text, longer = read(f"{TOP}/examples/link.hex"), f"{'33' * (most + 1)}\n"
-    wanted, words = run([program], input=text).stdout, [*(VALGRIND if has("valgrind", f"{what}, under valgrind") else []), program]
+    wanted, words = run([program], input=text).stdout, [*(VALGRIND if has("valgrind") else []), program]
     said = run(words, input=longer + text + longer)
     named = f"hear: a frame of {most + 1} bytes is not taken\n" * 2
     report_if(f"{what}: a frame of {most + 1} bytes", wanted and (said.returncode, said.stdout, said.stderr) == (0, wanted, named), str(said))

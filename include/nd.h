@@ -443,8 +443,9 @@ typedef struct nd_message { /* what a stack has read of the IPv6 header (RFC 820
  * from the type on. It is what nd_receive does with the frame that has these fields and these
  * bytes, and the right checksum in it if `checksum_good` is 1. `length` is the payload length of
  * the packet less its extension headers, without padding of the frame. A message that came in
- * fragments is the caller's to drop (RFC 6980, 5), as are those with other types than 133 to 137.
- *   As nd_receive; ND_INVALID also if a field is outside its range, or `length` is above 65535. */
+ * fragments is the caller's to drop (RFC 6980, 5).
+ *   As nd_receive; ND_INVALID also if a field is outside its range, `length` is above 65535, or the
+ * type is none of 133 to 137 (there is none if `length` is 0). */
 int32_t nd_receive_message(nd_node *node, uint64_t now, const nd_message *message,
                            const uint8_t *bytes, size_t length);
 

@@ -35,7 +35,7 @@ SENTENCES = {
          "An archive for one processor calls them."),
         ("Returns how many bytes ND_POOL_BYTES of bindings/c/pool.c has to be for one node with these limits,",
          "Returns how many bytes the pool in ND_MEMORY_BYTES has to have for one node with these limits,"),
-        ("or `length` is above 65535.", "or `length` is above 65535 or ND_FRAME_BYTES."),
+        ("`length` is above 65535, or the", "`length` is above 65535 or ND_FRAME_BYTES - 40, or the"),
         ("The payload is copied.", "The payload is copied; ND_INVALID is returned if it is longer than ND_FRAME_BYTES."),
         ("A closed node, as are 16 zero bytes.", "A closed node, as are zero bytes: 16, or 8 where pointers have 32 bits."),
         ("The archive of a node has it too.", "nd.c has it too."),

@@ -6,7 +6,7 @@
 #define ND_FRAME_BYTES 65536 /* the longest frame or payload that a call takes */
 #endif
 
-enum { SLOT_BYTES = 16, STRUCTURE_BYTES = 512, MODULE_AT = 8 };
+enum { SLOT_BYTES = 16, STRUCTURE_BYTES = 512, MODULE_AT = 8, IPV6_HEADER_BYTES = 40 };
 
 /* The module's stack of 16,384 bytes with its constants and what a call is passed, and the least pool. */
 enum { MODULE_BYTES = 18432, LEAST_POOL = 4096 };
@@ -254,7 +254,7 @@ int32_t nd_receive(nd_node *node, uint64_t now, const uint8_t *frame, size_t len
 
 int32_t nd_receive_message(nd_node *node, uint64_t now, const nd_message *message, const uint8_t *content, size_t length)
 {
-    if (length > ND_FRAME_BYTES)
+    if (length > ND_FRAME_BYTES - IPV6_HEADER_BYTES)
         return ND_INVALID;
     enter(node);
     put_fields(structure, message, MESSAGE);

@@ -235,6 +235,30 @@ static void try_moments(nd_node *node)
     is("a neighbour that is not there", nd_neighbour_of(node, 2000, &LINK_LOCAL, &neighbour), ND_NOTHING);
 }
 
+/* Messages that a stack has taken out of their packets: of other types than those of Neighbor Discovery, of none, and of a Router Solicitation, which a
+ * host drops. */
+static void try_messages(nd_node *node)
+{
+    static const uint8_t types[] = {0, 1, 2, 128, 132, 138, 255}; /* RFC 4443, 2.1: 2 is Packet Too Big, 128 an echo request */
+    uint8_t bytes[8] = {0};
+    nd_message message = {.source = {{0xfe, 0x80, [15] = 9}}, .destination = LINK_LOCAL, .hop_limit = 255, .checksum_good = 1};
+    nd_out out;
+    for (size_t i = 0; i < sizeof types; i++) {
+        bytes[0] = types[i];
+        is("a message of another type", nd_receive_message(node, 2000, &message, bytes, sizeof bytes), ND_INVALID);
+    }
+    is("a message of no bytes", nd_receive_message(node, 2000, &message, bytes, 0), ND_INVALID);
+    is("neither is reported", nd_poll(node, &out, bytes, sizeof bytes), ND_NOTHING);
+    bytes[0] = 133;
+    message.checksum_good = 2;
+    is("a message with a flag of 2", nd_receive_message(node, 2000, &message, bytes, sizeof bytes), ND_INVALID);
+    message.checksum_good = 1;
+    is("a message of a Router Solicitation", nd_receive_message(node, 2000, &message, bytes, sizeof bytes), ND_DONE);
+    is("its record", nd_poll(node, &out, bytes, sizeof bytes), ND_DONE);
+    is("is dropped", out.kind, ND_OUT_DROPPED);
+    is("since it is for routers", out.code, ND_WHY_NOT_FOR_US);
+}
+
 /* Takes the one record there is, which is a refusal, and returns its code. */
 static uint32_t refusal(nd_node *node)
 {
@@ -531,6 +555,7 @@ int main(void)
     try_shown_limits();
     try_options(&node);
     try_moments(&node);
+    try_messages(&node);
     try_host(&node);
     try_addresses(&node);
     moved = node; /* from here on the node is in its new place */

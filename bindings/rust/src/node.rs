@@ -184,8 +184,8 @@ impl Node {
 
     /// Receives a message of a stack that has taken it out of its packet: `bytes` are those of ICMPv6, from the type on. It is what
     /// [`receive`](Node::receive) does with the frame that has these fields and these bytes, and the right checksum in it if the stack has seen that it
-    /// is good. A message that came in fragments is the caller's to drop (RFC 6980, 5). [`Error::Invalid`] for more than 65,535 bytes, and the errors of
-    /// [every event](Node).
+    /// is good. A message that came in fragments is the caller's to drop (RFC 6980, 5). [`Error::Invalid`] for more than 65,535 bytes or another type than
+    /// 133 to 137, and the errors of [every event](Node).
     ///
     /// ```
     /// # let mut node = nd::Node::open(nd::Options::host([2, 0, 0, 0, 0, 1], 0, nd::Draws::Seed(1)))?;

@@ -4,11 +4,12 @@ ghost use Rattle.std.specs.Prelude.{◌≡◌, ◌≤◌, IfOk, length};
 ghost use Rattle.byteorder.specs.Endian.{big_bytes};
 ghost use Rattle.nd_addr.specs.Checksum.{with_sum};
 ghost use Rattle.nd_addr.specs.Room.{HasRoom, Puts};
-ghost use Rattle.nd_c_types.specs.Message.{bytes_in, frame_of, header_of, is_message};
+ghost use Rattle.nd_c_types.specs.Message.{bytes_in, frame_of, has_known_type, header_of, is_message};
 
 use nd_addr::{
     Addr, HEADERS_LENGTH, Ip6, Mac, NEXT_HEADER_ICMPV6, SUM_AT, put_bytes, put_headers, sum_for,
 };
+use nd_decode::{ICMPV6_REDIRECT, ICMPV6_ROUTER_SOLICITATION};
 use std::alloc::{AllocError, Global};
 
 /// The most bytes that a packet may have behind its header (RFC 8200, section 3).
@@ -33,11 +34,15 @@ pub struct Message {
 }
 
 impl Message {
-    /// Returns true if the flag is 0 or 1, the reserved field is 0, and a packet may have so many bytes.
+    /// Returns true if the flag is 0 or 1, the reserved field is 0, a packet may have so many bytes, and they begin with the type of a message of
+    /// Neighbor Discovery.
     pub fn is_message(&self, bytes: &[u8]) -> bool
         ensures { result ≡ is_message self.now bytes.now }
     {
-        self.checksum_good <= 1 && self.reserved == 0 && bytes.len() <= LONGEST
+        self.checksum_good <= 1
+            && self.reserved == 0
+            && bytes.len() <= LONGEST
+            && has_known_type(bytes)
     }
 
     /// Returns the frame that has these fields and these bytes, with the right checksum where it was seen to be good. Returns an error if out of
@@ -84,6 +89,13 @@ impl Message {
             put_bytes(out, bytes);
         }
     }
+}
+
+/// Returns true if the first byte is the type of a message of Neighbor Discovery (RFC 4861, sections 4.1 to 4.5).
+fn has_known_type(bytes: &[u8]) -> bool
+    ensures { result ≡ has_known_type bytes.now }
+{
+    !bytes.is_empty() && bytes[0] >= ICMPV6_ROUTER_SOLICITATION && bytes[0] <= ICMPV6_REDIRECT
 }
 
 /// Appends a message with this checksum in its field, if it has one.
