@@ -118,7 +118,9 @@
  * WHAT A NODE DOES NOT DO: choose source addresses (RFC 6724), keep static neighbours, DHCPv6, MLD,
  * ICMPv6 errors and echo, extension headers, forward between interfaces. It keeps an address that
  * DHCPv6 or a user chose (nd_add_address). One node is one interface; several nodes share nothing.
- * When the link has been down, close the node and open it again.
+ * When the link has been down, or the interface has another MAC, close the node and open it again:
+ * it begins without what it had, addresses given by hand, offers, routes and leases included. A
+ * router whose link is still up stops advertising first (nd_close).
  *
  * DETERMINISM. A node reads its options, its calls and the answers of the memory functions, and
  * nothing else: no clock, no environment, no global state. TESTED below says what that gives.
@@ -328,7 +330,8 @@ enum nd_policy {
     /* What is known to live goes before what is only asked for. Where a message gives the
      * link-layer address of a new neighbour, the cache is full, and none is STALE, the INCOMPLETE
      * neighbour that was asked for longest fails (ND_OUT_FAILED) instead of a refusal. The answer
-     * to a solicitation is no use of the asker's entry, which stays STALE and may go. */
+     * to a solicitation is no use of the asker's entry, which stays STALE and may go: a neighbour
+     * that probes the node is not probed back (nd_confirm). */
     ND_POLICY_SPEAKERS = 2,
 
     /* Of a Router Advertisement, a Cur Hop Limit below 32, a Reachable Time outside 1,000 to
@@ -349,7 +352,8 @@ enum nd_policy {
 /* All five, recommended on a link that is not trusted. What is heard is never refused for a limit:
  * a sender that fills a table does not have the messages of others refused whole, and
  * ND_OUT_IGNORED says which limit a part was passed over for. A forwarded packet and the caller's
- * own events are still refused for one. */
+ * own events are still refused for one, and a table that a sender has filled stays full:
+ * docs/FAULTS.md says for how long, and what else a hostile link can still do. */
 #define ND_POLICIES_ROBUST 31
 
 typedef struct nd_options {
@@ -386,8 +390,11 @@ static inline void nd_options_init(nd_options *options)
  *   ND_NO_MEMORY   It is closed. The same call again is as if it were the first. */
 int32_t nd_open(nd_node *node, const nd_options *options, size_t size);
 
-/* Closes a node. Nothing is sent (a router calls nd_stop_advertising and polls first), and records
- * that were not polled are lost. A closed node may be closed again, and opened anew. */
+/* Closes a node. Nothing is sent, and records that were not polled are lost. So a router calls
+ * nd_stop_advertising first, and polls until ND_NOTHING: by its last advertisement it leaves the
+ * hosts' lists (RFC 4861, 6.2.5), where it may else stay for its whole lifetime. All leases end:
+ * forget the paths of nd_resolve. A node that is opened anew counts its versions anew, so an old
+ * path may have the version of today. A closed node may be closed again, and opened anew. */
 void nd_close(nd_node *node);
 
 /* ---- time ------------------------------------------------------------------------------------ */
@@ -465,7 +472,12 @@ int32_t nd_send(nd_node *node, uint64_t now, const nd_addr *source, const nd_add
  * 4861, 7.3.1). `neighbour` is the next hop, which nd_next_hop finds, and not the far end of a
  * connection.
  *   ND_DONE        It is REACHABLE for ReachableTime from now, if its link-layer address is known;
- *                  else nothing has changed. */
+ *                  else nothing has changed.
+ * A neighbour that is used and not confirmed is probed when its ReachableTime has ended, and probes
+ * back 5 s later, since its answer uses its STALE entry for this node (RFC 4861, 7.2.4 and 7.3.3).
+ * A confirmation spares both. Between nodes that send now and then, and confirm nothing, probing
+ * back doubles the traffic: 2.2 solicitations for each datagram of a simulation, and 0.9 where all
+ * nodes had ND_POLICY_SPEAKERS (docs/MEASURED.md). */
 int32_t nd_confirm(nd_node *node, uint64_t now, const nd_addr *neighbour);
 
 /* Confirms the next hop of a destination, since an upper layer knows that packets to it arrive (RFC
@@ -585,7 +597,8 @@ typedef struct nd_path { /* a field is 0 where the status does not have it, but 
  *     now < path->until && path->version == version
  * where `version` is nd_lease_version after the last call. Such a packet leaves the node as it
  * would be with a call: its neighbour is used, and not STALE (RFC 4861, 7.3.3). Once the lease is
- * over, ask again. Where `until` is `now` there is none: ask for each packet.
+ * over, ask again. Where `until` is `now` there is none: ask for each packet. nd_close ends all
+ * leases, and this test does not show it: forget the paths then.
  * For each packet, with a path that is kept for its destination (examples/c/stack.c):
  *
  *     if (now >= path->until || path->version != version) {
@@ -610,7 +623,7 @@ int32_t nd_resolve(nd_node *node, uint64_t now, const nd_addr *destination, nd_p
  * neighbours, with nd_pass, nd_next_hop, nd_receive of a frame that is dropped or whose packet is
  * for the node (what it reports is ND_OUT_DROPPED or ND_OUT_UP), and nd_confirm and nd_confirm_to,
  * unless ReachableTime has become so short that the lease of a path to the neighbour ends earlier.
- * 0 if the node is closed. It changes nothing. */
+ * 0 if the node is closed; a node that is opened again counts anew. It changes nothing. */
 uint64_t nd_lease_version(nd_node *node);
 
 /* ---- events at a router ---------------------------------------------------------------------- */
@@ -676,7 +689,8 @@ typedef struct nd_route_row {
 int32_t nd_add_route(nd_node *node, uint64_t now, const nd_route_row *route);
 
 /* Ends advertising (RFC 4861, 6.2.5). If an advertisement was sent since it began, a last one with
- * a router lifetime of 0 is reported. ND_DONE also if it does not advertise. */
+ * a router lifetime of 0 is reported, to be sent before nd_close. ND_DONE also if it does not
+ * advertise. */
 int32_t nd_stop_advertising(nd_node *node, uint64_t now);
 
 /* ---- what a node reports --------------------------------------------------------------------- */
@@ -686,8 +700,10 @@ enum nd_kind {
     ND_OUT_HEARD = 2,         /* a valid message from `address`; `code`: its ICMPv6 type, 133 to
                                  137. nd_hear says what is in it */
     ND_OUT_DROPPED = 3,       /* a frame was dropped; `code`: enum nd_why */
-    ND_OUT_UP = 4,            /* a packet for an assigned address; the bytes begin with its IPv6
-                                 header */
+    ND_OUT_UP = 4,            /* a packet for an assigned address or a group of the node; the bytes
+                                 begin with its IPv6 header. Its source is not looked at: it may be
+                                 multicast, ::, ::1 or the node's own (RFC 4291, 2.5.2, 2.5.3 and
+                                 2.7). Nor are extension headers and checksums */
     ND_OUT_DUPLICATE = 5,     /* the node's address `address` is another node's too, and is not
                                  used. If it is the link-local one, the node is disabled: close it
                                  (RFC 4862, 5.4.5) */
