@@ -9,9 +9,9 @@ import time
 from concurrent.futures import ThreadPoolExecutor
 
 from check_hostile import SEED
-from check_programs import (BINDINGS, FEW_NODES, SMALL, TESTS, check_global, check_host, check_keeping, check_lines, check_many, check_router,
+from check_programs import (BINDINGS, FEW_NODES, FULL, SMALL, TESTS, check_global, check_host, check_keeping, check_lines, check_many, check_router,
                             check_rust, check_too_long, check_traces, simulated)
-from checking import IS_FULL, TOP, WARNINGS, has, read, report, report_if, run, skip
+from checking import INCLUDE, IS_FULL, TOP, WARNINGS, has, read, report, report_if, run, skip
 
 sys.path.insert(0, f"{BINDINGS}/targets")
 import build  # noqa: E402
@@ -24,9 +24,11 @@ COMPILERS = ("gcc", "clang")
 # examples/README.md says.
 MUCH_BYTES = 1 << 26
 MUCH_MEMORY = [f"-DND_MEMORY_BYTES={MUCH_BYTES}"]
-# The memory of nd.c in README.md's line for a small processor.
+# The memory of nd.c in README.md's line for a small processor, that line, and the processor's RAM.
 LITTLE_FRAME = 2048
-LITTLE_MEMORY = ["-DND_MEMORY_BYTES=131072", f"-DND_FRAME_BYTES={LITTLE_FRAME}"]
+LITTLE_MEMORY = ["-DND_MEMORY_BYTES=65536", f"-DND_FRAME_BYTES={LITTLE_FRAME}"]
+LITTLE_LINE = f"128 KB of RAM: `arm-none-eabi-gcc -mthumb -mcpu=cortex-m4 -Os -ffunction-sections -I. {' '.join(LITTLE_MEMORY)} -c nd.c`"
+LITTLE_RAM = 128 << 10
 # Prints the bytes that README.md has, and how many nodes of the usual limits, and of those of a small node, can be opened: at most four.
 BYTES = """#include <stdio.h>
 #include "nd.h"
@@ -160,8 +162,26 @@ def over_dist(room, name, node, sources, *more):
     return program if report(f"{name} over dist/nd.c is built", run(words)) else None
 
 
+def check_fits(what, node):
+    """Requires that README.md has the line for a small processor, whose RAM holds the variables of an object of nd.c and the stack of a call."""
+    stack = int(re.search(r"A call has ([\d,]+) bytes of stack\.", read(f"{INCLUDE}/nd.h"))[1].replace(",", ""))
+    said = run(["size", node]).stdout.splitlines()
+    taken = sum(map(int, said[1].split()[1:3])) if len(said) == 2 else LITTLE_RAM
+    is_said = LITTLE_LINE in " ".join(read(f"{DIST}/README.md").split())
+    fits = is_said and taken + stack <= LITTLE_RAM
+    report_if(f"{what}: {taken} bytes of variables and {stack} of stack, in {LITTLE_RAM}", fits, f"{said}, {is_said}")
+
+
+def check_small(room, what, node):
+    """Requires that the memory of an object of nd.c is enough for a small node, for all that `pooled` does with frames of at most 590 bytes."""
+    pooled = over_dist(room, "pooled", node, [f"{TESTS}/pooled.c"])
+    for number, role in enumerate(("host", "router")) if pooled else ():
+        said = run([pooled, str(number), "4861", "590", "1000", *map(str, SMALL)], input=FULL)
+        report_if(f"pooled over {what}: a small node, {role}", said.returncode == 0, said.stdout + said.stderr)
+
+
 def check_much_and_little(room, much, little):
-    """Runs `fuzz` over nd.c, whose heap refuses nothing, and `exhausted` over one that packets fill."""
+    """Runs `fuzz` over nd.c, whose heap refuses nothing, and over one for a small processor `exhausted`, whose packets fill it, and `pooled`."""
     seconds, seed = (600, int(time.time())) if IS_FULL else (5, SEED)
     node = f"{room}/much.o" if report(f"dist/nd.c, {' '.join(MUCH_MEMORY)}", much) else None
     fuzz = node and over_dist(room, "fuzz", node, [f"{TESTS}/fuzz.c", f"{TESTS}/uncounted.c"], *MUCH_MEMORY)
@@ -178,7 +198,10 @@ def check_much_and_little(room, much, little):
     if hear:
         check_too_long("hear over dist/nd.c", hear, LITTLE_FRAME)
     if node:
-        check_bytes_said(room, f"dist/nd.c {' '.join(LITTLE_MEMORY)}", node, 0)
+        what = f"dist/nd.c {' '.join(LITTLE_MEMORY)}"
+        check_bytes_said(room, what, node, 0)
+        check_fits(what, node)
+        check_small(room, what, node)
 
 
 def check_memory_of_many(program):
