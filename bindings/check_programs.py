@@ -2,6 +2,7 @@
 fewer frames where that takes long."""
 import os
 import re
+import resource
 import subprocess
 import sys
 
@@ -285,6 +286,21 @@ def check_beside_ndpctl(program):
                       said.stderr + wanted.stderr + difference(said.stdout, wanted.stdout))
 
 
+def check_memory_of_run():
+    """Requires that a line that is far ahead takes no more memory than a near one: with 32 MiB ndpctl run writes for it what it writes where there is a line
+    for each hour. The text has some 15 million bytes."""
+    if not os.path.exists(NDPCTL):
+        return
+    words = [NDPCTL, "run", "--role", "router", "--mac", frames.HOST_MAC]
+    first, hour, last = "0 advertise 3 4 1800 64 - 0 0 0\n", 3_600_000, 300_000_000
+    wanted = run(words, input=first + "".join(f"{at} at\n" for at in [*range(hour, last, hour), last]))
+    limit = (32 << 20, 32 << 20)
+    said = run(words, input=f"{first}{last} at\n", preexec_fn=lambda: resource.setrlimit(resource.RLIMIT_AS, limit))
+    is_same = said.returncode == wanted.returncode == 0 and said.stdout == wanted.stdout
+    report_if(f"ndpctl run: {len(wanted.stdout.splitlines())} lines of text for one line, in 32 MiB", is_same,
+              said.stderr + wanted.stderr + difference(said.stdout, wanted.stdout))
+
+
 def choices():
     """Returns choices of limits, in the order of nd.h: each at 1 and at its greatest, the others usual; and those that also run under valgrind: all at
     1, all at their greatest, and those of a small node."""
@@ -387,6 +403,7 @@ def check_tests(room, archive):
     if trace:
         check_traces(trace)
         check_beside_ndpctl(trace)
+    check_memory_of_run()
     with timed("hostile input"):
         check_hostile(room, archive, build, trace)
     with timed("floods"):

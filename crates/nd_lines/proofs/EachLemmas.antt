@@ -1,7 +1,7 @@
 -- The text of lines that are answered each by itself, and that of the first few of them.
 use Rattle.std.proofs.Common.{◌≡◌, ◌+◌, ℕ, List, [], ◌∷◌, ◌++◌, Option, Some, None, refl, sym, ap, ◌∙◌, append_assoc}
 use Rattle.nd_lines.specs.Each.{answer_within, told_before, malformed_or, text_of_each, malformed_of_each}
-use Rattle.nd_lines.specs.Answers.{Only}
+use Rattle.nd_lines.specs.Answers.{Only, Wholly}
 use Rattle.nd_lines.specs.Lines.{lines_of}
 use Rattle.nd_lines.specs.Run.{WroteFront}
 use Rattle.nd_lines.specs.Told.{TellsFront}
@@ -26,7 +26,7 @@ each_goes_on answer_to n first later text told found all few =
 pub WroteFront-each : (answer_to : List ℕ → Option (List ℕ)) (input old new : Option (List ℕ)) → TellsFront (Only (text_of_each answer_to) (malformed_of_each answer_to)) input old new → WroteFront (text_of_each answer_to) input old new
 WroteFront-each answer_to input old new front =
     let texts = Only (text_of_each answer_to) (malformed_of_each answer_to) in
-    begins_the_text (text_of_each answer_to) (malformed_of_each answer_to) input old new (tells_beginning texts (each_goes_on answer_to) input old new front)
+    begins_the_text (text_of_each answer_to) (malformed_of_each answer_to) input old new (tells_beginning texts (Wholly texts) (each_goes_on answer_to) input old new front)
 
 -- the lines before the first malformed one, which have the whole text
 record Answered (answer_to : List ℕ → Option (List ℕ)) (n : ℕ) (lines : List (List ℕ)) : Type 0 where

@@ -42,6 +42,10 @@ pub AppendsFront-more : (old new : Option (List ℕ)) (text more : List ℕ) →
 AppendsFront-more old new text more front =
     (front.0 ++ more, (front.1.0, ap (λ (l : List ℕ). l ++ more) front.1.1 ∙ append_assoc front.1.0 front.0 more, front.1.2))
 
+-- more text behind the rest
+pub AppendsUpTo-more : (old new : Option (List ℕ)) (text rest more : List ℕ) → AppendsUpTo old new text rest → AppendsUpTo old new (text ++ more) (rest ++ more)
+AppendsUpTo-more old new text rest more written = (written.0, ap (λ (l : List ℕ). l ++ more) written.1 ∙ append_assoc written.0 rest more, written.2)
+
 -- a beginning was written, and then a beginning of what was left
 pub AppendsFront-after : (old mid new : Option (List ℕ)) (text rest : List ℕ) → AppendsUpTo old mid text rest → AppendsFront mid new rest → AppendsFront old new text
 AppendsFront-after old mid new text rest first front =

@@ -1,5 +1,5 @@
 -- How a run ends at a line that has no answer.
-use Rattle.std.specs.Prelude.{ℕ, List, Option}
+use Rattle.std.specs.Prelude.{ℕ, List, ◌++◌, Option}
 use Rattle.std.specs.Io.KnownBytes.{Appends}
 use Rattle.nd_lines.specs.declared.answering.Unanswered.{Unanswered}
 use Rattle.nd_lines.specs.declared.answering.Unanswered.TheVariants as unanswered
@@ -17,6 +17,6 @@ pub record StopsAt {T : Type 0} (fails : T → List ℕ → T → Unanswered →
   pub failed : fails before line after why
   pub well_formed : IsMalformedLine line → ⊥
 
--- the text was written, and so the run stopped
-abbrev pub Stopped : Option (List ℕ) → Option (List ℕ) → List ℕ → Type 0 → Type 0
-Stopped old new text stops = Appends old new text × stops
+-- The text was written, and nothing or such a beginning of the answer to the line, and so the run stopped.
+abbrev pub Stopped : Option (List ℕ) → Option (List ℕ) → List ℕ → (List ℕ → Type 0) → Type 0 → Type 0
+Stopped old new text IsPartOfIt stops = (part : List ℕ) × IsPartOfIt part × Appends old new (text ++ part) × stops

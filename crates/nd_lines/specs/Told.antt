@@ -1,7 +1,7 @@
 -- What a run has written.
 use Rattle.std.specs.Prelude.{◌≡◌, ◌<◌, ◌⊎◌, ℕ, List, [], ◌∷◌, ◌++◌, length, Option, Some, None, ⊤}
 use Rattle.std.specs.Io.KnownBytes.{Appends}
-use Rattle.nd_lines.specs.Answers.{Texts, TextsTo}
+use Rattle.nd_lines.specs.Answers.{Texts, TextsTo, Begins, IsPart, Fronts, Wholly}
 use Rattle.nd_lines.specs.Lines.{lines_of, ended}
 use Rattle.nd_lines.specs.Written.{AppendsFront}
 
@@ -11,13 +11,13 @@ pub record TellsLines (texts : Texts) (n : ℕ) (lines : List (List ℕ)) (old n
   pub is_theirs : texts n lines text found
   pub written : Appends old new text
 
--- A beginning was written of what waits and then a text of the first few of the lines, none of which is malformed.
-pub record TellsFirst (texts : Texts) (n : ℕ) (lines : List (List ℕ)) (waiting : List ℕ) (old new : Option (List ℕ)) : Type 0 where
+-- A beginning was written of what waits and then of such a text of the first few of the lines.
+pub record TellsFirst (fronts : Fronts) (n : ℕ) (lines : List (List ℕ)) (waiting : List ℕ) (old new : Option (List ℕ)) : Type 0 where
   pub first : List (List ℕ)
   pub later : List (List ℕ)
   pub lines_are : lines ≡ first ++ later
   pub text : List ℕ
-  pub is_theirs : texts n first text None
+  pub is_theirs : fronts n first later text
   pub written : AppendsFront old new (waiting ++ text)
 
 -- where the input is known, a text of its lines was written, and `found` is the first malformed one of them, counted from 1
@@ -25,10 +25,14 @@ abbrev pub TellsAll : Texts → Option (List ℕ) → Option (List ℕ) → Opti
 TellsAll texts None old new found = ⊤
 TellsAll texts (Some input) old new found = TellsLines texts 1 (lines_of input) old new found
 
--- where the input is known, a beginning of a text of its first few lines was written
+-- where the input is known, a beginning of such a text of its first few lines was written
+abbrev pub TellsFrontOf : Fronts → Option (List ℕ) → Option (List ℕ) → Option (List ℕ) → Type 0
+TellsFrontOf fronts None old new = ⊤
+TellsFrontOf fronts (Some input) old new = TellsFirst fronts 1 (lines_of input) [] old new
+
+-- the same of whole lines alone
 abbrev pub TellsFront : Texts → Option (List ℕ) → Option (List ℕ) → Option (List ℕ) → Type 0
-TellsFront texts None old new = ⊤
-TellsFront texts (Some input) old new = TellsFirst texts 1 (lines_of input) [] old new
+TellsFront texts = TellsFrontOf (Wholly texts)
 
 -- where the input is known, what was written is a beginning of each text of its lines
 abbrev pub TellsBeginning : Texts → Option (List ℕ) → Option (List ℕ) → Option (List ℕ) → Type 0
@@ -51,9 +55,9 @@ TellsAsRead texts None rest old new = ⊤
 TellsAsRead texts (Some input) None old new = ⊥
 TellsAsRead texts (Some input) (Some rest) old new = TellsRead texts input rest old new
 
--- The answers to all lines before one were written, whole, and nothing else: what they led to stopped at that line. The first line has the
--- number n.
-pub record TellsBefore {T : Type 0} (texts : TextsTo T) (Stops : T → List ℕ → Type 0) (n : ℕ) (lines : List (List ℕ)) (old new : Option (List ℕ)) : Type 0 where
+-- The answers to all lines before one were written, whole, and nothing or a beginning of the answer to that line: what they led to stopped at it.
+-- The first line has the number n.
+pub record TellsBefore {T : Type 0} (texts : TextsTo T) (begins : Begins T) (Stops : T → List ℕ → Type 0) (n : ℕ) (lines : List (List ℕ)) (old new : Option (List ℕ)) : Type 0 where
   pub first : List (List ℕ)
   pub line : List ℕ
   pub later : List (List ℕ)
@@ -61,20 +65,45 @@ pub record TellsBefore {T : Type 0} (texts : TextsTo T) (Stops : T → List ℕ 
   pub end : T
   pub text : List ℕ
   pub is_theirs : texts end n first text None
-  pub written : Appends old new text
+  pub part : List ℕ
+  pub begun : IsPart begins end line part
+  pub written : Appends old new (text ++ part)
   pub stops : Stops end line
 
 -- the same where the input is known, its lines counted from 1
+abbrev pub TellsUntilIn : {T : Type 0} → TextsTo T → Begins T → (T → List ℕ → Type 0) → Option (List ℕ) → Option (List ℕ) → Option (List ℕ) → Type 0
+TellsUntilIn texts begins Stops None old new = ⊤
+TellsUntilIn texts begins Stops (Some input) old new = TellsBefore texts begins Stops 1 (lines_of input) old new
+
+-- the same where no line is answered in part: the answers to all lines before that one were written, and nothing else
 abbrev pub TellsUntil : {T : Type 0} → TextsTo T → (T → List ℕ → Type 0) → Option (List ℕ) → Option (List ℕ) → Option (List ℕ) → Type 0
-TellsUntil texts Stops None old new = ⊤
-TellsUntil texts Stops (Some input) old new = TellsBefore texts Stops 1 (lines_of input) old new
+TellsUntil texts Stops = TellsUntilIn texts (λ _ _ _. ⊥) Stops
 
 -- nothing was read or written
 abbrev pub IsUntouched : Option (List ℕ) → Option (List ℕ) → Option (List ℕ) → Option (List ℕ) → Type 0
 IsUntouched input rest old new = (rest ≡ input) × (new ≡ old)
 
--- Memory was refused before the first read, or at a line that is not malformed: the answers to all lines before that one were written, whole, and
--- nothing else.
+-- The whole of such a text of all lines before one was written, and nothing else. That line is not malformed.
+pub record BreaksOff (fronts : Fronts) (IsMalformedLine : List ℕ → Type 0) (lines : List (List ℕ)) (old new : Option (List ℕ)) : Type 0 where
+  pub first : List (List ℕ)
+  pub line : List ℕ
+  pub later : List (List ℕ)
+  pub lines_are : lines ≡ first ++ (line ∷ later)
+  pub text : List ℕ
+  pub is_theirs : fronts 1 first (line ∷ later) text
+  pub written : Appends old new text
+  pub well_formed : IsMalformedLine line → ⊥
+
+-- the same where the input is known
+abbrev pub BreaksOffIn : Fronts → (List ℕ → Type 0) → Option (List ℕ) → Option (List ℕ) → Option (List ℕ) → Type 0
+BreaksOffIn fronts IsMalformedLine None old new = ⊤
+BreaksOffIn fronts IsMalformedLine (Some input) old new = BreaksOff fronts IsMalformedLine (lines_of input) old new
+
+-- Memory was refused before the first read, or at a line that is not malformed: such a text of all lines before that one was written, and nothing
+-- else.
+abbrev pub TellsToMemoryOf : Fronts → (List ℕ → Type 0) → Option (List ℕ) → Option (List ℕ) → Option (List ℕ) → Option (List ℕ) → Type 0
+TellsToMemoryOf fronts IsMalformedLine input rest old new = IsUntouched input rest old new ⊎ BreaksOffIn fronts IsMalformedLine input old new
+
+-- the same of whole lines alone
 abbrev pub TellsToMemory : Texts → (List ℕ → Type 0) → Option (List ℕ) → Option (List ℕ) → Option (List ℕ) → Option (List ℕ) → Type 0
-TellsToMemory texts IsMalformedLine input rest old new =
-    IsUntouched input rest old new ⊎ TellsUntil {T = ⊤} (λ _. texts) (λ _ line. IsMalformedLine line → ⊥) input old new
+TellsToMemory texts = TellsToMemoryOf (Wholly texts)

@@ -1,14 +1,23 @@
 //! Answers to lines, one after the other.
 
 ghost use Rattle.nd_lines.specs.Lines.{longest_line};
-ghost use Rattle.std.specs.Prelude.{◌≡◌, ◌≢◌, ◌≤◌, ◌<◌, ℕ, List, Option, Err, length, string_bytes, OnOk, IsErrOf};
-ghost use Rattle.nd_lines.specs.Answers.{Tells, EndsWell, IsMalformed};
+ghost use Rattle.std.specs.Prelude.{◌≡◌, ◌≢◌, ◌≤◌, ◌<◌, ℕ, List, Option, Ok, Err, length, string_bytes, IsErrOf};
+ghost use Rattle.nd_lines.specs.Answers.{Tells, TellsPart, EndsWell, IsMalformed};
 ghost use Rattle.nd_lines.specs.Counts.{one_more};
 
 use std::alloc::Allocator;
 
 /// The most bytes of a line, without its line feed (our choice). A longer line is malformed.
 pub const LONGEST_LINE: usize = 16384;
+
+/// The part of the answer to a line that was appended.
+#[derive(Clone, Copy, Debug, PartialEq, Eq)]
+pub enum Extent {
+    /// The whole answer, or the rest of it.
+    Whole,
+    /// A part of it. The same line is to be passed again for what follows.
+    InPart,
+}
 
 /// Why a line has no answer.
 #[derive(Clone, Copy, Debug, PartialEq, Eq)]
@@ -32,16 +41,29 @@ pub trait Answering {
     /// The lines that are malformed.
     ghost is_malformed: { List ℕ → Type 0 };
 
+    /// The beginnings that the answer to a line may have, by the answerer before the line. Only an answerer that appends answers in part has any.
+    ghost begins: { Self → List ℕ → List ℕ → Type 0 };
+
+    /// A number that falls with each part of an answer.
+    ghost left: { Self → ℕ };
+
     /// The meaning of a fault at a line: the answerer before the line, the line, the answerer after it, and the fault.
     ghost fails: { Self → List ℕ → Self → Unanswered → Type 0 };
 
     /// The number of calls of its wire that failed so far, up to the greatest number of 64 bits.
     ghost failed: { Self → ℕ };
 
-    /// Appends the answer to one line, which is passed without its line feed. If it returns an error, what it appended is no answer.
-    fn answer<A: Allocator>(&mut self, line: &[u8], text: &mut String<A>) -> Result<(), Unanswered>
+    /// Appends the answer to one line, which is passed without its line feed, or a part of it: then the caller passes the same line again. If it
+    /// returns an error, what it appended is no answer.
+    fn answer<A: Allocator>(
+        &mut self,
+        line: &[u8],
+        text: &mut String<A>,
+    ) -> Result<Extent, Unanswered>
         requires { length line.now ≤ longest_line }
-        ensures answered { OnOk result (Tells (texts self.old) (texts self.new) line.now (string_bytes text.old) (string_bytes text.new)) }
+        ensures answered { result ≡ Ok Extent.Whole → Tells (texts self.old) (texts self.new) line.now (string_bytes text.old) (string_bytes text.new) }
+        ensures in_part { result ≡ Ok Extent.InPart → TellsPart texts begins fails self.old self.new line.now (string_bytes text.old) (string_bytes text.new) }
+        ensures fewer { result ≡ Ok Extent.InPart → left self.new < left self.old }
         ensures malformed { IsErrOf result Unanswered.Malformed → IsMalformed (texts self.old self.new) line.now }
         ensures only { IsErrOf result Unanswered.Malformed → is_malformed line.now }
         // A malformed line is reported as malformed, even if no memory is left.

@@ -9,7 +9,7 @@ ghost use Rattle.nd_lines.specs.EachLaws.{each_too_long};
 ghost use Rattle.nd_lines.specs.Run.{Wrote, WroteFront, Answered};
 ghost use Rattle.nd_lines.specs.Told.{TellsToMemory};
 
-use crate::answering::{Answering, Unanswered};
+use crate::answering::{Answering, Extent, Unanswered};
 use crate::input::Input;
 use crate::output::Output;
 use crate::run::run_lines;
@@ -57,6 +57,11 @@ impl<T: AnsweringEach> Answering for Each<T> {
 
     ghost is_malformed = { λ line. T.answer_to line ≡ None };
 
+    // Each line is answered whole.
+    ghost begins = { λ _ _ _. ⊥ };
+
+    ghost left = { λ _. 0 };
+
     ghost fails = { λ _ _ _ _. ⊤ };
 
     ghost failed = { λ _. 0 };
@@ -69,8 +74,9 @@ impl<T: AnsweringEach> Answering for Each<T> {
         &mut self,
         line: &[u8],
         text: &mut String<A>,
-    ) -> Result<(), Unanswered> {
-        self.answering.answer_each(line, text)
+    ) -> Result<Extent, Unanswered> {
+        self.answering.answer_each(line, text)?;
+        Ok(Extent::Whole)
     }
 }
 

@@ -1,11 +1,11 @@
 //! The run over all lines of an input.
 
 ghost use Rattle.std.specs.Prelude.{◌≡◌, ◌≢◌, ◌≤◌, ◌<◌, ◌∷◌, ◌⊎◌, ℕ, [], None, Some, Err, length, string_bytes, OnOk, OnErr, IsErrOf};
-ghost use Rattle.nd_lines.specs.Answers.{ToAny};
+ghost use Rattle.nd_lines.specs.Answers.{UpInto};
 ghost use Rattle.nd_lines.specs.Counts.{HasRisen, HasGrownBy, most_reads, one_more};
 ghost use Rattle.nd_lines.specs.Lines.{lines_of, longest_line};
 ghost use Rattle.nd_lines.specs.Stop.{StopsAt};
-ghost use Rattle.nd_lines.specs.Told.{TellsLines, TellsFirst, TellsAll, TellsFront, TellsAsRead, TellsBefore, TellsUntil, IsUntouched};
+ghost use Rattle.nd_lines.specs.Told.{TellsLines, TellsFirst, TellsAll, TellsFrontOf, TellsAsRead, TellsBefore, TellsUntilIn, IsUntouched};
 
 use crate::ahead::{Ahead, FirstLine};
 use crate::answering::{Answering, Unanswered};
@@ -28,9 +28,9 @@ fn answer_last<L: Answering, W: Output, A: Allocator>(
     requires empty { string_bytes unwritten.old.text ≡ [] }
     ensures ok { OnOk result (TellsLines (L.texts answering.old answering.new) number (lines_of line.now) (W.contents writer.old) (W.contents writer.new) None) }
     ensures line { (n : ℕ) → IsErrOf result (ToolFault.Line n) → TellsLines (L.texts answering.old answering.new) number (lines_of line.now) (W.contents writer.old) (W.contents writer.new) (Some n) }
-    ensures front { OnErr result (TellsFirst (ToAny (L.texts answering.old)) number (lines_of line.now) [] (W.contents writer.old) (W.contents writer.new)) }
-    ensures memory { IsErrOf result ToolFault.Memory → TellsBefore (L.texts answering.old) (StopsAt L.fails L.is_malformed answering.new Unanswered.Memory) number (lines_of line.now) (W.contents writer.old) (W.contents writer.new) }
-    ensures wire { IsErrOf result ToolFault.Wire → TellsBefore (L.texts answering.old) (StopsAt L.fails L.is_malformed answering.new Unanswered.Wire) number (lines_of line.now) (W.contents writer.old) (W.contents writer.new) }
+    ensures front { OnErr result (TellsFirst (UpInto (L.texts answering.old) L.begins) number (lines_of line.now) [] (W.contents writer.old) (W.contents writer.new)) }
+    ensures memory { IsErrOf result ToolFault.Memory → TellsBefore (L.texts answering.old) L.begins (StopsAt L.fails L.is_malformed answering.new Unanswered.Memory) number (lines_of line.now) (W.contents writer.old) (W.contents writer.new) }
+    ensures wire { IsErrOf result ToolFault.Wire → TellsBefore (L.texts answering.old) L.begins (StopsAt L.fails L.is_malformed answering.new Unanswered.Wire) number (lines_of line.now) (W.contents writer.old) (W.contents writer.new) }
     ensures write_failed { IsErrOf result ToolFault.Write → HasRisen (W.failed writer.old) (W.failed writer.new) }
     ensures wire_failed { IsErrOf result ToolFault.Wire → L.failed answering.new ≡ one_more (L.failed answering.old) }
     ensures wire_carried { result ≢ Err ToolFault.Wire → result ≢ Err ToolFault.Write → L.failed answering.new ≡ L.failed answering.old }
@@ -54,14 +54,15 @@ pub fn run_lines<R: Input, W: Output, L: Answering, A: Allocator + Clone>(
 ) -> Result<(), ToolFault>
     ensures ok { OnOk result (TellsAll (L.texts answering.old answering.new) (R.remaining reader.old) (W.contents writer.old) (W.contents writer.new) None) }
     ensures line { (n : ℕ) → IsErrOf result (ToolFault.Line n) → TellsAll (L.texts answering.old answering.new) (R.remaining reader.old) (W.contents writer.old) (W.contents writer.new) (Some n) }
-    ensures front { OnErr result (TellsFront (ToAny (L.texts answering.old)) (R.remaining reader.old) (W.contents writer.old) (W.contents writer.new)) }
+    ensures front { OnErr result (TellsFrontOf (UpInto (L.texts answering.old) L.begins) (R.remaining reader.old) (W.contents writer.old) (W.contents writer.new)) }
     ensures read_failed { IsErrOf result ToolFault.Read → HasRisen (R.failed reader.old) (R.failed reader.new) ⊎ HasGrownBy most_reads (R.given reader.old) (R.given reader.new) }
     // If a read fails, the answers to all lines that were read before it are written.
     ensures answered { IsErrOf result ToolFault.Read → TellsAsRead (L.texts answering.old answering.new) (R.remaining reader.old) (R.remaining reader.new) (W.contents writer.old) (W.contents writer.new) }
-    // Out of memory: the answers to all lines before the one at which it ran out are written, whole. That line is not malformed.
-    ensures memory { IsErrOf result ToolFault.Memory → IsUntouched (R.remaining reader.old) (R.remaining reader.new) (W.contents writer.old) (W.contents writer.new) ⊎ TellsUntil (L.texts answering.old) (StopsAt L.fails L.is_malformed answering.new Unanswered.Memory) (R.remaining reader.old) (W.contents writer.old) (W.contents writer.new) }
+    // Out of memory: the answers to all lines before the one at which it ran out are written, whole, and of the answer to that line nothing or a
+    // beginning. That line is not malformed.
+    ensures memory { IsErrOf result ToolFault.Memory → IsUntouched (R.remaining reader.old) (R.remaining reader.new) (W.contents writer.old) (W.contents writer.new) ⊎ TellsUntilIn (L.texts answering.old) L.begins (StopsAt L.fails L.is_malformed answering.new Unanswered.Memory) (R.remaining reader.old) (W.contents writer.old) (W.contents writer.new) }
     // The same if the answerer's wire fails.
-    ensures wire { IsErrOf result ToolFault.Wire → TellsUntil (L.texts answering.old) (StopsAt L.fails L.is_malformed answering.new Unanswered.Wire) (R.remaining reader.old) (W.contents writer.old) (W.contents writer.new) }
+    ensures wire { IsErrOf result ToolFault.Wire → TellsUntilIn (L.texts answering.old) L.begins (StopsAt L.fails L.is_malformed answering.new Unanswered.Wire) (R.remaining reader.old) (W.contents writer.old) (W.contents writer.new) }
     // A write may also fail while these answers are written: `Write` is reported then.
     ensures write_failed { IsErrOf result ToolFault.Write → HasRisen (W.failed writer.old) (W.failed writer.new) }
     ensures wire_failed { IsErrOf result ToolFault.Wire → L.failed answering.new ≡ one_more (L.failed answering.old) }

@@ -2,14 +2,14 @@
 
 ghost use Rattle.std.specs.Prelude.{◌≡◌, ◌≢◌, ◌≤◌, ◌∷◌, ◌++◌, ℕ, [], Err, length, string_bytes, OnOk, OnErr, IsErrOf};
 ghost use Rattle.std.specs.Io.KnownBytes.{Appends};
-ghost use Rattle.nd_lines.specs.Answers.{TellsUpTo, ToAny, IsMalformed};
+ghost use Rattle.nd_lines.specs.Answers.{TellsUpTo, UpInto, IsMalformed, IsPart};
 ghost use Rattle.nd_lines.specs.Counts.{HasRisen, one_more};
 ghost use Rattle.nd_lines.specs.Lines.{longest_line};
 ghost use Rattle.nd_lines.specs.Stop.{fault_at, StopsAt, Stopped};
 ghost use Rattle.nd_lines.specs.Told.{TellsFirst};
 ghost use Rattle.nd_lines.specs.Written.{AppendsFront, AppendsUpTo, much_text};
 
-use crate::answering::{Answering, Unanswered};
+use crate::answering::{Answering, Extent, Unanswered};
 use crate::output::{Output, WriteFault, write_whole};
 use crate::tool_fault::ToolFault;
 use std::alloc::Allocator;
@@ -21,7 +21,7 @@ const MUCH_TEXT: usize = 32768;
 #[derive(Drop)]
 pub struct Unwritten<A: Allocator> {
     text: String<A>,
-    /// The answer to one line. After a fault it is the beginning of one, which is not written.
+    /// The answer to one line, or a part of it. After a fault it is what was appended before the fault, which is not written.
     answer: String<A>,
     ghost few: { length (string_bytes text) ≤ much_text },
 }
@@ -48,7 +48,7 @@ impl<A: Allocator> Unwritten<A> {
         write_and_clear(&mut self.text, writer)
     }
 
-    /// Answers one line. Writes if the text is long, and before a line without an answer ends the run.
+    /// Answers one line, part after part. Writes if the text is long, and before a line without an answer ends the run.
     pub fn answer_line<L: Answering, W: Output>(
         &mut self,
         line: &[u8],
@@ -61,21 +61,24 @@ impl<A: Allocator> Unwritten<A> {
         ensures numbered { (n : ℕ) → IsErrOf result (ToolFault.Line n) → n ≡ number }
         ensures malformed { (n : ℕ) → IsErrOf result (ToolFault.Line n) → IsMalformed (L.texts answering.old answering.new) line.now }
         ensures written { (n : ℕ) → IsErrOf result (ToolFault.Line n) → Appends (W.contents writer.old) (W.contents writer.new) (string_bytes self.old.text) }
-        ensures memory { IsErrOf result ToolFault.Memory → Stopped (W.contents writer.old) (W.contents writer.new) (string_bytes self.old.text) (StopsAt L.fails L.is_malformed answering.new Unanswered.Memory answering.old line.now) }
-        ensures wire { IsErrOf result ToolFault.Wire → Stopped (W.contents writer.old) (W.contents writer.new) (string_bytes self.old.text) (StopsAt L.fails L.is_malformed answering.new Unanswered.Wire answering.old line.now) }
-        ensures front { OnErr result (TellsFirst (ToAny (L.texts answering.old)) number (line.now ∷ []) (string_bytes self.old.text) (W.contents writer.old) (W.contents writer.new)) }
+        ensures memory { IsErrOf result ToolFault.Memory → Stopped (W.contents writer.old) (W.contents writer.new) (string_bytes self.old.text) (IsPart L.begins answering.old line.now) (StopsAt L.fails L.is_malformed answering.new Unanswered.Memory answering.old line.now) }
+        ensures wire { IsErrOf result ToolFault.Wire → Stopped (W.contents writer.old) (W.contents writer.new) (string_bytes self.old.text) (IsPart L.begins answering.old line.now) (StopsAt L.fails L.is_malformed answering.new Unanswered.Wire answering.old line.now) }
+        ensures front { OnErr result (TellsFirst (UpInto (L.texts answering.old) L.begins) number (line.now ∷ []) (string_bytes self.old.text) (W.contents writer.old) (W.contents writer.new)) }
         ensures write_failed { IsErrOf result ToolFault.Write → HasRisen (W.failed writer.old) (W.failed writer.new) }
         ensures wire_failed { IsErrOf result ToolFault.Wire → L.failed answering.new ≡ one_more (L.failed answering.old) }
         ensures wire_carried { result ≢ Err ToolFault.Wire → result ≢ Err ToolFault.Write → L.failed answering.new ≡ L.failed answering.old }
         ensures never_read { result ≢ Err ToolFault.Read }
         ensures never_falls { W.failed writer.old ≤ W.failed writer.new }
     {
-        self.answer.clear();
-        match answering.answer(line, &mut self.answer) {
-            Ok(()) => Ok(self.keep_answer(writer)?),
-            Err(why) => {
-                self.write_out(writer)?;
-                Err(fault_at(number, why))
+        loop {
+            self.answer.clear();
+            match answering.answer(line, &mut self.answer) {
+                Ok(Extent::Whole) => return Ok(self.keep_answer(writer)?),
+                Ok(Extent::InPart) => self.keep_answer(writer)?,
+                Err(why) => {
+                    self.write_out(writer)?;
+                    return Err(fault_at(number, why));
+                }
             }
         }
     }

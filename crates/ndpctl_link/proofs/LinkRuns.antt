@@ -121,6 +121,8 @@ module _ {W R A : Type 0} (arrives : ℕ → List ℕ → List ℕ → Type 0) (
         end = to.on.end;
         text = until.text;
         is_theirs = (to.on, refl);
+        part = until.part;
+        begun = until.begun;
         written = until.written;
         stops = record { at = fails.0; event = fails.1; says = fails.2; end = passed.0; passes = passed.1; stands = passed.2 };
       }

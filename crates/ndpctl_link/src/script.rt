@@ -15,7 +15,7 @@ ghost use Rattle.ndpctl_link.specs.Answer.{AnswersEvent, Passes};
 
 use crate::line::{LinkLine, read_line};
 use crate::told::write_told;
-use nd_lines::answering::{Answering, Unanswered};
+use nd_lines::answering::{Answering, Extent, Unanswered};
 use nd_link::{Link, LinkEvent, LinkFault, Told, Wire};
 use nd_random::Source;
 use std::alloc::{AllocError, Allocator};
@@ -72,6 +72,11 @@ impl<W: Wire, A: Allocator + Copy> Answering for LinkScript<W, A> {
 
     ghost is_malformed = { SaysNothing IsLinkLine };
 
+    // Each line is answered whole.
+    ghost begins = { λ _ _ _. ⊥ };
+
+    ghost left = { λ _. 0 };
+
     ghost fails = { λ script line later why. FailsAt stream_of_source script.link line later.link why };
 
     ghost failed = { λ script. W.failed script.link.wire };
@@ -84,10 +89,10 @@ impl<W: Wire, A: Allocator + Copy> Answering for LinkScript<W, A> {
         &mut self,
         line: &[u8],
         text: &mut String<B>,
-    ) -> Result<(), Unanswered> {
+    ) -> Result<Extent, Unanswered> {
         match self.read(line) {
             Ok(Some(read)) => match self.event(read.at, read.event, text) {
-                Ok(()) => Ok(()),
+                Ok(()) => Ok(Extent::Whole),
                 Err(LinkFault::Memory) => Err(Unanswered::Memory),
                 Err(LinkFault::Wire) => Err(Unanswered::Wire),
             },

@@ -17,5 +17,6 @@ pub mod PolicyWords
 pub mod Lines
 pub mod Labels
 pub mod Said
+pub mod InPart
 pub mod Runs
 pub mod OneText

@@ -2,12 +2,12 @@
 
 ghost use Rattle.std.specs.Prelude.{◌≢◌, ◌⊎◌, ℕ, IfOk, OnOk, OnErr, IsErrOf, Some, None, Err};
 ghost use Rattle.nd_lines.specs.Counts.{HasRisen, HasGrownBy, most_reads};
-ghost use Rattle.nd_lines.specs.Told.{TellsAll, TellsFront, TellsBeginning, TellsAsRead, TellsToMemory};
+ghost use Rattle.nd_lines.specs.Told.{TellsAll, TellsFrontOf, TellsBeginning, TellsAsRead, TellsToMemoryOf};
 ghost use Rattle.nd_chronicle.specs.History.{beginning};
 ghost use Rattle.nd_node.specs.NodeKept.{Stands};
 ghost use Rattle.ndpctl_run.specs.Line.{IsLine};
 ghost use Rattle.ndpctl_run.specs.Said.{SaysNothing};
-ghost use Rattle.ndpctl_run.specs.Script.{IsText};
+ghost use Rattle.ndpctl_run.specs.Script.{IsFront, IsText};
 ghost use Rattle.ndpctl_run.specs.Start.{start_of};
 
 use crate::options::RunOptions;
@@ -22,8 +22,9 @@ use std::alloc::{AllocError, Allocator};
 
 /// Runs a node that starts at 0 on the lines of `reader`, and writes its answers to `writer`, up to the first malformed line.
 ///
-/// **What is written is the text of the chronicle of what the lines say**: all of it, or all before the malformed line. If memory runs out
-/// at a line, it is the text of all lines before that one. If a read or a write fails, it is a beginning of that text.
+/// **What is written is the text of the chronicle of what the lines say**: all of it, or all before the malformed line. If memory runs out at a
+/// line, it is the text of all lines before that one, and nothing or some of what is due before the event of that line. If a read or a write fails,
+/// it is a beginning of the text of all lines.
 pub fn run_script<I: Input, O: Output, R: Rng + Drop, A: Allocator + Copy>(
     alloc: A,
     reader: &mut I,
@@ -32,14 +33,15 @@ pub fn run_script<I: Input, O: Output, R: Rng + Drop, A: Allocator + Copy>(
 ) -> Result<(), ToolFault>
     ensures ok { OnOk result (TellsAll (IsText (start_of options (R.stream options.generator))) (I.remaining reader.old) (O.contents writer.old) (O.contents writer.new) None) }
     ensures line { (n : ℕ) → IsErrOf result (ToolFault.Line n) → TellsAll (IsText (start_of options (R.stream options.generator))) (I.remaining reader.old) (O.contents writer.old) (O.contents writer.new) (Some n) }
-    ensures front { OnErr result (TellsFront (IsText (start_of options (R.stream options.generator))) (I.remaining reader.old) (O.contents writer.old) (O.contents writer.new)) }
+    ensures front { OnErr result (TellsFrontOf (IsFront (start_of options (R.stream options.generator))) (I.remaining reader.old) (O.contents writer.old) (O.contents writer.new)) }
     ensures beginning { OnErr result (TellsBeginning (IsText (start_of options (R.stream options.generator))) (I.remaining reader.old) (O.contents writer.old) (O.contents writer.new)) }
     ensures read_failed { IsErrOf result ToolFault.Read → HasRisen (I.failed reader.old) (I.failed reader.new) ⊎ HasGrownBy most_reads (I.given reader.old) (I.given reader.new) }
     // If a read fails, the answers to all lines that were read before it are written.
     ensures answered { IsErrOf result ToolFault.Read → TellsAsRead (IsText (start_of options (R.stream options.generator))) (I.remaining reader.old) (I.remaining reader.new) (O.contents writer.old) (O.contents writer.new) }
     ensures write_failed { IsErrOf result ToolFault.Write → HasRisen (O.failed writer.old) (O.failed writer.new) }
-    // Out of memory: the answers to all lines before the one at which it ran out are written, whole. That line is not malformed.
-    ensures memory { IsErrOf result ToolFault.Memory → TellsToMemory (IsText (start_of options (R.stream options.generator))) (SaysNothing IsLine) (I.remaining reader.old) (I.remaining reader.new) (O.contents writer.old) (O.contents writer.new) }
+    // Out of memory: the answers to all lines before the one at which it ran out are written, whole, and of the answer to that line nothing or a
+    // beginning. That line is not malformed.
+    ensures memory { IsErrOf result ToolFault.Memory → TellsToMemoryOf (IsFront (start_of options (R.stream options.generator))) (SaysNothing IsLine) (I.remaining reader.old) (I.remaining reader.new) (O.contents writer.old) (O.contents writer.new) }
     ensures never_wire { result ≢ Err ToolFault.Wire }
 {
     crate::laws::one_reading();

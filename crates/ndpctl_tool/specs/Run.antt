@@ -1,11 +1,11 @@
 -- What is written for what is asked.
 use Rattle.std.specs.Prelude.{◌≡◌, ℕ, List, None}
-use Rattle.nd_lines.specs.Answers.{Texts, Only}
+use Rattle.nd_lines.specs.Answers.{Fronts, Texts, Only, Wholly}
 use Rattle.nd_lines.specs.Each.{text_of_each, malformed_of_each}
 use Rattle.ndpctl_check.specs.Check.{answer_to}
 use Rattle.ndpctl_run.specs.Line.{IsLine}
 use Rattle.ndpctl_run.specs.Said.{SaysNothing}
-use Rattle.ndpctl_run.specs.Script.{IsText}
+use Rattle.ndpctl_run.specs.Script.{IsFront, IsText}
 use Rattle.ndpctl_run.specs.Start.{start_of}
 use Rattle.nd_random.specs.Source.{stream_of_source}
 use Rattle.ndpctl_args.specs.declared.asked.Asked.{Asked}
@@ -21,6 +21,13 @@ texts_asked Check = Only (text_of_each answer_to) (malformed_of_each answer_to)
 texts_asked (Run options) =
     IsText (start_of options (stream_of_source options.generator))
 texts_asked (Link carrier) = IsLinkText
+
+-- the texts of the first few of its lines, a run of a node's with a beginning of the answer to the next line behind them
+abbrev pub fronts_asked : Asked → Fronts
+fronts_asked Check = Wholly (texts_asked Check)
+fronts_asked (Run options) =
+    IsFront (start_of options (stream_of_source options.generator))
+fronts_asked (Link carrier) = Wholly IsLinkText
 
 -- which of its lines are malformed
 abbrev pub is_malformed_asked : Asked → List ℕ → Type 0

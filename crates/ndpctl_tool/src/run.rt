@@ -2,8 +2,8 @@
 
 ghost use Rattle.std.specs.Prelude.{◌≢◌, ◌⊎◌, ℕ, OnOk, OnErr, IsErrOf, Some, None, Err};
 ghost use Rattle.nd_lines.specs.Counts.{HasRisen, HasGrownBy, most_reads};
-ghost use Rattle.nd_lines.specs.Told.{TellsAll, TellsFront, TellsBeginning, TellsAsRead, TellsToMemory};
-ghost use Rattle.ndpctl_tool.specs.Run.{IsClaimed, is_malformed_asked, texts_asked};
+ghost use Rattle.nd_lines.specs.Told.{TellsAll, TellsFrontOf, TellsBeginning, TellsAsRead, TellsToMemoryOf};
+ghost use Rattle.ndpctl_tool.specs.Run.{IsClaimed, fronts_asked, is_malformed_asked, texts_asked};
 
 use crate::link::{link_over_datagrams, link_over_memory};
 use nd_lines::input::Input;
@@ -26,14 +26,15 @@ pub fn run<N: Net, R: Input, W: Output, A: Allocator + Copy>(
 ) -> Result<(), ToolFault>
     ensures ok { IsClaimed asked → OnOk result (TellsAll (texts_asked asked) (R.remaining reader.old) (W.contents writer.old) (W.contents writer.new) None) }
     ensures line { IsClaimed asked → (n : ℕ) → IsErrOf result (ToolFault.Line n) → TellsAll (texts_asked asked) (R.remaining reader.old) (W.contents writer.old) (W.contents writer.new) (Some n) }
-    ensures front { IsClaimed asked → OnErr result (TellsFront (texts_asked asked) (R.remaining reader.old) (W.contents writer.old) (W.contents writer.new)) }
+    ensures front { IsClaimed asked → OnErr result (TellsFrontOf (fronts_asked asked) (R.remaining reader.old) (W.contents writer.old) (W.contents writer.new)) }
     ensures beginning { IsClaimed asked → OnErr result (TellsBeginning (texts_asked asked) (R.remaining reader.old) (W.contents writer.old) (W.contents writer.new)) }
     ensures read_failed { IsErrOf result ToolFault.Read → HasRisen (R.failed reader.old) (R.failed reader.new) ⊎ HasGrownBy most_reads (R.given reader.old) (R.given reader.new) }
     // If a read fails, the answers to all lines that were read before it are written.
     ensures answered { IsClaimed asked → IsErrOf result ToolFault.Read → TellsAsRead (texts_asked asked) (R.remaining reader.old) (R.remaining reader.new) (W.contents writer.old) (W.contents writer.new) }
     ensures write_failed { IsErrOf result ToolFault.Write → HasRisen (W.failed writer.old) (W.failed writer.new) }
-    // Out of memory: the answers to all lines before the one at which it ran out are written, whole. That line is not malformed.
-    ensures memory { IsClaimed asked → IsErrOf result ToolFault.Memory → TellsToMemory (texts_asked asked) (is_malformed_asked asked) (R.remaining reader.old) (R.remaining reader.new) (W.contents writer.old) (W.contents writer.new) }
+    // Out of memory: the answers to all lines before the one at which it ran out are written, whole, and in a run of a node nothing or a beginning
+    // of the answer to that line. That line is not malformed.
+    ensures memory { IsClaimed asked → IsErrOf result ToolFault.Memory → TellsToMemoryOf (fronts_asked asked) (is_malformed_asked asked) (R.remaining reader.old) (R.remaining reader.new) (W.contents writer.old) (W.contents writer.new) }
     ensures never_wire { IsClaimed asked → result ≢ Err ToolFault.Wire }
 {
     match asked {

@@ -2,7 +2,7 @@ use Rattle.std.proofs.Common.{rules, arith, ap, inr, Ok, Some, ◌≡◌, ◌∙
 use Rattle.std.specs.Prelude.{string_bytes, IsErrOf}
 use Rattle.std.proofs.lemmas.Result.{on_err_weaker}
 use Rattle.nd_lines.specs.Stop.{StopsAt}
-use Rattle.nd_lines.specs.Told.{TellsAll, TellsUntil}
+use Rattle.nd_lines.specs.Told.{TellsAll, TellsUntilIn}
 use Rattle.nd_lines.specs.declared.answering.Unanswered.TheVariants as unanswered
 use Rattle.nd_lines.specs.declared.tool_fault.ToolFault.TheVariants.{Line, Memory, Wire}
 use Rattle.nd_lines.specs.Ahead.{in_hand}
@@ -13,17 +13,17 @@ use Rattle.nd_lines.proofs.run.run_lines.Goals as goal
 
 pub returns-in_err-clone-clause-front : goal.returns-in_err-clone-clause-front
 returns-in_err-clone-clause-front g c =
-    let front = TellsFront-nothing (g.L.Answering.texts c.args.answering.now) c.args.answering.now (g.R.Input.remaining c.args.reader.now) (g.W.Output.contents c.args.writer.now) (g.met.L.Answering.no_lines c.args.answering.now) in
+    let front = TellsFront-nothing (g.L.Answering.texts c.args.answering.now) g.L.Answering.begins c.args.answering.now (g.R.Input.remaining c.args.reader.now) (g.W.Output.contents c.args.writer.now) (g.met.L.Answering.no_lines c.args.answering.now) in
     search rules
 
 pub returns-in_err-clone-2-clause-front : goal.returns-in_err-clone-2-clause-front
 returns-in_err-clone-2-clause-front g c =
-    let front = TellsFront-nothing (g.L.Answering.texts c.args.answering.now) c.args.answering.now (g.R.Input.remaining c.args.reader.now) (g.W.Output.contents c.args.writer.now) (g.met.L.Answering.no_lines c.args.answering.now) in
+    let front = TellsFront-nothing (g.L.Answering.texts c.args.answering.now) g.L.Answering.begins c.args.answering.now (g.R.Input.remaining c.args.reader.now) (g.W.Output.contents c.args.writer.now) (g.met.L.Answering.no_lines c.args.answering.now) in
     search rules
 
 pub returns-in_err-ahead-clause-front : goal.returns-in_err-ahead-clause-front
 returns-in_err-ahead-clause-front g c =
-    let front = TellsFront-nothing (g.L.Answering.texts c.args.answering.now) c.args.answering.now (g.R.Input.remaining c.args.reader.now) (g.W.Output.contents c.args.writer.now) (g.met.L.Answering.no_lines c.args.answering.now) in
+    let front = TellsFront-nothing (g.L.Answering.texts c.args.answering.now) g.L.Answering.begins c.args.answering.now (g.R.Input.remaining c.args.reader.now) (g.W.Output.contents c.args.writer.now) (g.met.L.Answering.no_lines c.args.answering.now) in
     search rules
 
 pub loop-count-preserved-in-Whole : goal.loop-count-preserved-in-Whole
@@ -41,16 +41,16 @@ loop-count-preserved-in-Whole g c =
 pub returns-in_err-answer_line-in-Whole-clause-front : goal.returns-in_err-answer_line-in-Whole-clause-front
 returns-in_err-answer_line-in-Whole-clause-front g c =
     let left = rw c.in_hand.ensures.bytes at c.in_err-answer_line-in-Whole.ensures.front in
-    let front = Along-line_front _ _ _ _ _ _ _ (g.W.Output.contents c.answer_line.new.writer) _ _ _ c.loop-count.invariant.along c.in-Whole.ensures.2 left in
+    let front = Along-line_front _ _ _ _ _ _ _ _ (g.W.Output.contents c.answer_line.new.writer) _ _ _ c.loop-count.invariant.along c.in-Whole.ensures.2 left in
     search rules
 
 pub returns-in_err-write_out-in-TooLong-clause-front : goal.returns-in_err-write_out-in-TooLong-clause-front
 returns-in_err-write_out-in-TooLong-clause-front g c =
-    let front = Along-waiting_front _ _ _ _ _ _ _ (g.W.Output.contents c.write_out.new.writer) _ _ c.loop-count.invariant.along c.loop-count.answering (g.met.L.Answering.no_lines c.loop-count.answering) c.in_err-write_out-in-TooLong.ensures.front in
+    let front = Along-waiting_front _ _ g.L.Answering.begins _ _ _ _ _ (g.W.Output.contents c.write_out.new.writer) _ _ c.loop-count.invariant.along c.loop-count.answering (g.met.L.Answering.no_lines c.loop-count.answering) c.in_err-write_out-in-TooLong.ensures.front in
     search rules
 
 pub returns-in-TooLong-clause-front : goal.returns-in-TooLong-clause-front
-returns-in-TooLong-clause-front g c = Along-waiting_front _ _ _ _ _ _ _ _ _ _ c.loop-count.invariant.along c.loop-count.answering (g.met.L.Answering.no_lines c.loop-count.answering) (AppendsFront-whole _ _ _ c.in_ok-write_out-in-TooLong.ensures.ok)
+returns-in-TooLong-clause-front g c = Along-waiting_front _ _ g.L.Answering.begins _ _ _ _ _ _ _ _ c.loop-count.invariant.along c.loop-count.answering (g.met.L.Answering.no_lines c.loop-count.answering) (AppendsFront-whole _ _ _ c.in_ok-write_out-in-TooLong.ensures.ok)
 
 pub returns-in-TooLong-clause-line : goal.returns-in-TooLong-clause-line
 returns-in-TooLong-clause-line g c =
@@ -59,12 +59,12 @@ returns-in-TooLong-clause-line g c =
 
 pub returns-in_err-write_out-in-Unfinished-clause-front : goal.returns-in_err-write_out-in-Unfinished-clause-front
 returns-in_err-write_out-in-Unfinished-clause-front g c =
-    let front = Along-waiting_front _ _ _ _ _ _ _ (g.W.Output.contents c.write_out-in-Unfinished.new.writer) _ _ c.loop-count.invariant.along c.loop-count.answering (g.met.L.Answering.no_lines c.loop-count.answering) c.in_err-write_out-in-Unfinished.ensures.front in
+    let front = Along-waiting_front _ _ g.L.Answering.begins _ _ _ _ _ (g.W.Output.contents c.write_out-in-Unfinished.new.writer) _ _ c.loop-count.invariant.along c.loop-count.answering (g.met.L.Answering.no_lines c.loop-count.answering) c.in_err-write_out-in-Unfinished.ensures.front in
     search rules
 
 pub returns-in_err-fill-in-Unfinished-clause-front : goal.returns-in_err-fill-in-Unfinished-clause-front
 returns-in_err-fill-in-Unfinished-clause-front g c =
-    let front = Along-waiting_front _ _ _ _ _ _ _ (g.W.Output.contents c.write_out-in-Unfinished.new.writer) _ _ c.loop-count.invariant.along c.loop-count.answering (g.met.L.Answering.no_lines c.loop-count.answering) (AppendsFront-whole _ _ _ c.in_ok-write_out-in-Unfinished.ensures.ok) in
+    let front = Along-waiting_front _ _ g.L.Answering.begins _ _ _ _ _ (g.W.Output.contents c.write_out-in-Unfinished.new.writer) _ _ c.loop-count.invariant.along c.loop-count.answering (g.met.L.Answering.no_lines c.loop-count.answering) (AppendsFront-whole _ _ _ c.in_ok-write_out-in-Unfinished.ensures.ok) in
     search rules
 
 pub loop-count-preserved : goal.loop-count-preserved
@@ -88,7 +88,7 @@ returns-then-not-branch-clause-front g c =
     let along = Along-kept _ _ _ _ _ _ _ _ _ _ _ written filled.bytes in
     let ended = filled.end (ap Ok c.if-not-branch.true) in
     let front = rw c.in_hand-then-not-branch.ensures.bytes at c.answer_last.ensures.front in
-    on_err_weaker c.answer_last.result (Along-end_front _ _ _ _ _ _ _ _ _ _ along c.in_ok-write_out-in-Unfinished.ensures.emptied ended) front
+    on_err_weaker c.answer_last.result (Along-end_front _ _ _ _ _ _ _ _ _ _ _ along c.in_ok-write_out-in-Unfinished.ensures.emptied ended) front
 
 pub loop-count-init : goal.loop-count-init
 loop-count-init g c =
@@ -119,18 +119,18 @@ returns-then-not-branch-clause-line g c = λ n is.
 
 pub returns-in_err-answer_line-in-Whole-clause-memory : goal.returns-in_err-answer_line-in-Whole-clause-memory
 returns-in_err-answer_line-in-Whole-clause-memory g c =
-    let until : IsErrOf c.answer_line.result Memory → TellsUntil (g.L.Answering.texts c.args.answering.now) (StopsAt g.L.Answering.fails g.L.Answering.is_malformed c.answer_line.new.answering unanswered.Memory) (g.R.Input.remaining c.args.reader.now) (g.W.Output.contents c.args.writer.now) (g.W.Output.contents c.answer_line.new.writer) =
+    let until : IsErrOf c.answer_line.result Memory → TellsUntilIn (g.L.Answering.texts c.args.answering.now) g.L.Answering.begins (StopsAt g.L.Answering.fails g.L.Answering.is_malformed c.answer_line.new.answering unanswered.Memory) (g.R.Input.remaining c.args.reader.now) (g.W.Output.contents c.args.writer.now) (g.W.Output.contents c.answer_line.new.writer) =
     λ is.
     let stopped = rw c.in_hand.ensures.bytes at (c.answer_line.ensures.memory is) in
-    Along-stopped _ _ _ _ _ _ _ _ _ _ _ _ c.loop-count.invariant.along c.in-Whole.ensures.2 c.loop-count.answering (g.met.L.Answering.no_lines c.loop-count.answering) stopped.0 stopped.1 in
+    Along-stopped _ _ _ _ _ _ _ _ _ _ _ _ _ c.loop-count.invariant.along c.in-Whole.ensures.2 c.loop-count.answering (g.met.L.Answering.no_lines c.loop-count.answering) stopped.0 stopped.1 stopped.2 stopped.3 in
     λ is. inr (until (search rules))
 
 pub returns-in_err-answer_line-in-Whole-clause-wire : goal.returns-in_err-answer_line-in-Whole-clause-wire
 returns-in_err-answer_line-in-Whole-clause-wire g c =
-    let until : IsErrOf c.answer_line.result Wire → TellsUntil (g.L.Answering.texts c.args.answering.now) (StopsAt g.L.Answering.fails g.L.Answering.is_malformed c.answer_line.new.answering unanswered.Wire) (g.R.Input.remaining c.args.reader.now) (g.W.Output.contents c.args.writer.now) (g.W.Output.contents c.answer_line.new.writer) =
+    let until : IsErrOf c.answer_line.result Wire → TellsUntilIn (g.L.Answering.texts c.args.answering.now) g.L.Answering.begins (StopsAt g.L.Answering.fails g.L.Answering.is_malformed c.answer_line.new.answering unanswered.Wire) (g.R.Input.remaining c.args.reader.now) (g.W.Output.contents c.args.writer.now) (g.W.Output.contents c.answer_line.new.writer) =
     λ is.
     let stopped = rw c.in_hand.ensures.bytes at (c.answer_line.ensures.wire is) in
-    Along-stopped _ _ _ _ _ _ _ _ _ _ _ _ c.loop-count.invariant.along c.in-Whole.ensures.2 c.loop-count.answering (g.met.L.Answering.no_lines c.loop-count.answering) stopped.0 stopped.1 in
+    Along-stopped _ _ _ _ _ _ _ _ _ _ _ _ _ c.loop-count.invariant.along c.in-Whole.ensures.2 c.loop-count.answering (g.met.L.Answering.no_lines c.loop-count.answering) stopped.0 stopped.1 stopped.2 stopped.3 in
     λ is. until (search rules)
 
 pub returns-then-not-branch-clause-memory : goal.returns-then-not-branch-clause-memory
@@ -139,7 +139,7 @@ returns-then-not-branch-clause-memory g c = λ is.
     let filled = c.in_ok-fill-in-Unfinished.ensures in
     let along = Along-kept _ _ _ _ _ _ _ _ _ _ _ written filled.bytes in
     let told = rw c.in_hand-then-not-branch.ensures.bytes at (c.answer_last.ensures.memory is) in
-    inr (Along-end_stopped _ _ _ _ _ _ _ _ _ _ _ along c.in_ok-write_out-in-Unfinished.ensures.emptied (filled.end (ap Ok c.if-not-branch.true)) told)
+    inr (Along-end_stopped _ _ _ _ _ _ _ _ _ _ _ _ along c.in_ok-write_out-in-Unfinished.ensures.emptied (filled.end (ap Ok c.if-not-branch.true)) told)
 
 pub returns-then-not-branch-clause-wire : goal.returns-then-not-branch-clause-wire
 returns-then-not-branch-clause-wire g c = λ is.
@@ -147,4 +147,4 @@ returns-then-not-branch-clause-wire g c = λ is.
     let filled = c.in_ok-fill-in-Unfinished.ensures in
     let along = Along-kept _ _ _ _ _ _ _ _ _ _ _ written filled.bytes in
     let told = rw c.in_hand-then-not-branch.ensures.bytes at (c.answer_last.ensures.wire is) in
-    Along-end_stopped _ _ _ _ _ _ _ _ _ _ _ along c.in_ok-write_out-in-Unfinished.ensures.emptied (filled.end (ap Ok c.if-not-branch.true)) told
+    Along-end_stopped _ _ _ _ _ _ _ _ _ _ _ _ along c.in_ok-write_out-in-Unfinished.ensures.emptied (filled.end (ap Ok c.if-not-branch.true)) told

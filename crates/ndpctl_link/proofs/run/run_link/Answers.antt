@@ -1,6 +1,7 @@
 use Rattle.std.proofs.Common.{None, Some}
 use Rattle.std.proofs.lemmas.Result.{on_ok_weaker, on_err_weaker}
-use Rattle.nd_lines.specs.ToldLaws.{tells_all_by, tells_front_by, tells_as_read_by, tells_beginning, tells_to_memory}
+use Rattle.nd_lines.specs.Answers.{Wholly}
+use Rattle.nd_lines.specs.ToldLaws.{in_part_wholly, tells_all_by, tells_front_by, tells_as_read_by, tells_beginning, tells_to_memory}
 use Rattle.nd_random.specs.Source.{stream_of_source}
 use Rattle.ndpctl_link.specs.Script.{RunsOn}
 use Rattle.ndpctl_link.proofs.LinkRuns.{from_log, keeps_one, log_goes_on, to_link, until_wire}
@@ -28,12 +29,12 @@ returns-clause-one_holder_at_line g c = λ n is faithful before log s.
 
 pub returns-clause-front : goal.returns-clause-front
 returns-clause-front g c = λ faithful log s.
-    on_err_weaker c.run_lines.result (tells_front_by _ _ (λ n lines told found given. from_log g.W.Wire.arrives stream_of_source c.args.script.now.link log faithful given.0.link s n lines told found given.1) _ _ _) c.run_lines.ensures.front
+    on_err_weaker c.run_lines.result (tells_front_by _ _ (in_part_wholly _ _ (λ end. from_log g.W.Wire.arrives stream_of_source c.args.script.now.link log faithful end.link s)) _ _ _) c.run_lines.ensures.front
 
 pub returns-clause-beginning : goal.returns-clause-beginning
 returns-clause-beginning g c = λ faithful log s.
     on_err_weaker c.run_lines.result
-    (λ front. tells_beginning (RunsOn log) (log_goes_on log) _ _ _ (tells_front_by _ _ (λ n lines told found given. from_log g.W.Wire.arrives stream_of_source c.args.script.now.link log faithful given.0.link s n lines told found given.1) _ _ _ front)) c.run_lines.ensures.front
+    (λ front. tells_beginning (RunsOn log) (Wholly (RunsOn log)) (log_goes_on log) _ _ _ (tells_front_by _ _ (in_part_wholly _ _ (λ end. from_log g.W.Wire.arrives stream_of_source c.args.script.now.link log faithful end.link s)) _ _ _ front)) c.run_lines.ensures.front
 
 pub returns-clause-line : goal.returns-clause-line
 returns-clause-line g c = λ n is faithful log s.
@@ -45,7 +46,7 @@ returns-clause-answered g c = λ is faithful log s.
 
 pub returns-clause-memory : goal.returns-clause-memory
 returns-clause-memory g c = λ is faithful log s.
-    tells_to_memory _ _ _ _ _ _ (λ end. from_log g.W.Wire.arrives stream_of_source c.args.script.now.link log faithful end.link s) _ _ _ _ (c.run_lines.ensures.memory is)
+    tells_to_memory _ _ _ _ _ _ _ (in_part_wholly _ _ (λ end. from_log g.W.Wire.arrives stream_of_source c.args.script.now.link log faithful end.link s)) _ _ _ _ (c.run_lines.ensures.memory is)
 
 pub returns-clause-wire : goal.returns-clause-wire
 returns-clause-wire g c = λ is faithful log s.

@@ -14,7 +14,7 @@ returns-in-Ok-None-clause-malformed g c = λ _.
     malformed_line g.W.Wire.arrives stream_of_source c.args.self.now.link c.args.line.now (λ at event said. nothing at event said.spelled)
 
 pub returns-in-Ok-clause-answered : goal.returns-in-Ok-clause-answered
-returns-in-Ok-clause-answered g c =
+returns-in-Ok-clause-answered g c = λ _.
     let read = c.in-Ok-Some.read in
     let is : c.in-Ok-Some.field-0 ≡ Some c.in-Ok-Some.read = search rules in
     let spelled = some_is c.in-Ok-Some.field-0 c.in-Ok-Some.read (λ read. IsLinkLine c.args.line.now read.at (link_event stream_of_source read.event)) is c.in-Ok-Some.ensures.found in
