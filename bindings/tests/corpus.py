@@ -66,11 +66,11 @@ class Corpus:
     def take_of_row(self, row, line):
         """Adds a line of a row. Returns false if it is wrong."""
         mark, rest = line[0], line[1:]
-        if mark in ">|<":
+        if mark in ">|<+":
             names = re.findall(r"\{(.*?)\}", rest)
             self.named.update(names)
             said = re.sub(r"\{(.*?)\}", lambda it: self.frames.get(it[1], it[0]), rest)
-            if mark == "<":
+            if mark in "<+":
                 row.text += f"{said}\n"
             else:
                 row.script += said + ("\n" if mark == ">" else "")

@@ -4,8 +4,9 @@
 //! is the digits of the frame of that name.
 //!
 //! A line that begins with `row` begins a run and names it. `words` are its words. Behind `>` is a line of its script, and behind `|` the last one if it
-//! has no line feed. Behind `<` is a line that the run writes for the line before. `malformed N` says that line N of the script, counted from 1, ends the
-//! run with status 2. `once` says that the run is done once, without a fault.
+//! has no line feed. Behind `<` is a line that the run writes for the line before, and behind `+` one that it writes as a part of the answer, so that it is
+//! written if the run is out of memory behind it. `malformed N` says that line N of the script, counted from 1, ends the run with status 2. `once` says
+//! that the run is done once, without a fault.
 //!
 //! A line that begins with `change` names a frame that is cut and changed, and one that begins with `#` says nothing. Any other line is wrong, and so
 //! are one that names a frame that there isn't, and one that defines a frame again.

@@ -16,6 +16,8 @@ pub(crate) struct Row {
     pub(crate) text: Vec<u8>,
     /// Of each line of the script that has a line feed: where the next line begins, and how long the text is up to it.
     ends: Vec<(usize, usize)>,
+    /// How long the text is up to each part of an answer.
+    parts: Vec<usize>,
 }
 
 impl Row {
@@ -28,6 +30,7 @@ impl Row {
             script: Vec::new(alloc),
             text: Vec::new(alloc),
             ends: Vec::new(alloc),
+            parts: Vec::new(alloc),
         })
     }
 
@@ -63,13 +66,22 @@ impl Row {
         } else if let Some(line) = line.strip_prefix("|") {
             frames.expand(line, &mut self.script)
         } else if let Some(line) = line.strip_prefix("<") {
-            let is_right = frames.expand(line, &mut self.text)?;
-            self.text.push(b'\n')?;
-            self.end_text();
+            self.take_text(frames, line)
+        } else if let Some(line) = line.strip_prefix("+") {
+            let is_right = self.take_text(frames, line)?;
+            self.parts.push(self.text.len())?;
             Ok(is_right)
         } else {
             Ok(false)
         }
+    }
+
+    /// Adds a line of the text. Returns false if it is wrong.
+    fn take_text(&mut self, frames: &mut Frames, line: &str) -> Result<bool, AllocError> {
+        let is_right = frames.expand(line, &mut self.text)?;
+        self.text.push(b'\n')?;
+        self.end_text();
+        Ok(is_right)
     }
 
     /// The text so far is that of the lines so far, if the last one has a line feed.
@@ -95,11 +107,12 @@ impl Row {
         (lines, length_of_text)
     }
 
-    /// Returns true if this is the text of the first lines of the script, of none, some or all.
+    /// Returns true if this is the text of the first lines of the script, of none, some or all, or that with parts of the answer to the next line.
     pub(crate) fn is_of_first_lines(&self, text: &[u8]) -> bool {
         let is_end = text.is_empty()
             || text.len() == self.text.len()
-            || self.ends.iter().any(|end| end.1 == text.len());
+            || self.ends.iter().any(|end| end.1 == text.len())
+            || self.parts.iter().any(|end| *end == text.len());
         is_end && self.text.starts_with(text)
     }
 }

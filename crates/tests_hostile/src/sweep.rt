@@ -16,8 +16,8 @@ pub(crate) struct Refused {
     pub(crate) without_effect: u64,
 }
 
-/// Each request is refused in turn: the run is out of memory, and wrote the answers to all lines before the one at which it was; or the refused request
-/// was for a next hop to remember, and the run writes its whole text.
+/// Each request is refused in turn: the run is out of memory, and wrote the answers to all lines before the one at which it was, and perhaps parts of the
+/// answer to that one; or the refused request was for a next hop to remember, and the run writes its whole text.
 pub(crate) fn refuse_each(room: Room<'_>, row: &Row) -> Result<Option<Refused>, AllocError> {
     let mut refused = Refused {
         requests: 0,
@@ -44,7 +44,7 @@ pub(crate) fn refuse_each(room: Room<'_>, row: &Row) -> Result<Option<Refused>, 
     Ok(None)
 }
 
-/// Returns true if the run was out of memory at a line, and had answered all lines before it.
+/// Returns true if the run was out of memory at a line, and had answered all lines before it, and perhaps that one in part.
 fn is_out_of_memory(room: Room<'_>, row: &Row, ended: &Ended) -> Result<bool, AllocError> {
     let is_fault = has_fault(
         room.alloc,
