@@ -16,7 +16,7 @@ pub(crate) struct Row {
     pub(crate) text: Vec<u8>,
     /// Of each line of the script that has a line feed: where the next line begins, and how long the text is up to it.
     ends: Vec<(usize, usize)>,
-    /// How long the text is up to each part of an answer.
+    /// The length of the text up to each part of an answer.
     parts: Vec<usize>,
 }
 
