@@ -1,4 +1,4 @@
-ghost use Rattle.std.specs.Prelude.{◌≡◌, ◌-◌, [], ◌∷◌, ◌++◌, Some, None, if◌then◌else◌, ◌&&◌, not, codes, length, refl, ⊤};
+ghost use Rattle.std.specs.Prelude.{◌≡◌, [], ◌∷◌, ◌++◌, Some, None, if◌then◌else◌, ◌&&◌, not, codes, length, refl, ⊤};
 ghost use Rattle.std.specs.Str.{is_utf8, bytes_eq};
 ghost use Rattle.std.proofs.Common.{ap};
 ghost use Rattle.nd_lines.specs.Each.{text_of_each, malformed_of_each};
@@ -132,50 +132,6 @@ impl Answering for Stopping {
             return Err(Unanswered::Wire);
         }
         Err(Unanswered::Memory)
-    }
-
-    ghost no_lines = { λ _ _. tt };
-
-    ghost too_long = { λ _ _ _ _ _. tt };
-}
-
-/// Answers each line in three parts, each by the same text, up to the call at which memory is refused.
-#[derive(Drop)]
-struct InParts<'a> {
-    part: &'a str,
-    told: u8,
-    calls: u64,
-    refused: u64,
-}
-
-impl Answering for InParts<'_> {
-    ghost texts = { λ _ _ _ _ _ _. ⊤ };
-
-    ghost is_malformed = { λ _. ⊥ };
-
-    ghost begins = { λ _ _ _. ⊤ };
-
-    ghost left = { λ parts. 2 - parts.told };
-
-    ghost fails = { λ _ _ _ _. ⊤ };
-
-    ghost failed = { λ _. 0 };
-
-    fn answer<A: Allocator>(
-        &mut self,
-        _line: &[u8],
-        text: &mut String<A>,
-    ) -> Result<Extent, Unanswered> {
-        if self.calls == self.refused || text.push_str(self.part).is_err() {
-            return Err(Unanswered::Memory);
-        }
-        self.calls = self.calls.saturating_add(1);
-        if self.told < 2 {
-            self.told += 1;
-            return Ok(Extent::InPart);
-        }
-        self.told = 0;
-        Ok(Extent::Whole)
     }
 
     ghost no_lines = { λ _ _. tt };
@@ -344,60 +300,6 @@ fn each_line_failing_in_turn(rt: HostRuntime) -> Result<(), Fail> {
             }
         }
     }
-    Ok(())
-}
-
-/// All parts of the answers are written. If memory is refused at a part, all before it are.
-#[test]
-fn lines_answered_in_parts(rt: HostRuntime) -> Result<(), Fail> {
-    for (refused, ended, wanted) in [
-        (0, Err(ToolFault::Memory), b"".as_slice()),
-        (1, Err(ToolFault::Memory), b"a".as_slice()),
-        (2, Err(ToolFault::Memory), b"aa".as_slice()),
-        (3, Err(ToolFault::Memory), b"aaa".as_slice()),
-        (5, Err(ToolFault::Memory), b"aaaaa".as_slice()),
-        (6, Ok(()), b"aaaaaa".as_slice()),
-    ] {
-        for piece in [1, 100] {
-            let mut reader = Pieces::new(b"1\n2", piece);
-            let mut writer = Writing::new(Vec::new(rt.alloc()));
-            let mut parts = InParts {
-                part: "a",
-                told: 0,
-                calls: 0,
-                refused,
-            };
-            let did = run_lines(rt.alloc(), &mut reader, &mut writer, &mut parts);
-            assert!(rt; did == ended);
-            assert!(rt; writer.into_inner().as_slice() == wanted);
-        }
-    }
-    Ok(())
-}
-
-/// Parts are written before the rest of the answer is asked for: the write after the second part fails, and there is no third.
-#[test]
-fn a_write_between_parts(rt: HostRuntime) -> Result<(), Fail> {
-    let mut part = String::new(rt.alloc());
-    for _ in 0..20000 {
-        part.push('a')?;
-    }
-    let mut reader = Pieces::new(b"1\n", 100);
-    let mut writer = FailingWriter {
-        bytes: Vec::new(rt.alloc()),
-        calls: 0,
-        failing: 1,
-        failures: 0,
-    };
-    let mut parts = InParts {
-        part: part.as_str(),
-        told: 0,
-        calls: 0,
-        refused: 10,
-    };
-    let ended = run_lines(rt.alloc(), &mut reader, &mut writer, &mut parts);
-    assert!(rt; ended == Err(ToolFault::Write));
-    assert!(rt; parts.calls == 2);
     Ok(())
 }
 
