@@ -4,8 +4,9 @@
 
 `rt ci` gives a checkout the libraries of its earlier checks back, in place of those that it has just proved, and those may be of a text that nobody
 proved: a source that changed while a check built its library. So these are removed first. What lies there when `rt ci` has ended is what this run made,
-and each of it is marked as built of its sources, unless a source changed in the meantime. Then a line for each crate says how many processor minutes its
-checks took. The last line is that of `rt ci`, 'N passed, M failed'; changed sources are one more failure."""
+and each of it is marked as built of its sources, if `rt ci` passed and no source changed in the meantime: a crate that it refuses may have left a library
+too. Then a line for each crate says how many processor minutes its checks took. The last line is that of `rt ci`, 'N passed, M failed'; changed sources
+are one more failure."""
 import functools
 import glob
 import hashlib
@@ -70,7 +71,7 @@ def mark_libraries(top):
 
 
 def run_ci(top):
-    """Runs `rt ci`, prints what it prints, and returns how many passed and failed, and whether it ended by itself."""
+    """Runs `rt ci`, prints what it prints, and returns how many passed and failed."""
     last = ""
     with subprocess.Popen(["rt", "ci"], cwd=top, stdout=subprocess.PIPE, stderr=subprocess.STDOUT, text=True, errors="replace") as ran:
         for line in ran.stdout:
@@ -78,7 +79,7 @@ def run_ci(top):
             print(line, end="", flush=True)
     found = re.fullmatch(r"(\d+) passed, (\d+) failed", last)
     passed, failed = (int(found[1]), int(found[2])) if found else (0, 1)
-    return passed, failed or int(ran.returncode != 0), bool(found)
+    return passed, failed or int(ran.returncode != 0)
 
 
 def main(top):
@@ -87,12 +88,12 @@ def main(top):
     before = sum_of_sources(top)
     begun = time.monotonic()
     with Minutes(top) as minutes:
-        passed, failed, has_ended = run_ci(top)
+        passed, failed = run_ci(top)
     print(*minutes.lines(), f"minutes: by the clock: {(time.monotonic() - begun) / 60:.1f}", sep="\n", flush=True)
     if sum_of_sources(top) != before:
         print("FAILED: crates, crates.txt or HANDLES changed while rt ci ran, so what it proved is not what is there")
         failed += 1
-    elif has_ended:
+    elif failed == 0:
         mark_libraries(top)
     print(f"{passed} passed, {failed} failed")
     return 1 if failed else 0
