@@ -31,7 +31,7 @@ use Rattle.nd_dns.specs.AnnouncedNames.{same_name}
 use Rattle.nd_chronicle.specs.Start.{Start, link_local_key}
 use Rattle.nd_chronicle.specs.Happening.{Chronicle, Heard, ClearedRedirects, RedirectMade, Sent, Shown, Limit, Neighbours, Refusal, Full, Passed, TooLate, last_moment}
 use Rattle.nd_chronicle.specs.Histories.{neighbour_history, prefix_history, address_history, server_history, name_history, route_history, router_history}
-use Rattle.nd_chronicle.specs.Message.{said, HasWay, PlaceFor, RoomFor, WayFor, failing_for, makes_way, releasing}
+use Rattle.nd_chronicle.specs.Message.{said, HasWay, PlaceFor, RoomBy, RoomFor, WayFor, failing_for, makes_way, releasing}
 use Rattle.nd_chronicle.specs.RouterAdvertisement.{forming, then_advertised}
 use Rattle.nd_chronicle.specs.ByHand.{FormsByHand, no_room, setting}
 use Rattle.nd_chronicle.specs.Resolve.{PathAdds, ResolveAdds, Wants, WantsIfPlaced}
@@ -118,12 +118,16 @@ module _ (start : Start) (c : Chronicle) (now : ℕ) where
     abbrev heard_behind : Option ℕ → Chronicle → Chronicle
     heard_behind gone placed = failing_for now gone (neighbour_history c) ((now, Heard source destination message) ∷ placed)
 
+    one_room_by : (news : Option (ℕ × RowKind)) (gone : Option ℕ) (d e : Chronicle) → RoomBy start c now news gone d → RoomBy start c now news gone e → d ≡ e
+    one_room_by news None d e h k = one_place_for c news d e h k
+    one_room_by news (Some gone) d e h k = h ∙ sym k
+
     -- there is one place, with one that gives way
     one_room_for : (then' : Option ℕ → Chronicle → Type 0) (news : Option (ℕ × RowKind)) (a b : Option ℕ) (d e : Chronicle) → RoomFor start c now news a d → RoomFor start c now news b e → then' a d → then' b e
     one_room_for then' news a b d e h k t =
         let gone : a ≡ b = one_way news a b h.way k.way in
-        let place : PlaceFor start (with_pushed now b c) now news d = subst (λ (o : Option ℕ). PlaceFor start (with_pushed now o c) now news d) gone h.place in
-        subst (λ (x : Chronicle). then' b x) (one_place_for (with_pushed now b c) news d e place k.place) (subst (λ (o : Option ℕ). then' o d) gone t)
+        let place : RoomBy start c now news b d = subst (λ (o : Option ℕ). RoomBy start c now news o d) gone h.place in
+        subst (λ (x : Chronicle). then' b x) (one_room_by news b d e place k.place) (subst (λ (o : Option ℕ). then' o d) gone t)
 
     abbrev answering : Addr → Chronicle → Option ℕ → Chronicle → Type 0
     answering target d gone placed =

@@ -195,7 +195,8 @@ module _ (start : Start) (at : ℕ) (Kept : Chronicle → Type 0) (plain : (what
   place_for_keeps c (Some news) d m k = place_keeps c news.0 _ d m k
 
   room_keeps : (c : Chronicle) (news : Option (ℕ × RowKind)) (gone : Option ℕ) (d : Chronicle) → RoomFor start c at news gone d → Kept c → Kept d
-  room_keeps c news gone d m k = place_for_keeps (with_pushed at gone c) news d m.place (pushed_keeps gone c k)
+  room_keeps c news None d m k = place_for_keeps c news d m.place k
+  room_keeps c news (Some gone) d m k = kept_to m.place (pushed_keeps (Some gone) c k)
 
   goes_keeps : (c : Chronicle) (key : ℕ) (packet : List ℕ) (d : Chronicle) → Goes start c at key packet d → Kept c → Kept d
   goes_keeps c key packet d g k = kept_to g.goes (packet_keeps key _ packet _ g.placed (place_keeps c key true g.placed g.place k))

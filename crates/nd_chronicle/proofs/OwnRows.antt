@@ -164,7 +164,8 @@ place_for_same start c at None d m = ap address_history m
 place_for_same start c at (Some news) d m = place_same start c at news.0 _ d m
 
 room_same : (start : Start) (c : Chronicle) (at : ℕ) (news : Option (ℕ × RowKind)) (gone : Option ℕ) (d : Chronicle) → RoomFor start c at news gone d → Same c d
-room_same start c at news gone d m = place_for_same start (with_pushed at gone c) at news d m.place ∙ pushed_same at gone c
+room_same start c at news None d m = place_for_same start c at news d m.place
+room_same start c at news (Some gone) d m = ap address_history m.place ∙ pushed_same at (Some gone) c
 
 failing_same : (at : ℕ) (gone : Option ℕ) (history : List neighbours.Row) (c : Chronicle) → Same c (failing_for at gone history c)
 failing_same at None history c = refl

@@ -48,10 +48,15 @@ WayFor start c at None gone = gone ≡ None
 WayFor start c at (Some news) gone =
     MatchBool (makes_way start (Some news)) (GivesWay start.limits.neighbours at news.0 (neighbour_history c) gone) (gone ≡ None)
 
--- there is room for the neighbour of which the message speaks: another one may give way, and place is made as ever where that one is gone
+-- room for that neighbour: if another one gives way, its place is the room, and no third one is evicted; else room is made as ever
+abbrev pub RoomBy : Start → Chronicle → ℕ → Option (ℕ × RowKind) → Option ℕ → Chronicle → Type 0
+RoomBy start c at news None placed = PlaceFor start c at news placed
+RoomBy start c at news (Some gone) placed = placed ≡ with_pushed at (Some gone) c
+
+-- there is room for the neighbour of which the message speaks, for which another one may give way
 pub record RoomFor (start : Start) (c : Chronicle) (at : ℕ) (news : Option (ℕ × RowKind)) (gone : Option ℕ) (placed : Chronicle) : Type 0 where
   pub way : WayFor start c at news gone
-  pub place : PlaceFor start (with_pushed at gone c) at news placed
+  pub place : RoomBy start c at news gone placed
 
 -- the one that gave way has failed, with all that a failure brings, by the history before
 abbrev pub failing_for : ℕ → Option ℕ → List neighbours.Row → Chronicle → Chronicle

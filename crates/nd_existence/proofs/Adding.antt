@@ -1,8 +1,8 @@
 -- Each event adds something.
 use Rattle.std.proofs.Common.{◌≡◌, ℕ, Bool, true, false, cond, eqb, List, [], ◌∷◌, ◌++◌, Option, Some, None, refl, sym, ◌∙◌, ap, subst}
-use Rattle.std.specs.Prelude.{MatchBool, MatchOption, map, bytes_eq, length, nat_lt, ◌==◌}
+use Rattle.std.specs.Prelude.{MatchBool, MatchOption, map, bytes_eq, if◌then◌else◌, length, nat_lt, ◌==◌}
 use Rattle.std.proofs.lemmas.Bool.Decides.{eqb_tells}
-use Rattle.std.proofs.lemmas.Bool.{and_right, cond-true, cond-false, eq-eqb, true≢false}
+use Rattle.std.proofs.lemmas.Bool.{cond-true, cond-false, eq-eqb, eqb-true, true≢false}
 use Rattle.nd_addr.specs.declared.addr.Addr.{Addr}
 use Rattle.nd_addr.specs.declared.mac.Mac.{Mac}
 use Rattle.nd_addr.specs.declared.role.Role.{Role}
@@ -16,6 +16,7 @@ use Rattle.nd_decode.specs.Message.{Parts}
 use Rattle.nd_decode.specs.Option.{Said}
 use Rattle.nd_decode.specs.declared.body.Body.{Body}
 use Rattle.nd_decode.specs.declared.body.Body.TheVariants as bodies
+use Rattle.nd_decode.specs.declared.neighbor_advertisement.NeighborAdvertisement.{NeighborAdvertisement}
 use Rattle.nd_decode.specs.declared.neighbor_solicitation.NeighborSolicitation.{NeighborSolicitation}
 use Rattle.nd_decode.specs.declared.router_advertisement.RouterAdvertisement.{RouterAdvertisement}
 use Rattle.nd_dns.specs.AnnouncedNames.{same_name, names_told}
@@ -30,7 +31,7 @@ use Rattle.nd_neighbour.specs.History as neighbours
 use Rattle.nd_neighbour.specs.History.{RowKind, Row, story}
 use Rattle.nd_neighbour.specs.Place.{WouldBeFull}
 use Rattle.nd_neighbour.specs.ShownKept as shown_neighbours
-use Rattle.nd_neighbour.specs.Story.{is_awaited, is_present, mac_of}
+use Rattle.nd_neighbour.specs.Story.{is_awaited, is_present, mac_of, waits_of}
 use Rattle.nd_neighbour.specs.News.{released_by}
 use Rattle.nd_neighbour.proofs.Forgetting as forgetting_proofs
 use Rattle.nd_nexthop.specs.NextHop.{NextHop, direct, via, no_route}
@@ -50,12 +51,12 @@ use Rattle.nd_slaac.specs.State.{is_known}
 use Rattle.nd_slaac.specs.TableKept.{Stands, key_of}
 use Rattle.nd_slaac.proofs.Showing as showing
 use Rattle.nd_chronicle.specs.Start.{Start, link_local_key}
-use Rattle.nd_chronicle.specs.Happening.{Chronicle, Heard, Dropped, Up, Neighbour, Configured, Offered, RoutePut, ClearedPrefixes, ClearedRedirects, ClearedDns, Sent, Lost, Path, WayTo, NoRoute, HopLimit, RedirectMade, Shown, Refused, Refusal, WrongRole, Full, Limit, Neighbours, Routers, Prefixes, Addresses, Servers, Names}
+use Rattle.nd_chronicle.specs.Happening.{Chronicle, Heard, Dropped, Up, Neighbour, Configured, Offered, RoutePut, ClearedPrefixes, ClearedRedirects, ClearedDns, Sent, Lost, Path, WayTo, NoRoute, HopLimit, Unreachable, RedirectMade, Shown, Refused, Refusal, WrongRole, Full, Limit, Neighbours, Routers, Prefixes, Addresses, Servers, Names}
 use Rattle.nd_chronicle.specs.Histories.{neighbour_history, router_history, prefix_history, address_history, server_history, name_history, route_history, given_or_marked, mark_of_target, said_of_source, then_neighbour}
 use Rattle.nd_chronicle.specs.LinkLayerAddress.{first_slla}
 use Rattle.nd_chronicle.specs.InForce.{reachable_time}
 use Rattle.nd_chronicle.specs.OwnAddress.{is_own, refusal_unless_up, story_of}
-use Rattle.nd_chronicle.specs.Packet.{sending, Goes, GoesIfPlaced, HavePlace, no_place}
+use Rattle.nd_chronicle.specs.Packet.{sending, with_pushed, Goes, GoesIfPlaced, HavePlace, no_place}
 use Rattle.nd_chronicle.specs.NextHop.{IsHopOf}
 use Rattle.nd_chronicle.specs.Message.{said, failing_for, lets_enter, makes_way, PlaceFor, RoomFor, WayFor, sending_if_known, telling_if_known, releasing}
 use Rattle.nd_chronicle.specs.RouterAdvertisement.{forming, then_advertised}
@@ -78,7 +79,9 @@ use Rattle.nd_chronicle.proofs.Parts.{slla_stays}
 use Rattle.nd_chronicle.proofs.Reading.{no_slla_placed, no_tlla_placed}
 use Rattle.nd_existence.proofs.Tables.{nodes_of, nodes_stand, addresses_of, addresses_stand}
 use Rattle.nd_existence.proofs.Listings.{listed}
-use Rattle.nd_existence.proofs.Placing.{unless_full, place_told, second_told, place_made, packet_goes, goes_if_placed, wanted_if_placed, second_placed}
+use Rattle.nd_steps.proofs.Failing.{with_failed}
+use Rattle.nd_existence.proofs.Placing.{gives_way, unless_full, place_told, second_told, place_made, packet_goes, goes_if_placed, wanted_if_placed, second_placed, way_told}
+use Rattle.nd_existence.proofs.Walking.{losing_keeps}
 use Rattle.nd_existence.proofs.Hopping.{hop_of, frame_heard}
 
 -- a neighbour whose address was just given is there
@@ -106,29 +109,64 @@ releasing_rows at (Some news) h c =
     told_rows at news.0 (mac_of ((at, news.1) ∷ story news.0 h)) (is_awaited (story news.0 h)) _
     ∙ known_rows at (mac_of ((at, news.1) ∷ story news.0 h)) (released_by at news.1 (story news.0 h)) c
 
-module _ (start : Start) (plain : start.policies.speakers ≡ false) (c : Chronicle) (now : ℕ) where
-  -- ---- no neighbour gives way to another one without the policy `speakers`
+-- the failure of one that gave way is a row of the neighbours
+failing_rows : (at : ℕ) (gone : Option ℕ) (h : List Row) (c : Chronicle) → neighbour_history (failing_for at gone h c) ≡ with_failed at gone (neighbour_history c)
+failing_rows at None h c = refl
+failing_rows at (Some key) h c =
+    sym (losing_keeps at (λ d. (at, key, neighbours.Forgot neighbours.Failed) ∷ neighbour_history c ≡ neighbour_history d) (λ why lost d e. e) Unreachable
+    (waits_of (story key h)) ((at, Neighbour key (neighbours.Forgot neighbours.Failed)) ∷ c) refl)
 
-  without : (news : Option (ℕ × RowKind)) → makes_way start news ≡ false
-  without None = refl
-  without (Some news) = and_right (lets_enter news.1) start.policies.speakers plain
+-- and it isn't the one whose address was given
+given_not_full_behind : (limit now key gone at mac : ℕ) (mark : Option Bool) (h : List Row) → (key ≡ gone → ⊥)
+    → WouldBeFull limit now key ((at, gone, neighbours.Forgot neighbours.Failed) ∷ (at, key, neighbours.Given mac mark) ∷ h) → ⊥
+given_not_full_behind limit now key gone at mac mark h other full = by (gone == key) refl full.absent
+  where
+    by : (b : Bool) → gone == key ≡ b → is_present (if b then [] else story key ((at, key, neighbours.Given mac mark) ∷ h)) ≡ false → ⊥
+    by true same absent = other (sym (eqb-true gone key same))
+    by false same absent =
+        true≢false (sym (ap is_present (cond-true (eqb key key) ((at, neighbours.Given mac mark) ∷ story key h) (story key h) (eq-eqb key key refl))) ∙ absent)
 
-  way_by : (b : Bool) (key : ℕ) (gone : Option ℕ) → b ≡ false → gone ≡ None → MatchBool b (GivesWay start.limits.neighbours now key (neighbour_history c) gone) (gone ≡ None)
-  way_by true key gone is none = absurd (true≢false is)
-  way_by false key gone is none = none
+module _ (start : Start) (c : Chronicle) (now : ℕ) where
+  -- ---- room for a neighbour, for which another one may give way
 
-  none_gives_way : (news : Option (ℕ × RowKind)) → WayFor start c now news None
-  none_gives_way None = refl
-  none_gives_way (Some news) = way_by (makes_way start (Some news)) news.0 None (without (Some news)) refl
+  -- by what is said of it
+  abbrev PlacedFor : Option (ℕ × RowKind) → Option (ℕ × Bool) → Bool → Type 0
+  PlacedFor news need place = Placed start c now (makes_way start news) need place
 
-  plainly : (news : Option (ℕ × RowKind)) (need : Option (ℕ × Bool)) (place : Bool) → Placed start c now false need place → Placed start c now (makes_way start news) need place
-  plainly news need place q = subst (λ (b : Bool). Placed start c now b need place) (sym (without news)) q
+  placed : (way : Bool) (need : Option (ℕ × Bool)) → (place : Bool) × Placed start c now way need place
+  placed way None = (true, refl)
+  placed true (Some need) = way_told start c now need.0 need.1
+  placed false (Some need) = place_told start c now need.0 need.1
 
-  -- and an answer is a use
-  used_by_answer : (key : ℕ) (packet : List ℕ) (e d : Chronicle) → Goes start e now key packet d → asked.Replies start now key packet e d
-  used_by_answer key packet e d goes =
-      subst (λ (o : Option ℕ). MatchOption o (Goes start e now key packet d) (λ mac. d ≡ (now, Sent (addressed (mac_at mac) packet)) ∷ e))
-      (sym (cond-false start.policies.speakers (mac_of (story key (neighbour_history e))) None plain)) goes
+  -- none has to give way where there is room without
+  none_needed : (key : ℕ) (enters way : Bool) (P : Type 0) → MatchBool way (GivesWay start.limits.neighbours now key (neighbour_history c) None) P → Placed start c now way (Some (key, enters)) true
+      → enters ≡ true → WouldBeFull start.limits.neighbours now key (neighbour_history c) → ⊥
+  none_needed key enters true P gives has enter full = has enter (record { full = full; none_incomplete = gives full })
+  none_needed key enters false P gives has enter full = has enter full
+
+  room_by : (news : ℕ × RowKind) (gone : Option ℕ) → WayFor start c now (Some news) gone → PlacedFor (Some news) (entering (Some news)) true
+      → (gone' : Option ℕ) × (d : Chronicle) × RoomFor start c now (Some news) gone' d
+  room_by news None way has =
+      let f = place_made start c now news.0 (lets_enter news.1) (none_needed news.0 (lets_enter news.1) (makes_way start (Some news)) _ way has) in
+      (None, f.0, record { way = way; place = f.1 })
+  room_by news (Some gone) way has = (Some gone, with_pushed now (Some gone) c, record { way = way; place = refl })
+
+  way_for : (key : ℕ) (way : Bool) → (gone : Option ℕ) × MatchBool way (GivesWay start.limits.neighbours now key (neighbour_history c) gone) (gone ≡ None)
+  way_for key true = gives_way start.limits.neighbours now key (neighbour_history c)
+  way_for key false = (None, refl)
+
+  room_for : (news : Option (ℕ × RowKind)) → PlacedFor news (entering news) true → (gone : Option ℕ) × (d : Chronicle) × RoomFor start c now news gone d
+  room_for None has = (None, c, record { way = refl; place = refl })
+  room_for (Some news) has = let w = way_for news.0 (makes_way start (Some news)) in room_by news w.0 w.1 has
+
+  -- an answer is a use, unless it is sent alone
+  replied_by : (key : ℕ) (packet : List ℕ) (e : Chronicle) (alone : Option ℕ) → (WouldBeFull start.limits.neighbours now key (neighbour_history e) → ⊥)
+      → (d : Chronicle) × MatchOption alone (Goes start e now key packet d) (λ mac. d ≡ (now, Sent (addressed (mac_at mac) packet)) ∷ e)
+  replied_by key packet e None never = packet_goes start e now key packet never
+  replied_by key packet e (Some mac) never = ((now, Sent (addressed (mac_at mac) packet)) ∷ e, refl)
+
+  replied : (key : ℕ) (packet : List ℕ) (e : Chronicle) → (WouldBeFull start.limits.neighbours now key (neighbour_history e) → ⊥) → (d : Chronicle) × asked.Replies start now key packet e d
+  replied key packet e never = replied_by key packet e (asked.sent_alone_to start now key e) never
 
   -- ---- what there is in each table
 
@@ -149,30 +187,19 @@ module _ (start : Start) (plain : start.policies.speakers ≡ false) (c : Chroni
 
   -- ---- a message is heard
 
-  placed : (need : Option (ℕ × Bool)) → (place : Bool) × Placed start c now false need place
-  placed None = (true, refl)
-  placed (Some need) = place_told start c now need.0 need.1
-
-  place_for : (news : Option (ℕ × RowKind)) → Placed start c now false (entering news) true → (d : Chronicle) × PlaceFor start c now news d
-  place_for None p = (c, refl)
-  place_for (Some news) p = place_made start c now news.0 (lets_enter news.1) p
-
-  room_for : (news : Option (ℕ × RowKind)) → Placed start c now false (entering news) true → (d : Chronicle) × RoomFor start c now news None d
-  room_for news p = let f = place_for news p in (f.0, record { way = none_gives_way news; place = f.1 })
-
   abbrev message : List Said → Body → Parts
   message options body = record { body = body; options = options }
 
   module _ (source destination : Addr) (options : List Said) where
-    -- behind the room for a neighbour
-    behind : (body : Body) (then' : Chronicle → Chronicle) → Placed start c now false (entering (said c source (message options body))) true
-        → (d : Chronicle) × ((made : Chronicle) × PlaceFor start c now (said c source (message options body)) made × (d ≡ then' made))
-    behind body then' p = let f = place_for (said c source (message options body)) p in (then' f.0, (f.0, f.1, refl))
+    -- behind the room for a neighbour of which an advertisement speaks, for which none gives way
+    behind : (na : NeighborAdvertisement) (then' : Chronicle → Chronicle)
+        → (d : Chronicle) × ((made : Chronicle) × PlaceFor start c now (said c source (message options (bodies.Na na))) made × (d ≡ then' made))
+    behind na then' = let f = place_made start c now (number_of na.target.0) false (λ e. absurd (true≢false (sym e))) in (then' f.0, (f.0, f.1, refl))
 
-    -- and behind the failure of one that would give way to it
-    behind_room : (body : Body) (then' : Option ℕ → Chronicle → Chronicle) → Placed start c now false (entering (said c source (message options body))) true
+    -- and behind the failure of one that gives way
+    behind_room : (body : Body) (then' : Option ℕ → Chronicle → Chronicle) → PlacedFor (said c source (message options body)) (entering (said c source (message options body))) true
         → (d : Chronicle) × ((gone : Option ℕ) × (made : Chronicle) × RoomFor start c now (said c source (message options body)) gone made × (d ≡ then' gone made))
-    behind_room body then' p = let f = room_for (said c source (message options body)) p in (then' None f.0, (None, f.0, f.1, refl))
+    behind_room body then' p = let f = room_for (said c source (message options body)) p in (then' f.0 f.1, (f.0, f.1, f.2, refl))
 
     -- ---- a Neighbor Solicitation
 
@@ -183,61 +210,71 @@ module _ (start : Start) (plain : start.policies.speakers ≡ false) (c : Chroni
       abbrev heard_over : Chronicle → Chronicle
       heard_over made = (now, Heard source destination solicitation) ∷ made
 
+      abbrev heard_behind : Option (ℕ × RowKind) → Option ℕ → Chronicle → Chronicle
+      heard_behind news gone made = releasing now news (neighbour_history made) (failing_for now gone (neighbour_history c) (heard_over made))
+
       abbrev FollowsBy : Option (ℕ × RowKind) → Chronicle → Type 0
-      FollowsBy news d = (made : Chronicle) × PlaceFor start c now news made
-          × Goes start (releasing now news (neighbour_history made) (heard_over made)) now (number_of source.0) (answer_frame (is_router start.role) start.mac target source) d
+      FollowsBy news d = (gone : Option ℕ) × (made : Chronicle) × RoomFor start c now news gone made
+          × asked.Replies start now (number_of source.0) (answer_frame (is_router start.role) start.mac target source) (heard_behind news gone made) d
 
-      module _ (never : WouldBeFull start.limits.neighbours now (number_of source.0) (neighbour_history c) → ⊥) where
-        answered : (news : Option (ℕ × RowKind)) (made : Chronicle) → PlaceFor start c now news made
-            → (WouldBeFull start.limits.neighbours now (number_of source.0) (neighbour_history (heard_over made)) → ⊥) → (d : Chronicle) × FollowsBy news d
-        answered news made place room =
-            let g = packet_goes start (releasing now news (neighbour_history made) (heard_over made)) now (number_of source.0) (answer_frame (is_router start.role) start.mac target source)
-            (λ full. room (subst (λ (h : List Row). WouldBeFull start.limits.neighbours now (number_of source.0) h) (releasing_rows now news (neighbour_history made) (heard_over made)) full)) in
-            (g.0, (made, place, g.1))
+      heard_rows : (made : Chronicle) (news : Option (ℕ × RowKind)) → said c source solicitation ≡ news → neighbour_history (heard_over made) ≡ then_neighbour now news (neighbour_history made)
+      heard_rows made news e = ap (λ o. then_neighbour now o (neighbour_history made)) e
 
-        -- with the asker's link-layer address or without it
-        answered_by : (mac : Option Mac) → said c source solicitation ≡ given_or_marked (number_of source.0) mac None
-            → (d : Chronicle) × FollowsBy (given_or_marked (number_of source.0) mac None) d
-        answered_by None is = answered None c refl (λ full. never (subst (λ (h : List Row). WouldBeFull start.limits.neighbours now (number_of source.0) h) (heard_rows c None is) full))
-          where
-            heard_rows : (made : Chronicle) (news : Option (ℕ × RowKind)) → said c source solicitation ≡ news
-                → neighbour_history (heard_over made) ≡ then_neighbour now news (neighbour_history made)
-            heard_rows made news e = ap (λ o. then_neighbour now o (neighbour_history made)) e
-        answered_by (Some mac) is =
-            let p = place_made start c now (number_of source.0) true (λ e. never) in
-            answered (Some (number_of source.0, neighbours.Given (number_of mac.0) None)) p.0 p.1
-            (λ full. given_not_full start.limits.neighbours now (number_of source.0) now (number_of mac.0) None (neighbour_history p.0)
-            (subst (λ (h : List Row). WouldBeFull start.limits.neighbours now (number_of source.0) h)
-            (ap (λ o. then_neighbour now o (neighbour_history p.0)) is) full))
+      -- what the neighbours are behind it
+      rows_behind : (news : Option (ℕ × RowKind)) (gone : Option ℕ) (made : Chronicle) → said c source solicitation ≡ news
+          → neighbour_history (heard_behind news gone made) ≡ with_failed now gone (then_neighbour now news (neighbour_history made))
+      rows_behind news gone made e =
+          releasing_rows now news (neighbour_history made) (failing_for now gone (neighbour_history c) (heard_over made))
+          ∙ failing_rows now gone (neighbour_history c) (heard_over made)
+          ∙ ap (λ (h : List Row). with_failed now gone h) (heard_rows made news e)
 
-      solicited : (t : Bool) → bytes_eq source.0 unspecified_address ≡ t → Placed start c now false (asking source) true
+      -- the asker whose address is given is there
+      asker_stays : (mac : ℕ) (gone : Option ℕ) (h : List Row) → WayFor start c now (Some (number_of source.0, neighbours.Given mac None)) gone
+          → WouldBeFull start.limits.neighbours now (number_of source.0) (with_failed now gone ((now, number_of source.0, neighbours.Given mac None) ∷ h)) → ⊥
+      asker_stays mac None h way full = given_not_full start.limits.neighbours now (number_of source.0) now mac None h full
+      asker_stays mac (Some gone) h way full = by start.policies.speakers way
+        where
+          by : (b : Bool) → MatchBool b (GivesWay start.limits.neighbours now (number_of source.0) (neighbour_history c) (Some gone)) (Some gone ≡ None) → ⊥
+          by true gives =
+              given_not_full_behind start.limits.neighbours now (number_of source.0) gone now mac None h
+              (λ same. true≢false (sym gives.1.incomplete.0 ∙ (sym (ap (λ k. is_present (story k (neighbour_history c))) same) ∙ gives.0.absent))) full
+          by false none = let never : ⊥ = cc in never
+
+      -- with the asker's link-layer address or without it
+      answered_by : (mac : Option Mac) → said c source solicitation ≡ given_or_marked (number_of source.0) mac None
+          → PlacedFor (given_or_marked (number_of source.0) mac None) (Some (number_of source.0, true)) true → (d : Chronicle) × FollowsBy (given_or_marked (number_of source.0) mac None) d
+      answered_by None is has =
+          let r = replied (number_of source.0) (answer_frame (is_router start.role) start.mac target source) (heard_behind None None c)
+          (λ full. has refl (subst (λ (h : List Row). WouldBeFull start.limits.neighbours now (number_of source.0) h) (rows_behind None None c is) full)) in
+          (r.0, (None, c, record { way = refl; place = refl }, r.1))
+      answered_by (Some mac) is has =
+          let news : Option (ℕ × RowKind) = Some (number_of source.0, neighbours.Given (number_of mac.0) None) in
+          let f = room_for news has in
+          let r = replied (number_of source.0) (answer_frame (is_router start.role) start.mac target source) (heard_behind news f.0 f.1)
+          (λ full. asker_stays (number_of mac.0) f.0 (neighbour_history f.1) f.2.way
+          (subst (λ (h : List Row). WouldBeFull start.limits.neighbours now (number_of source.0) h) (rows_behind news f.0 f.1 is) full)) in
+          (r.0, (f.0, f.1, f.2, r.1))
+
+      solicited : (t : Bool) → bytes_eq source.0 unspecified_address ≡ t → PlacedFor (said c source solicitation) (asking source) true
           → (d : Chronicle) × MatchBool t (d ≡ then_tried start now target (heard_over c)) (asked.Answers start now source destination target solicitation c d)
       solicited true is p = (then_tried start now target (heard_over c), refl)
       solicited false is p =
-          let has = subst (λ (b : Bool). Placed start c now false (cond b None (Some (number_of source.0, true))) true) is p in
           let news : said c source solicitation ≡ given_or_marked (number_of source.0) (first_slla options) None =
           cond-false (bytes_eq source.0 unspecified_address) None (given_or_marked (number_of source.0) (first_slla options) None) is in
-          let a = answered_by (has refl) (first_slla options) news in
-          let b = subst (λ o. FollowsBy o a.0) (sym news) a.1 in (
-            a.0,
-            record {
-              gone = None;
-              placed = b.0;
-              room = record { way = none_gives_way (said c source solicitation); place = b.1 };
-              answer = used_by_answer (number_of source.0) (answer_frame (is_router start.role) start.mac target source)
-                  (releasing now (said c source solicitation) (neighbour_history b.0) (heard_over b.0)) a.0 b.2;
-            },
-          )
+          let has = subst (λ (b : Bool). PlacedFor (said c source solicitation) (cond b None (Some (number_of source.0, true))) true) is p in
+          let a = answered_by (first_slla options) news (subst (λ (o : Option (ℕ × RowKind)). PlacedFor o (Some (number_of source.0, true)) true) news has) in
+          let b = subst (λ o. FollowsBy o a.0) (sym news) a.1 in
+          (a.0, record { gone = b.0; placed = b.1; room = b.2; answer = b.3 })
 
     -- ---- any message for whose neighbour there is room
 
     abbrev Adds : Body → Chronicle → Type 0
     Adds body d = MessageAdds start now source destination (message options body) body c d
 
-    whole : (body : Body) → Placed start c now false (needs c source (message options body) body) true → (d : Chronicle) × Adds body d
+    whole : (body : Body) → PlacedFor (said c source (message options body)) (needs c source (message options body) body) true → (d : Chronicle) × Adds body d
     whole (bodies.Ra ra) p = behind_room (bodies.Ra ra) (λ gone made. then_advertised start now source destination ra (message options (bodies.Ra ra)) true gone (neighbour_history c) made) p
     whole (bodies.Ns ns) p = solicited ns.target (bytes_eq source.0 unspecified_address) refl p
-    whole (bodies.Na na) p = behind (bodies.Na na) (λ made. then_neighbor_advertised now source destination na.target (message options (bodies.Na na)) made) p
+    whole (bodies.Na na) p = behind na (λ made. then_neighbor_advertised now source destination na.target (message options (bodies.Na na)) made)
     whole (bodies.Redirect r) p =
         behind_room (bodies.Redirect r) (λ gone made. releasing now (said c source (message options (bodies.Redirect r))) (neighbour_history made)
         (failing_for now gone (neighbour_history c) ((now, Heard source destination (message options (bodies.Redirect r))) ∷ made))) p
@@ -248,32 +285,34 @@ module _ (start : Start) (plain : start.policies.speakers ≡ false) (c : Chroni
   -- ---- what is taken of a message in part, by the policy `parts`
 
   -- a message that gives no link-layer address lets no neighbour enter
-  marks : (key : ℕ) (mark : Option Bool) → Placed start c now false (entering (given_or_marked key None mark)) true
+  marks : (key : ℕ) (mark : Option Bool) → PlacedFor (given_or_marked key None mark) (entering (given_or_marked key None mark)) true
   marks key None = refl
   marks key (Some router) = λ e. absurd (true≢false (sym e))
 
-  marks_source : (source : Addr) (mark : Option Bool) (t : Bool) → Placed start c now false (entering (cond t None (given_or_marked (number_of source.0) None mark))) true
+  abbrev ToldPlaced : Option (ℕ × RowKind) → Bool → Type 0
+  ToldPlaced news place = PlacedFor news (entering news) place
+
+  marks_source : (source : Addr) (mark : Option Bool) (t : Bool) → ToldPlaced (cond t None (given_or_marked (number_of source.0) None mark)) true
   marks_source source mark true = refl
   marks_source source mark false = marks (number_of source.0) mark
 
   module _ (source : Addr) (options : List Said) where
-    enters_nobody : (body : Body) → Placed start c now false (entering (said c source (message (as_placed false options) body))) true
+    enters_nobody : (body : Body) → ToldPlaced (said c source (message (as_placed false options) body)) true
     enters_nobody (bodies.Ra ra) =
-        subst (λ (o : Option Mac). Placed start c now false (entering (given_or_marked (number_of source.0) o (Some true))) true) (sym (no_slla_placed options)) (marks (number_of source.0) (Some true))
+        subst (λ (o : Option Mac). ToldPlaced (given_or_marked (number_of source.0) o (Some true)) true) (sym (no_slla_placed options)) (marks (number_of source.0) (Some true))
     enters_nobody (bodies.Ns ns) =
-        subst (λ (o : Option Mac). Placed start c now false (entering (said_of_source source o None)) true) (sym (no_slla_placed options))
+        subst (λ (o : Option Mac). ToldPlaced (said_of_source source o None) true) (sym (no_slla_placed options))
         (marks_source source None (bytes_eq source.0 unspecified_address))
     enters_nobody bodies.Rs =
-        subst (λ (o : Option Mac). Placed start c now false (entering (said_of_source source o (Some false))) true) (sym (no_slla_placed options))
+        subst (λ (o : Option Mac). ToldPlaced (said_of_source source o (Some false)) true) (sym (no_slla_placed options))
         (marks_source source (Some false) (bytes_eq source.0 unspecified_address))
     enters_nobody (bodies.Na na) = λ e. absurd (true≢false (sym e))
     enters_nobody (bodies.Redirect r) =
-        subst (λ (o : Option Mac). Placed start c now false (entering (given_or_marked (number_of r.target.0) o (mark_of_target r))) true) (sym (no_tlla_placed options))
+        subst (λ (o : Option Mac). ToldPlaced (given_or_marked (number_of r.target.0) o (mark_of_target r)) true) (sym (no_tlla_placed options))
         (marks (number_of r.target.0) (mark_of_target r))
 
     -- so there is room for the neighbour of what is taken
-    room_in_part : (body : Body) (place : Bool) → Placed start c now false (entering (said c source (message options body))) place
-        → Placed start c now false (entering (said c source (message (as_placed place options) body))) true
+    room_in_part : (body : Body) (place : Bool) → ToldPlaced (said c source (message options body)) place → ToldPlaced (said c source (message (as_placed place options) body)) true
     room_in_part body true p = p
     room_in_part body false p = enters_nobody body
 
@@ -289,16 +328,16 @@ module _ (start : Start) (plain : start.policies.speakers ≡ false) (c : Chroni
     abbrev named : Body → Bool → Taken
     named body place = record { place = place; message = message (as_placed place options) body; listed = true; ignored = passed_over place Neighbours }
 
-    is_named : (body : Body) (place : Bool) → Placed start c now false (needs c source (message options body) body) place → TakenOfMessage start c now source (message options body) (named body place)
+    is_named : (body : Body) (place : Bool) → PlacedFor (said c source (message options body)) (needs c source (message options body) body) place → TakenOfMessage start c now source (message options body) (named body place)
     is_named body place p = record {
-      placed = plainly (said c source (message options body)) (needs c source (message options body) body) place p;
+      placed = p;
       message_is = refl;
       listed_is = refl;
       ignored_is = refl;
     }
 
     -- an asker that gets no entry
-    answers : (ns : NeighborSolicitation) (place : Bool) → Placed start c now false (asking source) place
+    answers : (ns : NeighborSolicitation) (place : Bool) → PlacedFor (said c source (message options (bodies.Ns ns))) (asking source) place
         → (d : Chronicle) × PartAdds start now source destination (message options (bodies.Ns ns)) (named (bodies.Ns ns) place) (bodies.Ns ns) c d
     answers ns true p = whole source destination options (bodies.Ns ns) p
     answers ns false p = (then_answered start now source destination ns.target (message options (bodies.Ns ns)) (message (as_placed false options) (bodies.Ns ns)) c, refl)
@@ -310,7 +349,7 @@ module _ (start : Start) (plain : start.policies.speakers ≡ false) (c : Chroni
 
       advertised_in_part : (d : Chronicle) × TakenInPart (bodies.Ra ra) d
       advertised_in_part =
-          let p = placed (entering (said c source whole_one)) in
+          let p = placed (makes_way start (said c source whole_one)) (entering (said c source whole_one)) in
           let filling : Filling = record { prefixes = prefixes_now.0; addresses = map key_of addresses_now.0; servers = servers_now.0; names = names_now.0 } in
           let read = options_taken start.limits start.mac now filling options in
           let is_listed = fits same start.limits.routers now ((number_of source.0, ra.router_lifetime) ∷ []) routers_now.0 in
@@ -325,7 +364,7 @@ module _ (start : Start) (plain : start.policies.speakers ≡ false) (c : Chroni
                 ++ passed_over (fits same_name start.limits.names now (names_told options) names_now.0) Names;
           } in
           let is : TakenOfAdvertisement start c now source ra whole_one taken = record {
-            placed = plainly (said c source whole_one) (entering (said c source whole_one)) p.0 p.1;
+            placed = p.1;
             routers = routers_now.0;
             those_routers = routers_now.1;
             listed_is = refl;
@@ -341,8 +380,8 @@ module _ (start : Start) (plain : start.policies.speakers ≡ false) (c : Chroni
             ignored_is = refl;
           } in
           -- the options that are taken give the same link-layer address
-          let same_place : Placed start c now false (entering (said c source (message read (bodies.Ra ra)))) p.0 =
-          subst (λ (o : Option Mac). Placed start c now false (entering (given_or_marked (number_of source.0) o (Some true))) p.0)
+          let same_place : ToldPlaced (said c source (message read (bodies.Ra ra))) p.0 =
+          subst (λ (o : Option Mac). ToldPlaced (given_or_marked (number_of source.0) o (Some true)) p.0)
           (sym (slla_stays start.limits start.mac now filling options)) p.1 in
           in_part_by (bodies.Ra ra) taken is
           (behind_room source destination (as_placed p.0 read) (bodies.Ra ra)
@@ -352,15 +391,15 @@ module _ (start : Start) (plain : start.policies.speakers ≡ false) (c : Chroni
     in_part : (body : Body) → (d : Chronicle) × TakenInPart body d
     in_part (bodies.Ra ra) = advertised_in_part ra
     in_part (bodies.Ns ns) =
-        let p = placed (asking source) in in_part_by (bodies.Ns ns) (named (bodies.Ns ns) p.0) (is_named (bodies.Ns ns) p.0 p.1) (answers ns p.0 p.1)
+        let p = placed (makes_way start (said c source (message options (bodies.Ns ns)))) (asking source) in in_part_by (bodies.Ns ns) (named (bodies.Ns ns) p.0) (is_named (bodies.Ns ns) p.0 p.1) (answers ns p.0 p.1)
     in_part (bodies.Na na) =
-        let p = placed (entering (said c source (message options (bodies.Na na)))) in
+        let p = placed (makes_way start (said c source (message options (bodies.Na na)))) (entering (said c source (message options (bodies.Na na)))) in
         in_part_by (bodies.Na na) (named (bodies.Na na) p.0) (is_named (bodies.Na na) p.0 p.1) (whole source destination (as_placed p.0 options) (bodies.Na na) (room_in_part source options (bodies.Na na) p.0 p.1))
     in_part bodies.Rs =
-        let p = placed (entering (said c source (message options bodies.Rs))) in
+        let p = placed (makes_way start (said c source (message options bodies.Rs))) (entering (said c source (message options bodies.Rs))) in
         in_part_by bodies.Rs (named bodies.Rs p.0) (is_named bodies.Rs p.0 p.1) (whole source destination (as_placed p.0 options) bodies.Rs (room_in_part source options bodies.Rs p.0 p.1))
     in_part (bodies.Redirect r) =
-        let p = placed (entering (said c source (message options (bodies.Redirect r)))) in
+        let p = placed (makes_way start (said c source (message options (bodies.Redirect r)))) (entering (said c source (message options (bodies.Redirect r)))) in
         in_part_by (bodies.Redirect r) (named (bodies.Redirect r) p.0) (is_named (bodies.Redirect r) p.0 p.1) (whole source destination (as_placed p.0 options) (bodies.Redirect r) (room_in_part source options (bodies.Redirect r) p.0 p.1))
 
     -- ---- any message, which may have no room
@@ -379,20 +418,20 @@ module _ (start : Start) (plain : start.policies.speakers ≡ false) (c : Chroni
     heard_adds body (Some limit) f = unless_whole body limit start.policies.parts
 
     -- where there is room for its neighbour
-    placed_if_none : (place : Bool) (rest : Option Limit) (need : Option (ℕ × Bool)) → Placed start c now false need place → cond place rest (Some Neighbours) ≡ None → Placed start c now false need true
-    placed_if_none true rest need p none = p
-    placed_if_none false rest need p none = absurd (let never : ⊥ = cc in never)
+    placed_if_none : (place : Bool) (rest : Option Limit) (news : Option (ℕ × RowKind)) (need : Option (ℕ × Bool)) → PlacedFor news need place → cond place rest (Some Neighbours) ≡ None → PlacedFor news need true
+    placed_if_none true rest news need p none = p
+    placed_if_none false rest news need p none = absurd (let never : ⊥ = cc in never)
 
     filled : (body : Body) (full : Option Limit) (place : Bool) (rest : Option Limit) → full ≡ cond place rest (Some Neighbours)
-        → Placed start c now false (needs c source (message options body) body) place → Fills start c now source (message options body) body full → (d : Chronicle) × Filled body d
+        → PlacedFor (said c source (message options body)) (needs c source (message options body) body) place → Fills start c now source (message options body) body full → (d : Chronicle) × Filled body d
     filled body full place rest is p fills =
-        let d = heard_adds body full (λ none. whole source destination options body (placed_if_none place rest (needs c source (message options body) body) p (sym is ∙ none))) in
+        let d = heard_adds body full (λ none. whole source destination options body (placed_if_none place rest (said c source (message options body)) (needs c source (message options body) body) p (sym is ∙ none))) in
         (d.0, (full, fills, d.1))
 
     -- a Router Advertisement
     advertised : (ra : RouterAdvertisement) → (d : Chronicle) × Filled (bodies.Ra ra) d
     advertised ra =
-        let p = placed (entering (said c source (message options (bodies.Ra ra)))) in
+        let p = placed (makes_way start (said c source (message options (bodies.Ra ra)))) (entering (said c source (message options (bodies.Ra ra)))) in
         let forms = fits_in start.limits.addresses start.mac (map key_of addresses_now.0) (own_prefixes.prefixes_in options) in
         let full = first_full p.0
         (fits same start.limits.routers now ((number_of source.0, ra.router_lifetime) ∷ []) routers_now.0)
@@ -402,7 +441,7 @@ module _ (start : Start) (plain : start.policies.speakers ≡ false) (c : Chroni
         (fits same_name start.limits.names now (names_told options) names_now.0) in
         let all : AdvertisementFills start c now source ra (message options (bodies.Ra ra)) full = record {
           neighbours = p.0;
-          placed = plainly (said c source (message options (bodies.Ra ra))) (entering (said c source (message options (bodies.Ra ra)))) p.0 p.1;
+          placed = p.1;
           routers = routers_now.0;
           those_routers = routers_now.1;
           prefixes = prefixes_now.0;
@@ -418,18 +457,18 @@ module _ (start : Start) (plain : start.policies.speakers ≡ false) (c : Chroni
         filled (bodies.Ra ra) full p.0 _ refl p.1 all
 
     -- any other message
-    naming : (body : Body) (place : Bool) → Placed start c now false (needs c source (message options body) body) place → MessageFills start c now source (message options body) (no_place place)
-    naming body place p = record { neighbours = place; placed = plainly (said c source (message options body)) (needs c source (message options body) body) place p; first = refl }
+    naming : (body : Body) (place : Bool) → PlacedFor (said c source (message options body)) (needs c source (message options body) body) place → MessageFills start c now source (message options body) (no_place place)
+    naming body place p = record { neighbours = place; placed = p; first = refl }
 
     message_adds : (body : Body) → (d : Chronicle) × Filled body d
     message_adds (bodies.Ra ra) = advertised ra
-    message_adds (bodies.Ns ns) = let p = placed (asking source) in filled (bodies.Ns ns) (no_place p.0) p.0 None refl p.1 (naming (bodies.Ns ns) p.0 p.1)
+    message_adds (bodies.Ns ns) = let p = placed (makes_way start (said c source (message options (bodies.Ns ns)))) (asking source) in filled (bodies.Ns ns) (no_place p.0) p.0 None refl p.1 (naming (bodies.Ns ns) p.0 p.1)
     message_adds (bodies.Na na) =
-        let p = placed (entering (said c source (message options (bodies.Na na)))) in filled (bodies.Na na) (no_place p.0) p.0 None refl p.1 (naming (bodies.Na na) p.0 p.1)
+        let p = placed (makes_way start (said c source (message options (bodies.Na na)))) (entering (said c source (message options (bodies.Na na)))) in filled (bodies.Na na) (no_place p.0) p.0 None refl p.1 (naming (bodies.Na na) p.0 p.1)
     message_adds (bodies.Redirect r) =
-        let p = placed (entering (said c source (message options (bodies.Redirect r)))) in filled (bodies.Redirect r) (no_place p.0) p.0 None refl p.1 (naming (bodies.Redirect r) p.0 p.1)
+        let p = placed (makes_way start (said c source (message options (bodies.Redirect r)))) (entering (said c source (message options (bodies.Redirect r)))) in filled (bodies.Redirect r) (no_place p.0) p.0 None refl p.1 (naming (bodies.Redirect r) p.0 p.1)
     message_adds bodies.Rs =
-        let p = placed (entering (said c source (message options bodies.Rs))) in filled bodies.Rs (no_place p.0) p.0 None refl p.1 (naming bodies.Rs p.0 p.1)
+        let p = placed (makes_way start (said c source (message options bodies.Rs))) (entering (said c source (message options bodies.Rs))) in filled bodies.Rs (no_place p.0) p.0 None refl p.1 (naming bodies.Rs p.0 p.1)
 
   -- ---- a packet in transit
 

@@ -193,8 +193,8 @@ said_leaves (line ∷ lines) n said found (stops nothing) = tt
 said_leaves (line ∷ lines) n said found (says at event {later = later} {found = found'} s rest) =
     (command_leaves s.spelled.words event s.spelled.spelled, said_leaves lines (n + 1) later found' rest)
 
-pub text_of : (start : Start) (n : ℕ) (lines : List (List ℕ)) → start.policies.speakers ≡ false → (told : List ℕ) × (found : Option ℕ) × IsText start n lines told found
-text_of start n lines plain =
+pub text_of : (start : Start) (n : ℕ) (lines : List (List ℕ)) → (told : List ℕ) × (found : Option ℕ) × IsText start n lines told found
+text_of start n lines =
     let read = all_read lines n in
-    let r = run start plain read.0 (beginning start) (said_leaves lines n read.0 read.1 read.2) tt in
+    let r = run start read.0 (beginning start) (said_leaves lines n read.0 read.1 read.2) tt in
     (text r.0, read.1, record { said = read.0; say = read.2; chronicle = r.0; is_theirs = r.1; text_is = refl })

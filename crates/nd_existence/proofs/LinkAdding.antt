@@ -52,22 +52,15 @@ fine_passing now log (suc k) fine =
     let before = fine_passing now log k fine in
     record {
       numbered = before.numbered;
-      plain = before.plain;
       timed = λ i. cond_both (k == i) ((now, Passed) ∷ chronicle_of i (passing now k log)) (chronicle_of i (passing now k log)) AreTimed (λ own. before.timed i) (λ other. before.timed i);
     }
 
 pub fine_reached : (now : ℕ) (log : Log) → IsFine log → IsFine (Reaches now ∷ log)
-fine_reached now log fine = record { numbered = fine.numbered; timed = fine.timed; plain = fine.plain }
+fine_reached now log fine = record { numbered = fine.numbered; timed = fine.timed }
 
--- a node without the policy leaves the log fine
-pub fine_begun : (node : ℕ) (start : Start) (log : Log) → Numbered (Begins node start ∷ log) → start.policies.speakers ≡ false → IsFine log → IsFine (Begins node start ∷ log)
-fine_begun node start log numbered plain fine = record {
-  numbered = numbered;
-  timed = fine.timed;
-  plain = λ i s is.
-      cond_both (node == i) (Some start) (start_of i log) (λ (o : Option Start). o ≡ Some s → s.policies.speakers ≡ false)
-      (λ own e. subst (λ (x : Start). x.policies.speakers ≡ false) (same_Some start s e) plain) (λ other e. fine.plain i s e) is;
-}
+-- a node that begins leaves the log fine
+pub fine_begun : (node : ℕ) (start : Start) (log : Log) → Numbered (Begins node start ∷ log) → IsFine log → IsFine (Begins node start ∷ log)
+fine_begun node start log numbered fine = record { numbered = numbered; timed = fine.timed }
 
 module _ (limits : Limits) (now : ℕ) where
   abbrev Adds' : (Log → Type 0) → Type 0
@@ -79,7 +72,7 @@ module _ (limits : Limits) (now : ℕ) where
   rows_added i event log fine lt fits =
       let s = there_is (start_of i log) (is_there i log fine.numbered lt) in
       let c = chronicle_of i log in
-      let a = event_adds s.0 (fine.plain i s.0 s.1) c now event in
+      let a = event_adds s.0 c now event in
       let g = event_grows s.0 now c event a.0 a.1 in
       let timed : AreTimed (g.newer ++ c) = subst AreTimed g.all (event_timed s.0 now c event a.0 fits a.1 (fine.timed i)) in (
         adding i g.newer log,
@@ -94,7 +87,7 @@ module _ (limits : Limits) (now : ℕ) where
       )
 
   refused : (why : _) (log : Log) → IsFine log → IsFine (Refuses now why ∷ log)
-  refused why log fine = record { numbered = fine.numbered; timed = fine.timed; plain = fine.plain }
+  refused why log fine = record { numbered = fine.numbered; timed = fine.timed }
 
   -- ---- a delivery
 
@@ -102,7 +95,7 @@ module _ (limits : Limits) (now : ℕ) where
       → Adds' (λ d. MatchBool own (d ≡ Refuses now Own ∷ log) (AddsRows limits now i (chronicle.Receives frame) (Carries i now number ∷ log) d))
   delivered_by true i number frame log fine lt = (Refuses now Own ∷ log, refl, refused Own log fine)
   delivered_by false i number frame log fine lt =
-      rows_added i (chronicle.Receives frame) (Carries i now number ∷ log) (record { numbered = fine.numbered; timed = fine.timed; plain = fine.plain }) lt (λ settings e. let never : ⊥ = cc in absurd never)
+      rows_added i (chronicle.Receives frame) (Carries i now number ∷ log) (record { numbered = fine.numbered; timed = fine.timed }) lt (λ settings e. let never : ⊥ = cc in absurd never)
 
   delivered : (t : Bool) (i number : ℕ) (log : Log) → nat_lt number (sent log) ≡ t → IsFine log → i < nodes log
       → Adds' (λ d. MatchBool t (AddsDelivery limits now i number log d) (d ≡ Refuses now NoFrame ∷ log))
@@ -121,19 +114,19 @@ module _ (limits : Limits) (now : ℕ) where
 
   -- ---- a node starts
 
-  started : (t : Bool) (start : Start) (log : Log) → start.policies.speakers ≡ false → IsFine log
+  started : (t : Bool) (start : Start) (log : Log) → IsFine log
       → Adds' (λ d. MatchBool t (d ≡ adding (nodes log) (beginning start) (Begins (nodes log) start ∷ log)) (d ≡ Refuses now Full ∷ log))
-  started true start log plain fine =
-      let before = fine_begun (nodes log) start log (refl, fine.numbered) plain fine in
+  started true start log fine =
+      let before = fine_begun (nodes log) start log (refl, fine.numbered) fine in
       (adding (nodes log) (beginning start) (Begins (nodes log) start ∷ log), refl, fine_with (nodes log) (beginning start) (Begins (nodes log) start ∷ log) before (fine.timed (nodes log)))
-  started false start log plain fine = (Refuses now Full ∷ log, refl, refused Full log fine)
+  started false start log fine = (Refuses now Full ∷ log, refl, refused Full log fine)
 
   -- ---- the event
 
   pub event_happens : (event : Event) (log : Log) → LeavesTime event → IsFine log → Adds' (EventHappens limits now event log)
   event_happens Passes log fits fine = (log, refl, fine)
   event_happens (Starts role mac transmits stream) log fits fine =
-      started (nat_lt (nodes log) max_nodes) (record { at = now; role = role; mac = mac; transmits = transmits; stream = stream; limits = limits; policies = no_policies }) log refl fine
+      started (nat_lt (nodes log) max_nodes) (record { at = now; role = role; mac = mac; transmits = transmits; stream = stream; limits = limits; policies = no_policies }) log fine
   event_happens (Comes i event) log fits fine =
       if_there (nat_lt i (nodes log)) i log (AddsRows limits now i event log) refl fine (λ lt. rows_added i event log fine lt fits)
   event_happens (Delivers i number) log fits fine =

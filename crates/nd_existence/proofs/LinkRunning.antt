@@ -15,7 +15,7 @@ module _ (limits : Limits) where
   followed_by : (late : Bool) (log : Log) (now : ℕ) (event : Event) → nat_lt now (last_moment log) ≡ late → LeavesTime event → IsFine log
       → (d : Log) × MatchBool late (d ≡ Refuses now (TooLate (last_moment log)) ∷ log)
       ((e : Log) × Walk log (last_moment log) now e × EventHappens limits now event (passing now (nodes e) (Reaches now ∷ e)) d) × IsFine d
-  followed_by true log now event is fits fine = (Refuses now (TooLate (last_moment log)) ∷ log, refl, record { numbered = fine.numbered; timed = fine.timed; plain = fine.plain })
+  followed_by true log now event is fits fine = (Refuses now (TooLate (last_moment log)) ∷ log, refl, record { numbered = fine.numbered; timed = fine.timed })
   followed_by false log now event is fits fine =
       let last = last_moment log in
       let le : last ≤ now = grind (arith, nat_tests, is) in

@@ -17,15 +17,14 @@ use Rattle.nd_existence.specs.Intervals.{AreTimed}
 use Rattle.nd_existence.proofs.Walking.{walked}
 use Rattle.nd_existence.proofs.Timing.{comes_timed}
 
--- the nodes are numbered, the settings of each leave some time, and none has the policy `speakers`
+-- the nodes are numbered, and the settings of each leave some time
 pub record IsFine (log : Log) : Type 0 where
   pub numbered : Numbered log
   pub timed : (i : ℕ) → AreTimed (chronicle_of i log)
-  pub plain : (i : ℕ) (start : Start) → start_of i log ≡ Some start → start.policies.speakers ≡ false
 
 -- where nothing happened all is fine
 pub fine_nothing : IsFine []
-fine_nothing = record { numbered = tt; timed = λ i. tt; plain = λ i start is. absurd (let never : ⊥ = cc in never) }
+fine_nothing = record { numbered = tt; timed = λ i. tt }
 
 pub there_is : (o : Option Start) → is_some o ≡ true → (start : Start) × (o ≡ Some start)
 there_is None is = absurd (true≢false (sym is))
@@ -36,7 +35,6 @@ pub fine_with : (at : ℕ) (rows : Chronicle) (log : Log) → IsFine log → Are
 fine_with at rows log fine own = record {
   numbered = numbered_with at rows log fine.numbered;
   timed = each;
-  plain = λ i start is. fine.plain i start (sym (start_with i at rows log) ∙ is);
 }
   where
     each : (i : ℕ) → AreTimed (chronicle_of i (adding at rows log))

@@ -86,7 +86,7 @@ module _ (limits : Limits) (mac : Mac) (m : AreBytes 6 mac.0) (transmits : ℕ) 
   runs1 = (log1, follows1, refl)
 
   pub fine1 : IsFine log1
-  fine1 = fine_with 0 (beginning first) (Begins 0 first ∷ Reaches 0 ∷ []) (fine_begun 0 first (Reaches 0 ∷ []) (refl, tt) refl (fine_reached 0 [] fine_nothing)) tt
+  fine1 = fine_with 0 (beginning first) (Begins 0 first ∷ Reaches 0 ∷ []) (fine_begun 0 first (Reaches 0 ∷ []) (refl, tt) (fine_reached 0 [] fine_nothing)) tt
 
   abbrev pub walk1 : (d : Log) × Walk log1 0 got d × IsFine d
   walk1 = link_walked got (got + 1) log1 0 (omega arith) fine1
@@ -157,7 +157,7 @@ module _ (limits : Limits) (mac : Mac) (m : AreBytes 6 mac.0) (transmits : ℕ) 
   fine_reached1 = fine_passing got (Reaches got ∷ e1) 1 (fine_reached got e1 walk1.2)
 
   pub fine2 : IsFine log2
-  fine2 = fine_with 1 (beginning second) (Begins 1 second ∷ reached1) (fine_begun 1 second reached1 (sym one_node, fine_reached1.numbered) refl fine_reached1) (fine_reached1.timed 1)
+  fine2 = fine_with 1 (beginning second) (Begins 1 second ∷ reached1) (fine_begun 1 second reached1 (sym one_node, fine_reached1.numbered) fine_reached1) (fine_reached1.timed 1)
 
   abbrev pub walk2 : (d : Log) × Walk log2 got late d × IsFine d
   walk2 = link_walked late (first_delay second + 1) log2 got (omega arith) fine2
@@ -261,7 +261,7 @@ module _ (limits : Limits) (mac : Mac) (m : AreBytes 6 mac.0) (transmits : ℕ) 
   rows = (late, Sent (defence_frame true mac address)) ∷ (late, Heard unspecified (solicited_node address) tries.message) ∷ []
 
   abbrev pub heard : (d : Chronicle) × EventAdds first late (nodes.Receives frame) c d
-  heard = event_adds first refl c late (nodes.Receives frame)
+  heard = event_adds first c late (nodes.Receives frame)
 
   pub heard_is : heard.0 ≡ rows ++ c
   heard_is =

@@ -9,6 +9,8 @@ use Rattle.std.proofs.lemmas.Bool.{cond-false, true≢false, cases_Bool}
 use Rattle.nd_text.proofs.AddressTexts.{some_option}
 use Rattle.nd_neighbour.specs.History as neighbours
 use Rattle.nd_neighbour.specs.History.{Row, story}
+use Rattle.nd_neighbour.specs.GivingWay.{GivesWay, IsFullOfSpeakers}
+use Rattle.nd_neighbour.specs.GivingWayKept.{asked_longest}
 use Rattle.nd_neighbour.specs.Place.{MakesPlace, HadPlace, Pushed, Prepares, pushing, WouldBeFull}
 use Rattle.nd_neighbour.specs.PlaceKept.{stalest, has_place}
 use Rattle.nd_neighbour.specs.Room.{HasRoom}
@@ -21,12 +23,14 @@ use Rattle.nd_neighbour.specs.StoryKept.{the_entry}
 use Rattle.nd_neighbour.specs.TableKept.{entry_in}
 use Rattle.nd_neighbour.specs.Wanting.{mac_in}
 use Rattle.nd_neighbour.proofs.Entering.{stalest_is_longest, stalest_in}
+use Rattle.nd_neighbour.proofs.GivingWay.{longest_found, none_incomplete}
 use Rattle.nd_neighbour.proofs.Second.{room_by_history}
 use Rattle.nd_neighbour.proofs.Unique.{full_by_history}
 use Rattle.nd_chronicle.specs.Start.{Start}
 use Rattle.nd_chronicle.specs.Happening.{Chronicle, Limit, Neighbours, Refused, Full, Neighbour, Path, Replaced, WayTo}
 use Rattle.nd_chronicle.specs.Histories.{neighbour_history}
 use Rattle.nd_chronicle.specs.InForce.{retrans_timer}
+use Rattle.nd_chronicle.specs.Message.{HasWay}
 use Rattle.nd_chronicle.specs.Packet as packets
 use Rattle.nd_chronicle.specs.Packet.{HasPlace, HavePlace, Goes, GoesIfPlaced, with_pushed, then_packet}
 use Rattle.nd_chronicle.specs.Refused.{UnlessFull}
@@ -48,6 +52,30 @@ module _ (limit now key : ℕ) (h : List Row) where
           | inr lacks ↦ inl (by.0 (none, lacks))
         ]
       ]
+
+  -- a new neighbour that speaks has no room, or has one
+  pub full_of_speakers_or_not : IsFullOfSpeakers limit now key h ⊎ (IsFullOfSpeakers limit now key h → ⊥)
+  full_of_speakers_or_not = elim full_or_not [
+    | inr never ↦ inr (λ full. never full.full)
+    | inl full ↦
+        let ns = nodes_of h in
+        elim (some_option (asked_longest ns)) [
+          | inl none ↦ inl (record { full = full; none_incomplete = none_incomplete ns h (nodes_stand h) none })
+          | inr n ↦ inr (λ speakers. speakers.none_incomplete n.0.key (longest_found ns h (nodes_stand h) n.0 n.1).0.incomplete)
+        ]
+  ]
+
+  -- who gives way to it, if one does
+  pub gives_way : (gone : Option ℕ) × GivesWay limit now key h gone
+  gives_way = elim full_or_not [
+    | inr never ↦ (None, λ full. absurd (never full))
+    | inl full ↦
+        let ns = nodes_of h in
+        elim (some_option (asked_longest ns)) [
+          | inl none ↦ (None, λ still. none_incomplete ns h (nodes_stand h) none)
+          | inr n ↦ (Some n.0.key, (full, (longest_found ns h (nodes_stand h) n.0 n.1).0))
+        ]
+  ]
 
   -- who makes room, where there is room
   place_of_absent : is_present (story key h) ≡ false → (WouldBeFull limit now key h → ⊥) → (pushed : Option ℕ) × MakesPlace limit now h (pushing now pushed h)
@@ -97,6 +125,16 @@ module _ (start : Start) (c : Chronicle) (now key : ℕ) where
   pub place_told : (enters : Bool) → (place : Bool) × HasPlace start c now key enters place
   place_told true = placed_or_not (full_or_not start.limits.neighbours now key (neighbour_history c))
   place_told false = (true, λ e. absurd (true≢false (sym e)))
+
+  way_or_not : (IsFullOfSpeakers start.limits.neighbours now key (neighbour_history c) ⊎ (IsFullOfSpeakers start.limits.neighbours now key (neighbour_history c) → ⊥))
+      → (place : Bool) × HasWay start c now key true place
+  way_or_not (inl full) = (false, (refl, full))
+  way_or_not (inr not_full) = (true, λ e. not_full)
+
+  -- there is room for it, where another one may give way to it, or isn't
+  pub way_told : (enters : Bool) → (place : Bool) × HasWay start c now key enters place
+  way_told true = way_or_not (full_of_speakers_or_not start.limits.neighbours now key (neighbour_history c))
+  way_told false = (true, λ e. absurd (true≢false (sym e)))
 
   pub second_told : (second : ℕ) → (place : Bool) × HavePlace start c now key second place
   second_told second =

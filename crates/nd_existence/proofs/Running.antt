@@ -12,7 +12,7 @@ use Rattle.nd_existence.proofs.Walking.{walked}
 use Rattle.nd_existence.proofs.Adding.{event_adds}
 use Rattle.nd_existence.proofs.Timing.{event_timed}
 
-module _ (start : Start) (plain : start.policies.speakers ≡ false) where
+module _ (start : Start) where
   -- after an event there is a chronicle
   followed_by : (late : Bool) (c : Chronicle) (now : ℕ) (event : Event) → nat_lt now (last_moment start.at c) ≡ late → LeavesTime event → AreTimed c
       → (d : Chronicle) × MatchBool late (d ≡ (now, TooLate (last_moment start.at c)) ∷ c)
@@ -22,7 +22,7 @@ module _ (start : Start) (plain : start.policies.speakers ≡ false) where
       let last = last_moment start.at c in
       let le : last ≤ now = grind (arith, nat_tests, is) in
       let w = walked start now (now + 1 - last) c last (omega (arith, le)) t in
-      let a = event_adds start plain ((now, Passed) ∷ w.0) now event in
+      let a = event_adds start ((now, Passed) ∷ w.0) now event in
       (a.0, (w.0, w.1, a.1), event_timed start now ((now, Passed) ∷ w.0) event a.0 fits a.1 w.2)
 
   pub followed : (c : Chronicle) (now : ℕ) (event : Event) → LeavesTime event → AreTimed c → (d : Chronicle) × Follows start c now event d × AreTimed d

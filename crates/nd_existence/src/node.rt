@@ -1,6 +1,6 @@
 //! Each history of a node has a chronicle: laws of the definitions, each the contract of a function that does nothing.
 
-ghost use Rattle.std.specs.Prelude.{◌≡◌, ◌<◌, ◌≤◌, ℕ, false, List, Some, None};
+ghost use Rattle.std.specs.Prelude.{◌≡◌, ◌<◌, ◌≤◌, ℕ, List, Some, None};
 ghost use Rattle.nd_advertiser.specs.Advertising.{advertised_by};
 ghost use Rattle.nd_advertiser.specs.Config.{Settings, config_fault};
 ghost use Rattle.nd_chronicle.specs.Start.{Start};
@@ -14,16 +14,14 @@ ghost use Rattle.nd_existence.specs.Intervals.{AreTimed, LeaveTime};
 /// Each history has a chronicle: for each start, and all events with their moments, in order or not, there is a chronicle of them. By
 /// `nd_chronicle::laws::one_chronicle` there is no other. Any frame may be received, any packet be sent, and any address be given by hand.
 ///
-/// There are two premises. A router is given no MinRtrAdvInterval of 0 (RFC 4861, section 6.2.1: it "MUST be no less than 3 seconds");
-/// `no_end_without_an_interval` says why. And the node doesn't have the policy `speakers`: of a chronicle with more neighbours than the limit, as
-/// `onward` may be asked for, one that gives way leaves no room for another one. That no history with the policy leads to such a chronicle is not
-/// proved here.
+/// There is one premise: a router is given no MinRtrAdvInterval of 0 (RFC 4861, section 6.2.1: it "MUST be no less than 3 seconds").
+/// `no_end_without_an_interval` says why. The node may have any policies.
 pub fn each_history_has_a_chronicle()
-    ensures beginning { (start : Start) (events : List (ℕ × Event)) → start.policies.speakers ≡ false → LeaveTime events → (c : Chronicle) × IsChronicle start events c }
+    ensures beginning { (start : Start) (events : List (ℕ × Event)) → LeaveTime events → (c : Chronicle) × IsChronicle start events c }
     // A chronicle with such settings goes on with all further events of this kind, and keeps such settings.
-    ensures onward { (start : Start) (c : Chronicle) (events : List (ℕ × Event)) → start.policies.speakers ≡ false → AreTimed c → LeaveTime events → (d : Chronicle) × Runs start c events d × AreTimed d }
+    ensures onward { (start : Start) (c : Chronicle) (events : List (ℕ × Event)) → AreTimed c → LeaveTime events → (d : Chronicle) × Runs start c events d × AreTimed d }
     // The chronicle of a history of this kind has such settings.
-    ensures timed { (start : Start) (events : List (ℕ × Event)) (c : Chronicle) → start.policies.speakers ≡ false → LeaveTime events → IsChronicle start events c → AreTimed c }
+    ensures timed { (start : Start) (events : List (ℕ × Event)) (c : Chronicle) → LeaveTime events → IsChronicle start events c → AreTimed c }
 {}
 
 /// If both intervals of a router's settings are 0, the millisecond in which a Router Advertisement is due has no end: each one that is sent is

@@ -56,7 +56,6 @@ use Rattle.nd_chronicle.specs.OwnAddress.{story_of}
 use Rattle.nd_chronicle.specs.Due.{solicited_routers, assigned_at, max_rtr_solicitations, rtr_solicitation_interval}
 use Rattle.nd_chronicle.specs.Due as chronicle_due
 use Rattle.nd_chronicle.specs.Message.{failing_for, releasing, leaving}
-use Rattle.nd_chronicle.specs.Packet.{with_pushed}
 use Rattle.nd_chronicle.specs.RouterAdvertisement.{heard_from, redrawing, with_delay, forming, naming, then_option, then_options, times_out}
 use Rattle.nd_chronicle.specs.Told.{Told, items_at, items}
 use Rattle.nd_out.specs.declared.out.Out.{Out}
@@ -64,7 +63,7 @@ use Rattle.nd_steps.specs.DefaultRouterList.{with_heard, with_left, with_gone, l
 use Rattle.nd_steps.specs.GivingWay.{HearsGiver, WayBy, told_of_way, with_router_gone, with_target_gone}
 use Rattle.nd_steps.specs.NeighbourCache.{PreparesFor, released_rows}
 use Rattle.nd_steps.proofs.Failing.{Fails, fails, with_failed}
-use Rattle.nd_steps.proofs.GivingWay.{EndsOnce, none_before_giver, stands_failed}
+use Rattle.nd_steps.proofs.GivingWay.{EndsOnce, GiverPlaced, giver_placed, none_before_giver, stands_failed}
 use Rattle.nd_steps.specs.Parameters.{HearsParameters}
 use Rattle.nd_steps.specs.OwnAddresses.{Forms}
 use Rattle.nd_nexthop.specs.Memo.{is_asked}
@@ -81,7 +80,7 @@ use Rattle.nd_steps.specs.RouterTables.{next_advertisement, router_side}
 use Rattle.nd_steps.specs.declared.router_tables.RouterTables.{RouterTables}
 use Rattle.nd_steps.proofs.RouterSide.{side_stands}
 use Rattle.nd_steps.proofs.Quiet.{Quiet}
-use Rattle.nd_steps.proofs.Saying.{OneGoes, Others, OverdueByTable, NoneOverdueStill, Placed, items_of_both, others_pushed, others_then, placed_by, pushed_history, releasing_is_quiet, releasing_items, released_kept}
+use Rattle.nd_steps.proofs.Saying.{OneGoes, Others, OverdueByTable, NoneOverdueStill, items_of_both, releasing_is_quiet, releasing_items, released_kept}
 use Rattle.nd_node.proofs.Givers.{way_for}
 use Rattle.nd_steps.proofs.Telling.{Tells-then}
 use Rattle.nd_node.specs.declared.node.Node.{Node}
@@ -491,22 +490,15 @@ module _ {R A : Type 0} (stream : R → Stream) (old new : Node R A) (before aft
   abbrev made : List neighbour_rows.Row
   made = meets.1.0
 
-  -- without the one that gives way
-  abbrev base : Chronicle
-  base = with_pushed now t.gone c
-
-  without : Others c base
-  without = others_pushed now t.gone c (λ at. refl)
-
-  place : Placed start base now of_sender made
-  place = placed_by start base now of_sender made laws.one_goes without.last
-      (subst (λ (l : List neighbour_rows.Row). PreparesFor start.limits.neighbours now of_sender l made) (sym (pushed_history now t.gone c)) meets.1.1)
+  -- the room for the sender, which may be the place of the one that gives way
+  place : GiverPlaced start c now of_sender t.gone made
+  place = giver_placed start c now speakers of_sender t.gone made laws.one_goes (λ at. refl) meets.0 meets.1.1
 
   abbrev placed : Chronicle
   placed = place.placed
 
   others : Others c placed
-  others = others_then without place.others
+  others = place.others
 
   -- the stages of what is added
   abbrev begun : Chronicle

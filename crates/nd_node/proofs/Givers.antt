@@ -27,18 +27,17 @@ use Rattle.nd_chronicle.specs.Histories.{neighbour_history, router_history, redi
 use Rattle.nd_chronicle.specs.Due.{assigned_at}
 use Rattle.nd_chronicle.specs.Message as message
 use Rattle.nd_chronicle.specs.Message.{said, RoomFor, WayFor, failing_for, releasing}
-use Rattle.nd_chronicle.specs.Packet.{with_pushed}
 use Rattle.nd_chronicle.specs.Told.{items_at, items}
 use Rattle.nd_out.specs.declared.out.Out.{Out}
 use Rattle.nd_out.specs.Out.{happening}
 use Rattle.nd_steps.specs.DestinationCache.{MayRemember}
 use Rattle.nd_steps.specs.GivingWay.{HearsGiver, NotesWay, WayBy, told_of_way, with_router_gone, with_target_gone}
-use Rattle.nd_steps.specs.NeighbourCache.{PreparesFor, released_rows, said_by}
+use Rattle.nd_steps.specs.NeighbourCache.{released_rows, said_by}
 use Rattle.nd_steps.specs.Outputs.{at_moment, happenings, Tells}
 use Rattle.nd_steps.proofs.Failing.{Fails, fails, with_failed}
-use Rattle.nd_steps.proofs.GivingWay.{EndsOnce, none_before_giver, stands_failed}
+use Rattle.nd_steps.proofs.GivingWay.{EndsOnce, giver_placed, none_before_giver, stands_failed}
 use Rattle.nd_steps.proofs.Quiet.{Quiet}
-use Rattle.nd_steps.proofs.Saying.{NoneOverdueStill, OneGoes, Others, OverdueByTable, items_of_both, others_pushed, others_then, placed_by, pushed_history, released_kept, releasing_is_quiet, releasing_items}
+use Rattle.nd_steps.proofs.Saying.{NoneOverdueStill, OneGoes, Others, OverdueByTable, items_of_both, released_kept, releasing_is_quiet, releasing_items}
 use Rattle.nd_steps.proofs.Telling.{one, Tells-then, one_more}
 use Rattle.nd_node.specs.declared.node.Node.{Node}
 use Rattle.nd_node.specs.NodeKept.{Stands, next_of}
@@ -134,11 +133,8 @@ module _ {R A : Type 0} (stream : R → Stream) (old : Node R A) (now : ℕ) (so
         (subst (λ (o : Option (ℕ × rows.RowKind)). HearsGiver speakers old.neighbours.limit now o old.neighbours.entries new.neighbours.entries y z gone) (said_is start c s) hears) in
         let h = hears'.each history s.neighbours in
         let made : List rows.Row = h.1.0 in
-        let base : Chronicle = with_pushed now gone later in
-        let without : Others later base = others_pushed now gone later (λ a. refl) in
-        let place : PreparesFor limit now this (neighbour_history base) made = subst (λ (l : List rows.Row). PreparesFor limit now this l made) (sym (pushed_history now gone later)) h.1.1 in
-        let p = placed_by start base now this made one_goes without.last place in
-        let o : Others later p.placed = others_then without p.others in
+        let p = giver_placed start later now speakers this gone made one_goes (λ a. refl) h.0 h.1.1 in
+        let o : Others later p.placed = p.others in
         let row : Chronicle = (now, Heard source destination message) ∷ p.placed in
         let before : Chronicle = failing_for now gone history row in
         let f : Fails now gone history row before = fails now gone history row (λ a. refl) in

@@ -1,6 +1,6 @@
 -- Whether there is room for a neighbour that speaks, and what is remembered where one gave way.
 use Rattle.std.proofs.Common.{◌≡◌, ℕ, ◌+◌, Bool, true, false, List, [], ◌∷◌, ◌++◌, Option, Some, None, append_assoc, refl, sym, ◌∙◌, ap, subst, inl}
-use Rattle.std.specs.Prelude.{◌↔◌, ◌==◌, ◌&&◌, if◌then◌else◌, IfNone, IfSome, MatchBool}
+use Rattle.std.specs.Prelude.{◌↔◌, ◌==◌, ◌&&◌, not, if◌then◌else◌, IfNone, IfSome, MatchBool}
 use Rattle.std.proofs.lemmas.Bool.{eqb-true, true≢false}
 use Rattle.std.proofs.lemmas.List.{map-append}
 use Rattle.nd_addr.specs.declared.addr.Addr.{Addr}
@@ -13,7 +13,9 @@ use Rattle.nd_neighbour.specs.GivingWay.{GivesWay, IsFullOfSpeakers}
 use Rattle.nd_neighbour.specs.DueKept as kept_dates
 use Rattle.nd_neighbour.specs.EntryKept.{NeighbourEntry}
 use Rattle.nd_neighbour.specs.History.{Cause, Forgot, Failed, PushedOut, Row, RowKind, is_end, story}
-use Rattle.nd_neighbour.specs.Place.{pushing}
+use Rattle.nd_neighbour.specs.declared.shown.Reachability.TheVariants.{Stale}
+use Rattle.nd_neighbour.specs.Place.{HadPlace, IsStale, MakesPlace, Pushed, pushing}
+use Rattle.nd_neighbour.specs.Shown.{state_of}
 use Rattle.nd_neighbour.specs.Story.{is_present}
 use Rattle.nd_neighbour.specs.TableKept as neighbours
 use Rattle.nd_neighbour.specs.TableKept.{Stands}
@@ -22,19 +24,19 @@ use Rattle.nd_nexthop.specs.Choice.{Table}
 use Rattle.nd_nexthop.specs.Memo.{Memory, forgotten}
 use Rattle.nd_routers.specs.RoutersKept as routers
 use Rattle.nd_chronicle.specs.Start.{Start}
-use Rattle.nd_chronicle.specs.Happening.{Chronicle}
+use Rattle.nd_chronicle.specs.Happening.{Chronicle, last_moment}
 use Rattle.nd_chronicle.specs.Histories.{neighbour_history, then_neighbour}
 use Rattle.nd_chronicle.specs.Full.{entering, Placed}
 use Rattle.nd_chronicle.specs.Message as message
-use Rattle.nd_chronicle.specs.Message.{HasWay, makes_way}
-use Rattle.nd_chronicle.specs.Packet.{HasPlace}
+use Rattle.nd_chronicle.specs.Message.{HasWay, RoomBy, makes_way}
+use Rattle.nd_chronicle.specs.Packet.{HasPlace, with_pushed}
 use Rattle.nd_out.specs.declared.out.Out.{Out}
 use Rattle.nd_steps.specs.DestinationCache.{AsListed, Forgets, Keeps, MayRemember, Recollects}
 use Rattle.nd_steps.specs.GivingWay.{HearsGiver, MakesWay, PlacedByWay, WayBy, told_of_way}
 use Rattle.nd_steps.specs.NeighbourCache.{HearsOf, PreparesFor, released_rows, said_by}
 use Rattle.nd_steps.specs.Outputs.{at_moment, happenings}
 use Rattle.nd_steps.proofs.Failing.{with_failed}
-use Rattle.nd_steps.proofs.Saying.{NoneOverdueStill, OneGoes, OverdueByTable, made_later, pushed_later, said_later}
+use Rattle.nd_steps.proofs.Saying.{NoneOverdueStill, OneGoes, Others, OverdueByTable, made_later, others_pushed, placed_by, pushed_history, pushed_later, said_later}
 
 -- ---- room
 
@@ -144,6 +146,54 @@ gone_absent law speakers limit now gone (Some said) history made way place = by 
         let p = law limit now said.0 (message.lets_enter said.1) (pushing now (Some gone) history) made place in
         other_story gone said.0 now said.1 made (not_same limit now said.0 gone history way)
         ∙ (ap (story gone) p.1 ∙ pushed_too gone now p.0 (pushing now (Some gone) history) (ended_story gone now PushedOut history))
+
+-- ---- the one that gave way is the room
+
+-- where one gives way, none is STALE, and none is behind its end
+none_stale_behind : (limit now key gone : ℕ) (history : List Row) → GivesWay limit now key history (Some gone) → (k : ℕ) → IsStale (pushing now (Some gone) history) now k → ⊥
+none_stale_behind limit now key gone history way k stale = by (gone == k) stale
+  where
+    by : (b : Bool) → (is_present (if b then [] else story k history) ≡ true) × (state_of (if b then [] else story k history) now ≡ Stale) → ⊥
+    by true s = true≢false (sym s.0)
+    by false s = way.0.none_stale k s
+
+-- so no other one is evicted
+none_evicted : (limit now key gone : ℕ) (history made : List Row) → GivesWay limit now key history (Some gone) → MakesPlace limit now (pushing now (Some gone) history) made → made ≡ pushing now (Some gone) history
+none_evicted limit now key gone history made way (HadPlace entries stands few is) = is
+none_evicted limit now key gone history made way (Pushed entries k stands many longest is) = absurd (none_stale_behind limit now key gone history way k longest.stale)
+
+made_alone : (speakers : Bool) (limit now gone : ℕ) (said : Option (ℕ × RowKind)) (history made : List Row) → WayBy speakers limit now said history (Some gone)
+    → PreparesFor limit now said (pushing now (Some gone) history) made → made ≡ pushing now (Some gone) history
+made_alone speakers limit now gone None history made way place = place
+made_alone speakers limit now gone (Some said) history made way place = by (message.lets_enter said.1 && speakers) way
+  where
+    prepared : (b : Bool) → GivesWay limit now said.0 history (Some gone) → MatchBool b (MakesPlace limit now (pushing now (Some gone) history) made) (made ≡ pushing now (Some gone) history) → made ≡ pushing now (Some gone) history
+    prepared true way m = none_evicted limit now said.0 gone history made way m
+    prepared false way m = m
+
+    by : (b : Bool) → MatchBool b (GivesWay limit now said.0 history (Some gone)) (Some gone ≡ None) → made ≡ pushing now (Some gone) history
+    by false way = no_way gone way
+    by true way = prepared (message.lets_enter said.1 && not (is_present (story said.0 (pushing now (Some gone) history)))) way place
+
+-- there is a chronicle with room for the neighbour, for which another one may have given way
+pub record GiverPlaced (start : Start) (c : Chronicle) (now : ℕ) (said : Option (ℕ × RowKind)) (gone : Option ℕ) (made : List Row) : Type 0 where
+  pub placed : Chronicle
+  pub place : RoomBy start c now said gone placed
+  pub history : neighbour_history placed ≡ made
+  pub others : Others c placed
+
+pub giver_placed : (start : Start) (c : Chronicle) (now : ℕ) (speakers : Bool) (said : Option (ℕ × RowKind)) (gone : Option ℕ) (made : List Row) → OneGoes → ((at : ℕ) → last_moment at c ≡ now)
+    → WayBy speakers start.limits.neighbours now said (neighbour_history c) gone → PreparesFor start.limits.neighbours now said (pushing now gone (neighbour_history c)) made
+    → GiverPlaced start c now said gone made
+giver_placed start c now speakers said None made law last way place =
+    let p = placed_by start c now said made law last place in
+    record { placed = p.placed; place = p.place; history = p.history; others = p.others }
+giver_placed start c now speakers said (Some gone) made law last way place = record {
+  placed = with_pushed now (Some gone) c;
+  place = refl;
+  history = pushed_history now (Some gone) c ∙ sym (made_alone speakers start.limits.neighbours now gone said (neighbour_history c) made way place);
+  others = others_pushed now (Some gone) c last;
+}
 
 -- a law of the neighbours: the end of one that isn't present changes nothing
 abbrev pub EndsOnce : Type 0

@@ -7,12 +7,12 @@ use Rattle.nd_existence.proofs.Running.{run}
 use Rattle.nd_existence.proofs.node.each_history_has_a_chronicle.Goals as goal
 
 pub returns-clause-beginning : goal.returns-clause-beginning
-returns-clause-beginning c = λ start events plain fits. let r = run start plain events (beginning start) (recursion_from_All _ events fits) tt in (r.0, r.1)
+returns-clause-beginning c = λ start events fits. let r = run start events (beginning start) (recursion_from_All _ events fits) tt in (r.0, r.1)
 
 pub returns-clause-onward : goal.returns-clause-onward
-returns-clause-onward c = λ start d events plain timed fits. run start plain events d (recursion_from_All _ events fits) timed
+returns-clause-onward c = λ start d events timed fits. run start events d (recursion_from_All _ events fits) timed
 
 pub returns-clause-timed : goal.returns-clause-timed
-returns-clause-timed c = λ start events d plain fits runs.
-    let r = run start plain events (beginning start) (recursion_from_All _ events fits) tt in
+returns-clause-timed c = λ start events d fits runs.
+    let r = run start events (beginning start) (recursion_from_All _ events fits) tt in
     subst AreTimed (one_run start events (beginning start) r.0 d r.1 runs) r.2

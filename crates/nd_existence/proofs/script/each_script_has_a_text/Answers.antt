@@ -5,4 +5,4 @@ pub returns-clause-read : goal.returns-clause-read
 returns-clause-read c = λ n lines. all_read lines n
 
 pub returns-clause-text : goal.returns-clause-text
-returns-clause-text c = λ start n lines plain. text_of start n lines plain
+returns-clause-text c = λ start n lines. text_of start n lines
