@@ -16,6 +16,7 @@ pub mod Idle
 pub mod Rivals
 pub mod Keeping
 pub mod Unrivalled
+pub mod TurnedAway
 pub mod Unchanged
 pub mod Refusals
 pub mod Answering

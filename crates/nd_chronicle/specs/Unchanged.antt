@@ -3,7 +3,12 @@ use Rattle.std.specs.Prelude.{◌≡◌, ◌↔◌, ℕ, Bool, true, false, List
 use Rattle.nd_addr.specs.declared.addr.Addr.{Addr}
 use Rattle.nd_nexthop.specs.NextHop.{NextHop}
 use Rattle.nd_chronicle.specs.Start.{Start}
-use Rattle.nd_chronicle.specs.Happening.{Chronicle, Happening, Passed, Dropped, Refused, TooLate}
+use Rattle.nd_addr.specs.declared.why.Why.{Why}
+use Rattle.nd_chronicle.specs.Answer as answers
+use Rattle.nd_chronicle.specs.Answer.{answer_after, is_packet}
+use Rattle.nd_chronicle.specs.Event.{Event, Receives}
+use Rattle.nd_chronicle.specs.Happening.{Chronicle, Happening, Passed, Dropped, Refused, Refusal, TooLate}
+use Rattle.nd_chronicle.specs.Hearing.{IsHeard, drops}
 use Rattle.nd_chronicle.specs.Histories.{parameter_history, neighbour_history, router_history, prefix_history, address_history, server_history, name_history, redirect_history, advertising_history, route_history}
 use Rattle.nd_chronicle.specs.Generator.{stream_left}
 use Rattle.nd_chronicle.specs.Due.{What, Due}
@@ -16,6 +21,11 @@ changes_nothing (Dropped why) = true
 changes_nothing (Refused refusal) = true
 changes_nothing (TooLate last) = true
 changes_nothing _ = false
+
+-- The node takes nothing of the event: it drops its frame, for the first reason that holds, or refuses the event, as the answer says.
+pub data IsTurnedAway (start : Start) (now : ℕ) (event : Event) (c d : Chronicle) : Type 0 where
+  IsDropped : (frame : List ℕ) (why : Why) → event ≡ Receives frame → IsHeard start c now frame (drops why) → IsTurnedAway start now event c d
+  IsRefused : (refusal : Refusal) → answer_after d (is_packet event) ≡ answers.Refused refusal → IsTurnedAway start now event c d
 
 -- the one is to every question what the other was: the history of each table, the packets that wait among the neighbours', the words of the
 -- generator, what is due and when, the next hop of each packet, and what is shown of each table

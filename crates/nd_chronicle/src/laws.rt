@@ -1,6 +1,6 @@
 //! Laws of the definitions, each the contract of a function that does nothing.
 
-ghost use Rattle.std.specs.Prelude.{◌≡◌, ◌≢◌, ◌<◌, ◌≤◌, ◌+◌, ◌++◌, ◌∷◌, ℕ, Bool, List, None, false, true};
+ghost use Rattle.std.specs.Prelude.{◌≡◌, ◌≢◌, ◌<◌, ◌≤◌, ◌+◌, ◌++◌, ◌∷◌, ◌==◌, ◌&&◌, ◌||◌, not, ℕ, Bool, IsSomeAnd, List, None, [], false, if◌then◌else◌, is_some, length, nat_lt, true};
 ghost use Rattle.nd_addr.specs.Bytes.{AreBytes};
 ghost use Rattle.nd_addr.specs.Number.{addr_at, number_of};
 ghost use Rattle.nd_addr.specs.declared.addr.Addr.{Addr};
@@ -13,8 +13,13 @@ ghost use Rattle.nd_dns.specs.AnnouncedServers.{servers_told};
 ghost use Rattle.nd_routers.specs.OnLinkPrefixes as on_link;
 ghost use Rattle.nd_slaac.specs.PrefixOption.{prefixes_in};
 ghost use Rattle.nd_slaac.specs.Room as own;
-ghost use Rattle.nd_table.specs.Listing.{with_room};
-ghost use Rattle.nd_chronicle.specs.Parts.{Filling, TakesByRoom, options_taken};
+ghost use Rattle.nd_table.specs.Listing.{end_in, open_at, with_room};
+ghost use Rattle.nd_routers.specs.Routers as routers;
+ghost use Rattle.nd_neighbour.specs.Place.{WouldBeFull};
+ghost use Rattle.nd_decode.specs.declared.prefix_info.PrefixInfo.{PrefixInfo};
+ghost use Rattle.nd_decode.specs.declared.router_advertisement.RouterAdvertisement.{RouterAdvertisement};
+ghost use Rattle.nd_chronicle.specs.Parts.{Filling, IsTakenInPart, Taken, TakenOfAdvertisement, TakesByRoom, options_taken, then_known};
+ghost use Rattle.nd_chronicle.specs.Full.{needs};
 ghost use Rattle.nd_chronicle.specs.RouterAdvertisement.{then_options};
 ghost use Rattle.nd_decode.specs.declared.body.Body.TheVariants as bodies;
 ghost use Rattle.nd_table.specs.History.{Past};
@@ -25,7 +30,7 @@ ghost use Rattle.nd_slaac.specs.MayCome.{Held};
 ghost use Rattle.nd_slaac.specs.State.{is_assigned, is_known};
 ghost use Rattle.nd_chronicle.specs.Start.{Limits, Start, link_local_key};
 ghost use Rattle.nd_chronicle.specs.Happening.{Address, Chronicle, Happening, Heard, Passed, Refusal, Refused};
-ghost use Rattle.nd_chronicle.specs.Histories.{address_history};
+ghost use Rattle.nd_chronicle.specs.Histories.{address_history, neighbour_history};
 ghost use Rattle.nd_chronicle.specs.OwnAddress.{is_own, is_up, story_of};
 ghost use Rattle.nd_chronicle.specs.OwnAddress as own_addresses;
 ghost use Rattle.nd_chronicle.specs.Event.{ComeAsBytes, Event, EventAdds, FrameAdds, VerdictAdds};
@@ -41,7 +46,7 @@ ghost use Rattle.nd_chronicle.specs.Refused.{GrowsUnrefused, RefusedOrNot};
 ghost use Rattle.nd_chronicle.specs.Answer as answers;
 ghost use Rattle.nd_chronicle.specs.Answer.{answer_after, is_packet};
 ghost use Rattle.nd_chronicle.specs.Places.{AssignedInRows, HeldInRows, PlaceOf, solicited_with};
-ghost use Rattle.nd_chronicle.specs.Unchanged.{IsUnchanged, changes_nothing};
+ghost use Rattle.nd_chronicle.specs.Unchanged.{IsTurnedAway, IsUnchanged, changes_nothing};
 
 /// A history has one chronicle.
 pub fn one_chronicle()
@@ -76,7 +81,11 @@ pub fn each_assignment_was_tried()
 
 /// A dropped frame, a refused event and an event in the past change nothing: the history of each table, the packets that wait, the words of the
 /// generator, what is due, each next hop and what each table shows stay as they were.
+///
+/// `turned_away` says so of events: behind what was due (RFC 4861 lets time pass first), an event whose frame is dropped, and one that is answered with a
+/// refusal, leave a chronicle that is unchanged.
 pub fn refusals_change_nothing()
+    ensures turned_away { (start : Start) (c d : Chronicle) (now : ℕ) (event : Event) → EventAdds start now event ((now, Passed) ∷ c) d → IsTurnedAway start now event ((now, Passed) ∷ c) d → IsUnchanged start c d }
     ensures row { (start : Start) (c : Chronicle) (at : ℕ) (what : Happening) → changes_nothing what ≡ true → IsUnchanged start c ((at, what) ∷ c) }
     ensures event { (start : Start) (c : Chronicle) (now : ℕ) (what : Happening) → changes_nothing what ≡ true → IsUnchanged start c ((now, what) ∷ (now, Passed) ∷ c) }
 {}
@@ -93,7 +102,8 @@ pub fn no_message_is_refused()
 {}
 
 /// With the policy `parts` a Router Advertisement that doesn't fit is taken but for what has no room, in its order (RFC 8106, section 5.3.1): of the announcements
-/// of a table those that `with_room` leaves. A refresh or a removal always has room, and a new one while fewer are listed than the limit.
+/// of a table those that `with_room` leaves. A refresh or a removal always has room, and a new one while fewer are listed than the limit; so it is of own
+/// addresses, of the router and of the neighbour too.
 pub fn what_has_room_is_taken()
     ensures prefixes { (limits : Limits) (mac : Mac) (now : ℕ) (f : Filling) (options : List Said) → on_link.prefixes_in (options_taken limits mac now f options) ≡ with_room same_prefix limits.prefixes now (on_link.prefixes_in options) f.prefixes }
     ensures addresses { (limits : Limits) (mac : Mac) (now : ℕ) (f : Filling) (options : List Said) (start : Start) (to_all : Bool) (c : Chronicle)
@@ -103,6 +113,20 @@ pub fn what_has_room_is_taken()
     ensures prefix { TakesByRoom same_prefix }
     ensures server { TakesByRoom same_addr }
     ensures name { TakesByRoom same_name }
+
+    // An option is passed over only if it would form an address too many; one that renews an address, or forms none, is taken.
+    ensures address { (limit : ℕ) (mac : Mac) (keys : List ℕ) (info : PrefixInfo) (infos : List PrefixInfo) → own.with_room limit mac keys (info ∷ infos)
+        ≡ (if own.would_form mac keys info && not (nat_lt (length keys) limit) then own.with_room limit mac keys infos
+        else info ∷ own.with_room limit mac (then_known mac (info ∷ []) keys) infos) }
+
+    // A router is listed unless it is new, its lifetime isn't 0, and as many are listed as the limit.
+    ensures router { (start : Start) (c : Chronicle) (now : ℕ) (source : Addr) (ra : RouterAdvertisement) (message : Parts) (taken : Taken)
+        → (t : TakenOfAdvertisement start c now source ra message taken) → length t.routers ≤ start.limits.routers
+        → taken.listed ≡ ((ra.router_lifetime == 0) || (is_some (end_in routers.same (number_of source.0) (open_at now t.routers)) || nat_lt (length (open_at now t.routers)) start.limits.routers)) }
+
+    // A neighbour gets its entry unless it is new, and all entries are taken and none of them is STALE.
+    ensures neighbour { (start : Start) (c : Chronicle) (now : ℕ) (source : Addr) (message : Parts) (taken : Taken) → IsTakenInPart start c now source message message.body taken → taken.place ≡ false
+        → IsSomeAnd (needs c source message message.body) (λ need. (need.1 ≡ true) × WouldBeFull start.limits.neighbours now need.0 (neighbour_history c)) }
 {}
 
 /// The answer to an event says what the event added: a refusal alone, or rows none of which is a refusal.
