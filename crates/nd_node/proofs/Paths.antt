@@ -1,6 +1,8 @@
 -- The path of a destination, by what a node keeps, is that of the chronicle.
 use Rattle.std.proofs.Common.{◌≡◌, ◌≤◌, ℕ, Bool, true, false, List, Option, Some, None, refl, sym, ◌∙◌, ap, subst, arith}
+use Rattle.std.specs.Prelude.{◌+◌, ◌&&◌, if◌then◌else◌}
 use Rattle.std.specs.Option.{option_map}
+use Rattle.std.proofs.Math.Bool.{and-false}
 use Rattle.std.proofs.lemmas.Bool.{cond-false, cond-true}
 use Rattle.rand_core.specs.Stream.{Stream}
 use Rattle.nd_addr.specs.declared.addr.Addr.{Addr}
@@ -11,10 +13,10 @@ use Rattle.nd_addr.specs.Prefix.{PrefixValue}
 use Rattle.nd_addr.specs.Same.{same_prefix}
 use Rattle.nd_table.specs.declared.lasting.Lasting.{Lasting}
 use Rattle.nd_table.specs.Listing.{Lists, open_at}
-use Rattle.nd_neighbour.specs.EntryKept.{NeighbourEntry}
+use Rattle.nd_neighbour.specs.EntryKept.{Known, NeighbourEntry, Resolving, Stage, known_mac}
 use Rattle.nd_neighbour.specs.LeaseKept.{mac_at}
-use Rattle.nd_neighbour.specs.Shown.{Seen}
-use Rattle.nd_neighbour.specs.ShownKept.{seen}
+use Rattle.nd_neighbour.specs.Shown.{Seen, is_leased}
+use Rattle.nd_neighbour.specs.ShownKept.{left_in, seen, state_in}
 use Rattle.nd_neighbour.specs.TableKept.{entry_in}
 use Rattle.nd_neighbour.proofs.Forgetting.{seen_by_history}
 use Rattle.nd_nexthop.specs.NextHop.{NextHop, direct, via, no_route}
@@ -27,12 +29,39 @@ use Rattle.nd_node.specs.declared.node.Node.{Node}
 use Rattle.nd_node.specs.Node.{NextDue}
 use Rattle.nd_node.specs.NodeKept.{Stands, next_of}
 use Rattle.nd_node.specs.PathKept.{hop_kept, left_by_hop, left_kept, left_of, path_by_hop, path_kept, up_kept}
-use Rattle.nd_node.specs.Path.{IsPath, PathSeen, first_end, neighbour_at, path_by, path_of, path_to_all}
+use Rattle.nd_node.specs.Moments.{earlier}
+use Rattle.nd_node.specs.Path.{IsPath, PathSeen, first_end, lease, neighbour_at, path_by, path_of, path_to_all}
 
 -- it goes by this next hop
 pub next_of_path : (up : Bool) (now due : ℕ) (end : Option ℕ) (next : NextHop) (found : Option Seen) → (path_by up now due end next found).next ≡ next
 next_of_path up now due end next None = refl
 next_of_path up now due end next (Some n) = refl
+
+-- there is no lease where no link-layer address is kept
+unleased_stage : (up : Bool) (now due : ℕ) (end : Option ℕ) (stage : Stage) → known_mac stage ≡ None
+    → lease (up && is_leased (state_in stage now)) now (earlier (option_map (λ left. now + left) (left_in stage now)) due) end ≡ now
+unleased_stage up now due end (Resolving retrans sent wanted waiting) none = ap (λ (b : Bool). lease b now (earlier None due) end) (and-false up)
+unleased_stage up now due end (Known mac confirmed since probing) none = let never : ⊥ = cc in absurd never
+
+unleased_by : (up : Bool) (now due : ℕ) (end : Option ℕ) (next : NextHop) (o : Option NeighbourEntry)
+    → (path_by up now due end next (option_map (seen now) o)).mac ≡ None → (path_by up now due end next (option_map (seen now) o)).until ≡ now
+unleased_by up now due end next None none = refl
+unleased_by up now due end next (Some n) none = unleased_stage up now due end n.stage none
+
+unleased_hop : (up : Bool) (now due : ℕ) (end : Option ℕ) (entries : List NeighbourEntry) (destination : Addr) (next : NextHop)
+    → (path_by_hop up now due end entries destination next).mac ≡ None → (path_by_hop up now due end entries destination next).until ≡ now
+unleased_hop up now due end entries destination no_route none = refl
+unleased_hop up now due end entries destination (via key) none = unleased_by up now due end (via key) (entry_in key entries) none
+unleased_hop up now due end entries destination direct none = by (holds multicast_prefix destination.0) none
+  where
+    by : (t : Bool) → (if t then path_to_all up now due destination else path_by up now due end direct (option_map (seen now) (entry_in (number_of destination.0) entries))).mac ≡ None
+        → (if t then path_to_all up now due destination else path_by up now due end direct (option_map (seen now) (entry_in (number_of destination.0) entries))).until ≡ now
+    by true none = let never : ⊥ = cc in absurd never
+    by false none = unleased_by up now due end direct (entry_in (number_of destination.0) entries) none
+
+pub unleased : {R A : Type 0} (node : Node R A) (now : ℕ) (destination : Addr) → (path_kept node now destination).mac ≡ None → (path_kept node now destination).until ≡ now
+unleased node now destination none =
+    unleased_hop (up_kept node) now (next_of node) (first_end node.role (open_at now node.prefixes.entries)) node.neighbours.entries destination (hop_kept node.role node now destination) none
 
 -- to the link-layer address that is kept
 pub mac_of_path : (up : Bool) (now due : ℕ) (end : Option ℕ) (next : NextHop) (o : Option NeighbourEntry) → (path_by up now due end next (option_map (seen now) o)).mac ≡ mac_at o

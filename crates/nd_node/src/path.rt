@@ -1,6 +1,6 @@
 //! Where packets to a destination go, and until when they may be sent there without a question. The definition is in `specs/Path.antt`.
 
-ghost use Rattle.std.specs.Prelude.{◌≡◌, ◌↔◌, ℕ, ◌+◌, ◌<◌, ◌≤◌, ◌&&◌, IfSome, IsSome};
+ghost use Rattle.std.specs.Prelude.{◌≡◌, ◌↔◌, ℕ, ◌+◌, ◌<◌, ◌≤◌, ◌&&◌, IfSome, IsSome, None};
 ghost use Rattle.std.specs.Option.{option_map};
 ghost use Rattle.nd_addr.specs.Number.{number_of};
 ghost use Rattle.nd_table.specs.Listing.{open_at};
@@ -144,6 +144,9 @@ impl<R: Rng + Drop, A: Allocator + Clone> Node<R, A> {
         ensures path { (start : Start) (c : Chronicle) → Stands R.stream start self.now c → last_moment start.at c ≤ now → IsPath start c now destination (path_in result) }
         ensures value { path_in result ≡ path_kept self.now now destination }
         ensures lasts { (start : Start) (c : Chronicle) (moment : ℕ) → Stands R.stream start self.now c → last_moment start.at c ≤ now → now ≤ moment → moment < result.until → Lasts start c moment destination (path_in result) }
+
+        // There is no lease where the link-layer address isn't known.
+        ensures unleased { result.mac ≡ None → result.until ≡ now }
     {
         let hop = self.next_hop_to(now, destination);
         self.path_through(now, self.next_due(), hop, destination)
