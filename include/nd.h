@@ -44,7 +44,8 @@
  *     while it runs.
  *   - Structures are aligned as C aligns them. Buffers and addresses may have any alignment.
  *   - A call has 16,384 bytes of stack. On x86-64 this is enough, with the memory functions of
- *     bindings/c/heap.c. It is measured, not proved.
+ *     bindings/c/heap.c: for the archive, and for nd.c compiled with -O2 or -Os. Compiled without
+ *     optimisation a call over nd.c takes up to 45,000. It is measured, not proved.
  * No pointer is kept after a call: the caller owns every structure and buffer, the library owns the
  * blocks of memory that it requested.
  *
@@ -76,6 +77,8 @@
  * itself adds. Three requests precede a refusal: for the frame of nd_receive_message, before what
  * is due; for the copy of a payload of nd_send, before ND_REFUSAL_FULL; and for the record of the
  * refusal, if other records were not polled.
+ *   That a frame was dropped is no status: nd_receive returns ND_DONE for it too, and the record
+ *   ND_OUT_DROPPED says so, and why.
  *   A refusal is ND_REFUSED(refusal, limit), -16 or below: time has passed up to the event, what
  *   was due is done, and nothing else has changed. nd_refusal_of and nd_limit_of say why.
  *   ND_NO_MEMORY: the event has added nothing. A part of what was due may have been done, and is
@@ -132,7 +135,9 @@
  * fields are 0: the library writes zeros, and returns ND_INVALID if the caller passes anything
  * else.
  *
- * WITH nd.c, the node as one C file, a program includes dist/nd.h in place of this header.
+ * WITH nd.c, the node as one C file of dist/: cc -O2 program.c nd.c, or nd_small.c, which is the
+ * same for little flash. It defines the three memory functions over malloc, unless ND_OWN_MEMORY is
+ * defined where it is compiled. All that is said here holds for it too. Its README.md says more.
  *
  * VERSION. The major number changes with any layout, number or meaning, the minor number with an
  * addition: a function, a value of an enumeration, a field in place of `reserved` or at the end of
@@ -160,7 +165,8 @@
  *     is.
  *   - nd_pass and nd_poll pass on what is proved below them: time passes whatever memory there is
  *     (STATUS).
- * TRUSTED: the duties above, enough stack, the three memory functions, and the toolchain.
+ * TRUSTED: the duties above, enough stack, the three memory functions, and the toolchain; of nd.c
+ * also what translates it to C, and your compiler.
  * bindings/check compares this header with the library's source.
  */
 #ifndef JONDASIK_ND_H
@@ -250,7 +256,8 @@ static inline struct nd_block nd_block_at(void *p)
 
 /* The program defines these three functions, so there is one heap for all nodes. The library uses
  * no other memory but the stack, and no other symbol but memcpy, memmove and memset.
- * bindings/c/heap.c defines them over malloc, bindings/c/pool.c over a static array.
+ * bindings/c/heap.c defines them over malloc, and nd.c has it; bindings/c/pool.c defines them over
+ * a static array.
  *   nd_alloc: a block of `size` bytes (it may be 0), aligned to `align` and to each power of two up
  *     to 16 that divides `size`. Multiples of 16 always are.
  *   nd_realloc: the block at `p` with the new size; its first `kept` bytes are kept. If it is
@@ -308,7 +315,7 @@ typedef struct nd_node {
     void *at;     /* private */
 } nd_node;
 
-/* A closed node, as are 16 zero bytes. */
+/* A closed node, as are zero bytes: 16, or 8 where pointers have 32 bits. */
 #define ND_NODE_INIT { false, 0 }
 
 enum nd_draws {
@@ -366,12 +373,13 @@ typedef struct nd_options {
     uint64_t seed;     /* decides the random delays: take it from the system's entropy, so that
                           machines that start together do not send together (RFC 4861, 6.3.7) */
     nd_limits limits;
+    uint64_t lease_version; /* where nd_lease_version begins; 0: at 1. See nd_close */
 } nd_options;
 
 /* A host with the usual limits, as are zero bytes. */
 #define ND_OPTIONS_INIT \
     { 0, { { 0, 0, 0, 0, 0, 0 } }, 0, 0, 0, 0, 0, \
-      { 0, 0, 0, 0, 0, 0, 0, 0, 0, 0, 0, { 0, 0, 0, 0, 0 } } }
+      { 0, 0, 0, 0, 0, 0, 0, 0, 0, 0, 0, { 0, 0, 0, 0, 0 } }, 0 }
 
 /* Makes them those of a host with the usual limits. */
 static inline void nd_options_init(nd_options *options)
@@ -393,8 +401,9 @@ int32_t nd_open(nd_node *node, const nd_options *options, size_t size);
 /* Closes a node. Nothing is sent, and records that were not polled are lost. So a router calls
  * nd_stop_advertising first, and polls until ND_NOTHING: by its last advertisement it leaves the
  * hosts' lists (RFC 4861, 6.2.5), where it may else stay for its whole lifetime. All leases end:
- * forget the paths of nd_resolve. A node that is opened anew counts its versions anew, so an old
- * path may have the version of today. A closed node may be closed again, and opened anew. */
+ * forget the paths of nd_resolve. Or open the next node with `lease_version` above the
+ * nd_lease_version of this one: its version is never that of an old path then, since it never
+ * falls. A closed node may be closed again, and opened anew. */
 void nd_close(nd_node *node);
 
 /* ---- time ------------------------------------------------------------------------------------ */
@@ -598,7 +607,7 @@ typedef struct nd_path { /* a field is 0 where the status does not have it, but 
  * where `version` is nd_lease_version after the last call. Such a packet leaves the node as it
  * would be with a call: its neighbour is used, and not STALE (RFC 4861, 7.3.3). Once the lease is
  * over, ask again. Where `until` is `now` there is none: ask for each packet. nd_close ends all
- * leases, and this test does not show it: forget the paths then.
+ * leases; it says how this test shows that.
  * For each packet, with a path that is kept for its destination (examples/c/stack.c):
  *
  *     if (now >= path->until || path->version != version) {
@@ -623,7 +632,7 @@ int32_t nd_resolve(nd_node *node, uint64_t now, const nd_addr *destination, nd_p
  * neighbours, with nd_pass, nd_next_hop, nd_receive of a frame that is dropped or whose packet is
  * for the node (what it reports is ND_OUT_DROPPED or ND_OUT_UP), and nd_confirm and nd_confirm_to,
  * unless ReachableTime has become so short that the lease of a path to the neighbour ends earlier.
- * 0 if the node is closed; a node that is opened again counts anew. It changes nothing. */
+ * 0 if the node is closed. It begins where nd_options.lease_version says. It changes nothing. */
 uint64_t nd_lease_version(nd_node *node);
 
 /* ---- events at a router ---------------------------------------------------------------------- */
@@ -936,7 +945,7 @@ int32_t nd_counts_of(nd_node *node, uint64_t now, nd_counts_row *row);
 /* ---- without a node -------------------------------------------------------------------------- */
 
 /* nd_hear.h declares nd_hear, which says what a frame is to a host or to a router that knows
- * nothing else: its message, or the first reason to drop it. The archive of a node has it too. */
+ * nothing else: its message, or the first reason to drop it. The library of a node has it too. */
 
 /* ---- planned --------------------------------------------------------------------------------- */
 

@@ -7,7 +7,7 @@
  * every second run memory is refused to the first node now and then, and its call is made again; a question in a lease needs none.
  *   The version of leases grows with each event but a confirmation. Where nothing is due it stays with nd_pass and nd_next_hop, with all else that changes
  * no more than the moment, and with a confirmation, unless that makes a lease shorter; some calls that do what is due leave it too. It never falls.
- * nd_confirm_to does what nd_next_hop, nd_neighbour_of, nd_parameters_of and nd_confirm do. The lines are the counts of each run. */
+ * It begins where the options say. nd_confirm_to does what nd_next_hop, nd_neighbour_of, nd_parameters_of and nd_confirm do. The lines are the counts of each run. */
 #include "heap.h"
 #include "busy.h"
 #include "words.h"
@@ -500,6 +500,34 @@ static void try_versions(void)
     refuse_moment(now, ND_CLOSED, version);
 }
 
+/* Opens a node whose versions begin there, by an older structure without the field if it is 0, and requires that the first one is `first`. */
+static void open_at(uint64_t lease_version, uint64_t first)
+{
+    nd_options options = host_options();
+    options.lease_version = lease_version;
+    require(nd_open(&one, &options, lease_version == 0 ? offsetof(nd_options, lease_version) : sizeof options) == ND_DONE, "a node is opened");
+    require(nd_lease_version(&one) == first, "its version begins where its options say");
+    require(nd_pass(&one, OPENED_AT) == ND_DONE, "its address is assigned");
+}
+
+/* Requires that versions begin where the options say, and that a path of a node has no version of the next one if that begins above. */
+static void try_first_versions(void)
+{
+    const struct frame *frame = &frames[0];
+    nd_path path;
+    open_at(0, 1);
+    now = OPENED_AT;
+    require(nd_receive(&one, now, frame->bytes, frame->length) == ND_DONE, "a frame is received");
+    require(nd_confirm(&one, now, &destinations[0]) == ND_DONE, "a neighbour is confirmed");
+    require(path_of(&one, 0, &path) == ND_DONE && path.version == nd_lease_version(&one), "a neighbour that is confirmed has a lease");
+    nd_close(&one);
+    open_at(path.version + 1, path.version + 1);
+    require(nd_lease_version(&one) > path.version, "no version of the next node is that of the path");
+    nd_close(&one);
+    open_at(UINT64_MAX, UINT64_MAX);
+    nd_close(&one);
+}
+
 int main(int argc, char **argv)
 {
     size_t steps;
@@ -512,6 +540,7 @@ int main(int argc, char **argv)
     make_destinations();
     printf("%s\n", role == ND_ROLE_HOST ? "host" : "router");
     try_versions();
+    try_first_versions();
     for (size_t i = 0; i < sizeof SETTINGS / sizeof *SETTINGS; i++) {
         for (int scarce = 0; scarce < 2; scarce++) {
             is_scarce = scarce == 1;

@@ -61,6 +61,7 @@ class Options:
     transmits: int = 1  # DupAddrDetectTransmits (RFC 4862, 5.1), 1 to 8
     limits: Limits = field(default_factory=Limits)
     policies: Policy = Policy(0)
+    lease_version: int = 0  # where Node.lease_version begins, 0: at 1; above that of an earlier node, none of its paths has this node's version
 
     @classmethod
     def host(cls, mac: Union[Mac, str, BytesLike], start: int = 0, seed: int = 0) -> Options:
@@ -76,7 +77,8 @@ class Options:
         """Returns the structure of nd.h. Raises Invalid if a number is out of the range of its field."""
         draws = raw.Draws.WORD if isinstance(self.draws, Word) else raw.Draws.SEED
         return structure_of(raw.nd_options, role=self.role, mac=raw_mac(Mac(self.mac)), transmits=self.transmits, draws=draws,
-                            policies=int(self.policies), start=self.start, seed=self.draws.number, limits=self.limits.raw())
+                            policies=int(self.policies), start=self.start, seed=self.draws.number, limits=self.limits.raw(),
+                            lease_version=self.lease_version)
 
 
 def node_bytes(limits: Limits = Limits()) -> Optional[int]:

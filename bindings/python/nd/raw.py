@@ -148,7 +148,7 @@ POLICIES_ROBUST = Policy.PARTS | Policy.SPEAKERS | Policy.TIMERS | Policy.SELF |
 
 class nd_options(Structure):
     _fields_ = [("role", c_uint32), ("mac", nd_mac), ("transmits", c_uint8), ("draws", c_uint8), ("policies", c_uint32), ("start", c_uint64),
-                ("seed", c_uint64), ("limits", nd_limits)]
+                ("seed", c_uint64), ("limits", nd_limits), ("lease_version", c_uint64)]
 
 
 class Clearable(Numbers):

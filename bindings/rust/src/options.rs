@@ -168,6 +168,9 @@ pub struct Options {
     pub limits: Limits,
     /// What it does on a link that is not trusted.
     pub policies: Policies,
+    /// Where [`Node::lease_version`](crate::Node::lease_version) begins; 0: at 1. If it is above the last one of an earlier node, no path of that node
+    /// has a version of this one.
+    pub lease_version: u64,
 }
 
 impl Options {
@@ -179,7 +182,7 @@ impl Options {
     /// assert_eq!((options.role, options.start, options.transmits), (nd::Role::Host, 3000, 1));
     /// ```
     pub fn host(mac: [u8; 6], start: u64, draws: Draws) -> Options {
-        Options { role: Role::Host, mac, start, draws, transmits: 1, limits: Limits::default(), policies: Policies::default() }
+        Options { role: Role::Host, mac, start, draws, transmits: 1, limits: Limits::default(), policies: Policies::default(), lease_version: 0 }
     }
 
     /// Returns the options of a router with the usual limits and no policy. `mac` is the interface's own address, and `start` the moment of the
@@ -207,6 +210,7 @@ impl Options {
             start: self.start,
             seed,
             limits: self.limits.to_raw(),
+            lease_version: self.lease_version,
         }
     }
 }

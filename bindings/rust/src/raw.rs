@@ -66,6 +66,7 @@ pub struct nd_options {
     pub start: u64,
     pub seed: u64,
     pub limits: nd_limits,
+    pub lease_version: u64,
 }
 
 #[repr(C)]
@@ -281,24 +282,8 @@ pub struct nd_heard {
     pub reserved: u8,
 }
 
-/// Declares functions of the library. A call of one holds the lock of the library while it runs.
-macro_rules! functions {
-    ($(pub fn $name:ident($($argument:ident: $kind:ty),*) $(-> $result:ty)?;)*) => {
-        mod library {
-            use super::*;
-            extern "C" {
-                $(pub fn $name($($argument: $kind),*) $(-> $result)?;)*
-            }
-        }
-        $(pub unsafe fn $name($($argument: $kind),*) $(-> $result)? {
-            let _held = crate::lock::hold();
-            unsafe { library::$name($($argument),*) }
-        })*
-    };
-}
-
 #[rustfmt::skip]
-functions! {
+extern "C" {
     pub fn nd_version() -> u32;
     pub fn nd_refusal_of(status: i32) -> u32;
     pub fn nd_limit_of(status: i32) -> u32;

@@ -23,10 +23,12 @@ source_of (Word word) = Constant word
 abbrev pub start_of : Opening → Start
 start_of o = with_policies o.policies (starting o.start o.role o.mac o.transmits o.limits (stream_of_source (source_of o.draws)))
 
--- A session that has just been opened: its node stands for the beginning, and nothing is reported yet.
+-- A session that has just been opened: its node stands for the beginning, nothing is reported yet, and the version of its leases is the one that is asked
+-- for.
 pub record Begins (opening : Opening) (s : Session) : Type 0 where
   pub stands : Stands stream_of_source (start_of opening) s.node (beginning (start_of opening))
   pub empty : s.queue ≡ []
+  pub version : s.paths.leases ≡ opening.lease_version
 
 -- A closed slot is opened as the bytes of the options say, if they say it.
 pub record Opens (options : List ℕ) (status : ℤ) (old new : Option Session) : Type 0 where

@@ -47,7 +47,7 @@ fn start(alloc: Global, opening: &Opening) -> Result<Session, AllocError>
     requires { opening.now.start < 2 ^ 62 }
     ensures { IfOk result (λ s. Begins opening.now s) }
 {
-    Session::start(
+    let session = Session::start(
         alloc,
         opening.role,
         opening.mac,
@@ -56,7 +56,8 @@ fn start(alloc: Global, opening: &Opening) -> Result<Session, AllocError>
         opening.limits,
         opening.policies,
         source_of(opening.draws),
-    )
+    )?;
+    Ok(session.with_lease_version(opening.lease_version))
 }
 
 /// Returns the source of a node's random words.

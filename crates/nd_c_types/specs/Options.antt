@@ -17,7 +17,7 @@ is_zero byte = byte == 0
 
 -- nothing is asked for behind the structure, where a later version has fields
 abbrev pub IsKnown : List ℕ → Type 0
-IsKnown bytes = AllPass is_zero (drop 64 bytes)
+IsKnown bytes = AllPass is_zero (drop 72 bytes)
 
 -- the structure in these bytes, whose numbers have their lowest byte first, as on every machine that the library is made for; a byte that is not there
 -- is 0
@@ -31,6 +31,7 @@ options_in bytes = record {
   start = little_from 16 8 bytes;
   seed = little_from 24 8 bytes;
   limits = limits_at bytes;
+  lease_version = little_from 64 8 bytes;
 }
 
 -- enum nd_draws, with a seed, or a word below 2^32
@@ -72,6 +73,7 @@ opening_in o = record {
   limits = chosen o.limits;
   policies = policies_in o.policies;
   draws = draws_in o.draws o.seed;
+  lease_version = number_or o.lease_version 1;
 }
 
 -- the bytes are well formed

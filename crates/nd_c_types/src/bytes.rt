@@ -16,7 +16,7 @@ pub(crate) fn byte_at(bytes: &[u8], at: usize) -> u8
 
 /// Returns the number of 16 bits at a place.
 pub(crate) fn u16_at(bytes: &[u8], at: usize) -> u16
-    requires { at < 64 }
+    requires { at < 256 }
     ensures { result ≡ little_from at 2 bytes.now }
 {
     u16::from_le_bytes([byte_at(bytes, at), byte_at(bytes, at + 1)])
@@ -24,7 +24,7 @@ pub(crate) fn u16_at(bytes: &[u8], at: usize) -> u16
 
 /// Returns the number of 32 bits at a place.
 pub(crate) fn u32_at(bytes: &[u8], at: usize) -> u32
-    requires { at < 64 }
+    requires { at < 256 }
     ensures { result ≡ little_from at 4 bytes.now }
 {
     u32::from_le_bytes([
@@ -37,7 +37,7 @@ pub(crate) fn u32_at(bytes: &[u8], at: usize) -> u32
 
 /// Returns the number of 64 bits at a place.
 pub(crate) fn u64_at(bytes: &[u8], at: usize) -> u64
-    requires { at < 64 }
+    requires { at < 256 }
     ensures { result ≡ little_from at 8 bytes.now }
 {
     u64::from_le_bytes([

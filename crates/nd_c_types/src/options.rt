@@ -19,13 +19,16 @@ use nd_node::{Limits as NodeLimits, Policies};
 use nd_slaac::Transmits;
 
 /// The number of bytes of the structure.
-const SIZE: usize = 64;
+const SIZE: usize = 72;
 
 /// The greatest number of solicitations.
 const MOST_TRANSMITS: u8 = 8;
 
 /// The number of solicitations that 0 means.
 const USUAL_TRANSMITS: u8 = 1;
+
+/// The first version of the leases that 0 means.
+const USUAL_LEASE_VERSION: u64 = 1;
 
 /// What a node is opened with: `nd_options` of the header.
 #[repr(C)]
@@ -45,6 +48,8 @@ pub struct Options {
     /// The seed, or the word, below 2^32.
     pub seed: u64,
     pub limits: Limits,
+    /// The first version of the leases, or 0 for 1.
+    pub lease_version: u64,
 }
 
 /// The source of a node's random words.
@@ -67,6 +72,8 @@ pub struct Opening {
     pub limits: NodeLimits,
     pub policies: Policies,
     pub draws: Draws,
+    /// The first version of the leases.
+    pub lease_version: u64,
 }
 
 impl Options {
@@ -90,6 +97,7 @@ impl Options {
             start: u64_at(bytes, 16),
             seed: u64_at(bytes, 24),
             limits: Limits::read(bytes),
+            lease_version: u64_at(bytes, 64),
         }
     }
 
@@ -112,6 +120,7 @@ impl Options {
             limits,
             policies: policies_of(self.policies),
             draws: draws_of(self.draws, self.seed),
+            lease_version: version_of(self.lease_version),
         })
     }
 
@@ -164,6 +173,17 @@ fn transmits_of(number: u8) -> u8
     ensures { result ≡ number_or number 1 }
 {
     if number == 0 { USUAL_TRANSMITS } else { number }
+}
+
+/// Returns the first version of the leases: 1 in place of 0.
+fn version_of(number: u64) -> u64
+    ensures { result ≡ number_or number 1 }
+{
+    if number == 0 {
+        USUAL_LEASE_VERSION
+    } else {
+        number
+    }
 }
 
 /// Returns true if `draws` is ND_DRAWS_SEED, or ND_DRAWS_WORD with a word below 2^32.

@@ -86,6 +86,13 @@ impl Paths {
         self.leases
     }
 
+    /// Has the version of all leases begin at another number. Only a caller that has given no lease yet may do so.
+    pub(crate) fn begin_at(&mut self, version: u64)
+        ensures { self.new ≡ record self.old { leases = version } }
+    {
+        self.leases = version;
+    }
+
     /// Forgets what is remembered; each lease holds.
     fn forget_slots(&mut self)
         ensures forgotten { AreForgotten self.new }

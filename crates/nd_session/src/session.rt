@@ -86,6 +86,18 @@ impl Session {
         }
     }
 
+    /// Has the version of all leases begin at `version`, before the first event. A caller that still keeps paths of an earlier node passes a number above that
+    /// node's last version: then none of them is taken for one of this node.
+    pub fn with_lease_version(mut self, version: u64) -> Session
+        ensures version { result.paths.leases ≡ version }
+        ensures node { result.node ≡ self.node }
+        ensures queue { result.queue ≡ self.queue }
+        ensures ready { IsReady self → IsReady result }
+    {
+        self.paths.begin_at(version);
+        self
+    }
+
     /// Returns the moment at which something is due next, in milliseconds.
     pub fn next_due(&self) -> u64
         ensures { result ≡ next_of self.now.node }

@@ -6,10 +6,10 @@ use Rattle.nd_c_types.proofs.options.is_known.Goals as goal
 
 pub returns-then-options-le-SIZE : goal.returns-then-options-le-SIZE
 returns-then-options-le-SIZE c =
-    (λ _ k d lt. let never : ⊥ = omega (arith, lt, length-drop 64 c.args.options.now, c.if-options-le-SIZE.true) in absurd never, λ _. refl)
+    (λ _ k d lt. let never : ⊥ = omega (arith, lt, length-drop 72 c.args.options.now, c.if-options-le-SIZE.true) in absurd never, λ _. refl)
 
 pub returns : goal.returns
 returns c =
     let all = c.args.options.now in
-    let whole : take (length all - 64) (drop 64 all) ≡ drop 64 all = take_all (length all - 64) (drop 64 all) (omega (arith, length-drop 64 all)) in
+    let whole : take (length all - 72) (drop 72 all) ≡ drop 72 all = take_all (length all - 72) (drop 72 all) (omega (arith, length-drop 72 all)) in
     subst (λ (l : List ℕ). IsTrue c.are_zeros.result ↔ AllPass is_zero l) whole c.are_zeros.ensures
