@@ -22,6 +22,14 @@ def make(crate):
     return archive, verdict
 
 
+def make_below(crate):
+    """Makes the libraries that a crate is built over: of a static library its archive too, of a program nothing else. Raises CalledProcessError."""
+    if os.path.exists(f"{TOP}/crates/{crate}/src/main.rt"):
+        subprocess.run(["rt", "check"], cwd=f"{TOP}/crates/{crate}", stdin=subprocess.DEVNULL, capture_output=True, text=True, check=True)
+    else:
+        make(crate)
+
+
 def main(crate):
     try:
         print(make(crate)[1])

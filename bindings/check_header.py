@@ -6,14 +6,10 @@ import glob
 import os
 import re
 import shutil
-import sys
 import tempfile
 from concurrent.futures import ThreadPoolExecutor
 
 from checking import INCLUDE, TOP, WARNINGS, has, read, report, report_if, run, skip
-
-sys.path.insert(0, f"{TOP}/bindings/targets")
-from dist_headers import dist_headers  # noqa: E402
 
 HEADERS = ["nd_hear.h", "nd.h"]
 # The structures of the library's crates, by their names in C.
@@ -382,22 +378,7 @@ def check_compilers():
                 report(f"{' and '.join(headers)} as {standard}", run(words, input=text))
 
 
-def check_dist():
-    """Requires that each sentence that is untrue of nd.c is in the headers, and that the headers of nd.c compile."""
-    try:
-        texts = dist_headers()
-    except ValueError as why:
-        return report_if("the headers of nd.c", False, str(why))
-    with tempfile.TemporaryDirectory() as room:
-        for header, text in texts.items():
-            with open(f"{room}/{header}", "w", encoding="utf-8") as file:
-                file.write(text)
-        words = ["gcc", "-std=c11", *WARNINGS, f"-I{room}", "-fsyntax-only", "-x", "c", "-"]
-        return report("the headers of nd.c, with what differs from the archive", run(words, input='#include "nd.h"\n'))
-
-
 def check_headers():
     check_compilers()
     if has("gcc"):
         check_source()
-        check_dist()

@@ -131,7 +131,7 @@ def check_fuzz(room, archive, build):
         if "libclang_rt" in made.stderr:
             return skip("programs by clang", "the runtime of libFuzzer is not there")
         if report("fuzz for libFuzzer is built", made):
-            report("fuzz by libFuzzer: 5000 inputs", run([f"{room}/fuzzer", "-runs=5000", "-max_len=1024", f"-seed={SEED}"]))
+            report("fuzz by libFuzzer: 5000 inputs", run([f"{room}/fuzzer", "-runs=5000", "-max_len=4096", f"-seed={SEED}"]))
     return None
 
 

@@ -1,10 +1,12 @@
 """check_programs: the archives, and the programs over them: the examples and the tests in C, and the crate for Rust. Each also runs under valgrind, on
 fewer frames where that takes long."""
+import glob
 import os
 import re
 import resource
 import subprocess
 import sys
+import tarfile
 
 import archives
 from check_hostile import check_hostile
@@ -124,16 +126,6 @@ def check_lines(what, words):
     wrong = [f"{line!r} for {wanted!r}" for line, (_, wanted) in zip(lines, rows) if not f"{wanted} ".startswith(f"{line} ")]
     report_if(f"{what}: {len(rows)} frames, of each what ndpctl check prints", len(lines) == len(rows) and not wrong, said.stderr + "\n".join(wrong[:4]))
     check_last_line(what, words, read(f"{TOP}/examples/link.hex"))
-
-
-def check_too_long(what, program, most):
-    """Requires that the example `hear`, over a library that takes frames of at most `most` bytes, names a longer one, also in its first line, and
-    prints nothing for it."""
-    text, longer = read(f"{TOP}/examples/link.hex"), f"{'33' * (most + 1)}\n"
-    wanted, words = run([program], input=text).stdout, [*(VALGRIND if has("valgrind") else []), program]
-    said = run(words, input=longer + text + longer)
-    named = f"hear: a frame of {most + 1} bytes is not taken\n" * 2
-    report_if(f"{what}: a frame of {most + 1} bytes", wanted and (said.returncode, said.stdout, said.stderr) == (0, wanted, named), str(said))
 
 
 def check_last_line(what, words, text):
@@ -354,20 +346,25 @@ def check_loops(room, archive):
             check_runs(f"giant: the loop of {name}, and a frame longer than its buffer", [giant])
 
 
-def check_stack(room, archive):
-    """Measures how much stack the calls of other tests take, and requires that nd.h says enough."""
+# The sentence of nd.h with the bytes of stack that a call has.
+STACK_SAID = r"A call has ([\d,]+) bytes of stack\."
+
+
+def check_stack(room, node, over="", sentence=STACK_SAID):
+    """Measures how much stack the calls of other tests take over the archive, or over another build of the node, and requires that nd.h says enough."""
     if os.uname().machine != "x86_64":
         return skip("programs for x86-64", "nd.h says of x86-64 how much stack a call has")
-    bytes_said = re.search(r"A call has ([\d,]+) bytes of stack\.", read(f"{INCLUDE}/nd.h"))[1].replace(",", "")
+    header = re.sub(r"\n \* *", " ", read(f"{INCLUDE}/nd.h"))
+    bytes_said = re.search(sentence, header)[1].replace(",", "")
     calls = set(re.findall(r"^\w+ (nd_\w+)\(", read(f"{INCLUDE}/nd.h") + read(f"{INCLUDE}/nd_hear.h"), re.M))
     calls -= {"nd_version", "nd_refusal_of", "nd_limit_of", "nd_free"}
     more = ["-Dmain=tested_main", f"-DSTACK_BYTES={bytes_said}", "-pthread", *(f"-Wl,--wrap={call}" for call in sorted(calls))]
     few = [["0", "4000", "4861", "0"], ["1", "4000", "4861", "0"]]
     for name, runs, text in (("scarce", [[]], NAMED), ("limits", [[]], FULL), ("random", few, NAMED)):
-        program = build(room, f"stack_{name}", [f"{TESTS}/{name}.c", f"{TESTS}/stack.c", COUNTING, archive], *more)
+        program = build(room, f"stack_{name}", [f"{TESTS}/{name}.c", f"{TESTS}/stack.c", COUNTING, node], *more)
         for words in runs if program else ():
             said = run([program, *words], input=text)
-            report(f"stack: the calls of {' '.join([name, *words])} take at most {bytes_said} bytes", said)
+            report(f"stack{over}: the calls of {' '.join([name, *words])} take at most {bytes_said} bytes", said)
             print(f"  {said.stderr.splitlines()[-1] if said.stderr else ''}")
     return None
 
@@ -493,11 +490,9 @@ def check_examples(room, archive):
 
 
 def check_make(archive):
-    """Makes what the Makefile makes for this machine."""
-    if not has("make"):
-        return
-    words = ["make", "-s", "-C", BINDINGS]
-    report("make", run([*words, f"ND_ARCHIVE={archive}"]))
+    """Makes what the Makefile makes of an archive for this machine."""
+    if has("make"):
+        report("make programs", run(["make", "-s", "-C", BINDINGS, "programs", f"ND_ARCHIVE={archive}"]))
 
 
 def has_rust():
@@ -512,21 +507,39 @@ def has_rust():
     return False
 
 
-def check_rust(room, over, passed_over):
-    """Runs the tests of the crate for Rust over the archive in `room`, in four threads, and its example. So many tests are passed over: none over an
-    archive that keeps each node in memory of its own, which the build has to recognise."""
-    if not has_rust():
+def check_rust(room, over, library=None):
+    """Runs the tests of the crate for Rust, in four threads, and its example: over the archive in the folder `library`, or over dist/nd.c, which the
+    crate compiles, and then as a package too. What cargo makes is in `room`. No test may be passed over."""
+    if not has_rust() or not (library or has("cc")):
         return
-    environment = {**os.environ, "ND_LIB": room, "CARGO_TARGET_DIR": f"{room}/target", "RUST_TEST_THREADS": "4"}
+    others = {name: value for name, value in os.environ.items() if name != "ND_LIB"}
+    environment = {**others, **({"ND_LIB": library} if library else {}), "CARGO_TARGET_DIR": f"{room}/target", "RUST_TEST_THREADS": "4"}
     words = ["--offline", "--locked", "--quiet", "--manifest-path"]
     said = run(["cargo", "test", *words, f"{BINDINGS}/rust/Cargo.toml"], env=environment)
     if report(f"the tests of the crate nd over {over}, in four threads", said):
-        ignored = sum(map(int, re.findall(r"^test result: .* (\d+) ignored", said.stdout, re.M)))
-        report_if(f"the tests of the crate nd over {over}: {passed_over} are passed over", ignored == passed_over, said.stdout)
+        passed, ignored = (sum(map(int, re.findall(rf"^test result: .* (\d+) {word}", said.stdout, re.M))) for word in ("passed", "ignored"))
+        report_if(f"the tests of the crate nd over {over}: {passed}, and none is passed over", passed > 0 and ignored == 0, said.stdout)
     if report(f"the example in Rust over {over} is built", run(["cargo", "build", *words, f"{TOP}/examples/rust/Cargo.toml"], env=environment)):
         check_host(f"host in Rust over {over}", f"{room}/target/debug/host")
         said = run([f"{room}/target/debug/host", *HOST], input="5 a\u00e91\n")
         report(f"host in Rust over {over}: a line with a letter of two bytes", said)
+    if not library:
+        check_package(room)
+
+
+def check_package(room):
+    """Requires that the crate for Rust as a package has dist/nd.c and its headers, and is built of what is in it."""
+    environment = {name: value for name, value in os.environ.items() if name != "ND_LIB"} | {"CARGO_TARGET_DIR": f"{room}/package"}
+    if not has("make") or not report("the crate nd with the node in C", run(["make", "-C", BINDINGS, "crate", f"OUT={room}/made"])):
+        return
+    words = ["cargo", "package", "--offline", "--locked", "--quiet", "--allow-dirty", "--manifest-path", f"{room}/made/crate/Cargo.toml"]
+    if not report("the crate nd as a package, which is built of what is in it", run(words, env=environment)):
+        return
+    path = glob.glob(f"{room}/package/package/*.crate")[0]
+    with tarfile.open(path) as package:
+        carried = {os.path.basename(name): package.extractfile(name).read() for name in package.getnames() if "/c/" in name}
+    wanted = {name: read(f"{TOP}/dist/{name}").encode() for name in ("nd.c", "nd.h", "nd_hear.h")}
+    report_if(f"the crate nd as a package has the files of dist/: {', '.join(wanted)}; {os.path.getsize(path)} bytes", carried == wanted)
 
 
 def check_programs(room):
@@ -547,5 +560,5 @@ def check_programs(room):
             check_bare(room, archive)
             check_make(archive)
     with timed("the crate for Rust"):
-        check_rust(room, "the archive", 0)
+        check_rust(room, "the archive", room)
     return archive

@@ -1,99 +1,115 @@
-"""check_targets: the library on other processors. The archives and the module of the Makefile are built, and on each, and by dist/nd.c, the examples of
-a host and of `hear` and the program `trace` print what they print on this machine: over the rows of the corpus, and over a longer script for a
-host and for a router. Programs for other processors run under qemu."""
+"""check_targets: the library on other processors. The archives and the module of the Makefile are built; nd.c and nd_small.c, the same files for
+all, are compiled for each processor, where it is big-endian or has 32 bits too, and the command for some. The programs print on each what they print
+on this machine over the archive: the rows of the corpus, longer scripts, the examples and the tests. Programs for other processors run under qemu."""
 import json
 import os
 import shutil
 import sys
+from collections import namedtuple
 from concurrent.futures import ThreadPoolExecutor
 
-import corpus
-import frames
-import scripts
-from check_programs import BINDINGS, COUNTING, HOST, TESTS, check_lines, difference
+import check_command
+import node_programs
+from check_programs import BINDINGS, HOST, TESTS, difference
 from checking import TOP, has, read, report_if, run, skip
 
 OUT = f"{BINDINGS}/out/targets"
 DIST = f"{TOP}/dist"
-EXAMPLE = f"{TOP}/examples/c"
-STATIC = ["-static", "-std=c11", "-D_POSIX_C_SOURCE=200809L"]
-
-# A target: its name, its compiler, its qemu, and its archive; nd.c where there is none.
+# The part of the runs of what takes long that is tried under an emulator.
+SHARE = 20
+# A target: its name, its compiler with the flags for it, its qemu, and the archive for it, or the file of dist/ with the flags for that.
+Target = namedtuple("Target", "name compiler emulator archive file flags", defaults=[None, "nd.c", ["-O2"]])
+ARM = ["arm-linux-gnueabihf-gcc"]
 TARGETS = [
-    ("aarch64", "aarch64-linux-gnu-gcc", "qemu-aarch64", f"{OUT}/aarch64/libnd_c.a"),
-    ("riscv64", "riscv64-linux-gnu-gcc", "qemu-riscv64", f"{OUT}/riscv64/libnd_c.a"),
-    ("nd.c on this machine", "gcc", None, None),
-    ("nd.c on arm, 32 bits", "arm-linux-gnueabihf-gcc", "qemu-arm", None),
-    ("nd.c on s390x, big-endian", "s390x-linux-gnu-gcc", "qemu-s390x", None),
-    ("nd.c on mips, 32 bits, big-endian", "mips-linux-gnu-gcc", "qemu-mips", None),
-    ("nd.c on powerpc, 32 bits, big-endian", "powerpc-linux-gnu-gcc", "qemu-ppc", None),
+    Target("aarch64", ["aarch64-linux-gnu-gcc"], "qemu-aarch64", f"{OUT}/aarch64/libnd_c.a"),
+    Target("riscv64", ["riscv64-linux-gnu-gcc"], "qemu-riscv64", f"{OUT}/riscv64/libnd_c.a"),
+    Target("nd.c on aarch64", ["aarch64-linux-gnu-gcc"], "qemu-aarch64"),
+    Target("nd.c on arm, 32 bits", ARM, "qemu-arm"),
+    Target("nd_small.c on arm, Thumb-2, 32 bits", [*ARM, "-mthumb"], "qemu-arm", None, "nd_small.c", ["-Os"]),
+    Target("nd.c on s390x, big-endian", ["s390x-linux-gnu-gcc"], "qemu-s390x"),
+    Target("nd.c on mips, 32 bits, big-endian", ["mips-linux-gnu-gcc"], "qemu-mips"),
+    Target("nd_small.c on powerpc, 32 bits, big-endian", ["powerpc-linux-gnu-gcc"], "qemu-ppc", None, "nd_small.c", ["-Os"]),
 ]
-PACKAGES = {"qemu-aarch64": "qemu-user", "qemu-riscv64": "qemu-user", "qemu-arm": "qemu-user", "qemu-s390x": "qemu-user",
-            "qemu-mips": "qemu-user", "qemu-ppc": "qemu-user"}
+# Where the command runs too.
+COMMANDS = [(ARM, "qemu-arm"), (["s390x-linux-gnu-gcc"], "qemu-s390x")]
+# Debian's packages of what is not called by the name of its package. The compiler of one version, as gcc-12-.., does as well.
+VERSIONS = ("", "-14", "-13", "-12")
 
 
-def runs():
-    """Returns arguments and scripts for `trace`."""
-    known = [(row.words, row.script) for row in corpus.runs()]
-    return known + [(["run", "--role", role, "--mac", frames.HOST_MAC, "--draws", "seed:1"], scripts.long(1, 1000)) for role in ("host", "router")]
+def compiler_of(words):
+    """Returns the words of a compiler as it is called on this machine, by its version if need be, or None."""
+    names = [f"{words[0]}{version}" for version in VERSIONS]
+    there = [name for name in names if shutil.which(name)]
+    return [there[0], *words[1:]] if there else None
 
 
-def traced(words):
-    """Returns what `trace` prints for each script."""
-    with ThreadPoolExecutor(2) as pool:
-        ran = list(pool.map(lambda it: run([*words, *it[0]], input=it[1]), runs()))
-    return [each.stdout if each.returncode == 0 else f"status {each.returncode}: {each.stderr}" for each in ran]
-
-
-def check_same(what, words, room, wanted):
-    """Requires that the example and `trace` print the same on a target as on this machine."""
-    said = run([*words, f"{room}/host", *HOST], input=read(f"{TOP}/examples/host.hex"))
-    report_if(f"{what}: the example of a host", said.stdout == read(f"{TOP}/examples/host.txt"), said.stdout + said.stderr)
-    told = traced([*words, f"{room}/trace"])
-    wrong = [difference(one, other) for one, other in zip(told, wanted) if one != other]
-    lines = sum(text.count("\n") for text in wanted)
-    report_if(f"{what}: trace, {len(wanted)} scripts, {lines} lines as on this machine", not wrong, "\n".join(wrong[:4]))
-
-
-def lacking(compiler, qemu):
+def lacking(compiler, emulator):
     """Returns what is missing to build and run on a target, or None."""
-    for tool in (compiler, qemu):
-        if tool and not shutil.which(tool):
-            return f"{tool} is not there (Debian: {PACKAGES.get(tool) or 'gcc-' + tool.removesuffix('-gcc')})"
-    return None
+    if not compiler_of(compiler):
+        return f"{compiler[0]} is not there (Debian: gcc-{compiler[0].removesuffix('-gcc')})"
+    return None if shutil.which(emulator) else f"{emulator} is not there (Debian: qemu-user)"
 
 
-def objects(compiler):
-    """Compiles nd.c for a target, unless this was done before. Returns the object, and what the compiler says if it fails."""
-    made, source = f"{OUT}/nd.{compiler}.o", f"{DIST}/nd.c"
-    if not os.path.exists(source) or (os.path.exists(made) and os.path.getmtime(made) > os.path.getmtime(source)):
-        return made, ""
-    said = run([compiler, "-O1", f"-I{DIST}", "-c", source, "-o", f"{made}.new"])
-    if said.returncode == 0:
-        os.replace(f"{made}.new", made)
-    return made, said.stderr if said.returncode else ""
+def known_programs():
+    """Returns the programs that run on other processors: all but the one that takes minutes there."""
+    return {name: program for name, program in node_programs.programs(SHARE).items() if name != "exhausted"}
 
 
-def check_target(room, target, wanted):
-    what, compiler, qemu, archive = target
-    include = f"{TOP}/include" if archive else DIST
-    more = [COUNTING, archive] if archive else []
-    room = f"{room}/{what.replace(' ', '_')}"
-    os.mkdir(room)
-    if not archive:
-        made, said = objects(compiler)
-        if said:
-            return report_if(f"{what}: nd.c is compiled", False, said)
-        more = [f"{TESTS}/uncounted.c", made, "-lm"]
-    for name, source in (("host", f"{EXAMPLE}/host.c"), ("trace", f"{TESTS}/trace.c"), ("hear", f"{EXAMPLE}/hear.c")):
-        said = run([compiler, *STATIC, "-O2", f"-I{include}", source, *more, "-o", f"{room}/{name}"])
+def tried(room, target, wanted):
+    """Builds the programs for a target and runs them. Returns what `compared` returns, and nothing, or what the compiler said of a file of dist/."""
+    place, compiler = f"{room}/{target.name.replace(' ', '_').replace(',', '')}", compiler_of(target.compiler)
+    os.mkdir(place)
+    node, include = target.archive, f"{TOP}/include"
+    if not node:
+        node, include = f"{place}/node.o", DIST
+        words = [*compiler, "-std=c11", *target.flags, "-Wall", "-Wextra", "-DND_OWN_MEMORY", f"-I{DIST}"]
+        said = run([*words, "-c", f"{DIST}/{target.file}", "-o", node])
         if said.returncode:
-            return report_if(f"{what}: {name} is built", False, said.stderr)
-    check_lines(f"{what}: the example hear", [*([qemu] if qemu else []), f"{room}/hear"])
-    return check_same(what, [qemu] if qemu else [], room, wanted)
+            return (0, 0, []), said.stderr
+    over = node_programs.Over([*compiler, "-static", "-O1", f"-I{include}"], node, place, [target.emulator])
+    return node_programs.compared(over, known_programs(), wanted), ""
 
 
-def check_wasm64(wanted):
+def check_processors(room, wanted):
+    """Requires that the programs print on each target what they print on this machine."""
+    there = []
+    for target in TARGETS:
+        why = lacking(target.compiler, target.emulator)
+        if why or (target.archive and not os.path.exists(target.archive)):
+            skip("other processors", f"{target.name}: {why or 'it was not built'}")
+        else:
+            there.append(target)
+    with ThreadPoolExecutor(2) as pool:
+        done = list(zip(there, pool.map(lambda target: tried(room, target, wanted), there)))
+    for target, ((runs, lines, wrong), said) in done:
+        if report_if(f"{target.name}: it is compiled", not said, said[-4000:]):
+            report_if(f"{target.name}: {runs} runs, {lines} lines as on this machine", runs and not wrong, "\n".join(wrong[:8]))
+
+
+def check_commands(room):
+    """Requires that the command writes on other processors what the corpus and the examples have."""
+    for words, emulator in COMMANDS:
+        if lacking(words, emulator):
+            continue
+        program, what = f"{room}/{emulator}-ndpctl", f"dist/ndpctl.c by {words[0]} under {emulator}"
+        said = run([*compiler_of(words), "-static", "-O1", f"{DIST}/ndpctl.c", "-o", program])
+        if report_if(f"{what}: it is compiled", said.returncode == 0, said.stderr[-4000:]):
+            check_command.check_rows(what, [emulator, program])
+
+
+def reference(room, archive):
+    """Returns what the programs print on this machine over the archive, by their names, or None if one is not built."""
+    known, place = known_programs(), f"{room}/of_targets"
+    os.mkdir(place)
+    failed = [text for name, program in known.items()
+              if (text := node_programs.build(["gcc", "-O2", f"-I{TOP}/include"], archive, program, f"{place}/{name}"))]
+    if not report_if("the programs for this machine are built", not failed, "\n".join(failed)[-3000:]):
+        return None
+    return {name: node_programs.outputs([f"{place}/{name}"], program) for name, program in known.items()}
+
+
+def check_wasm64(traced):
+    """Requires that the module with a 64-bit memory does in node what the archive does: the example of a host, and the runs of `trace`."""
     what = "wasm64: the example of a host in node"
     if not os.path.exists(f"{OUT}/nd.wasm") or not has("node"):
         return
@@ -103,7 +119,8 @@ def check_wasm64(wanted):
         return skip("other processors", "node has no 64-bit memory")
     report_if(what, said.stdout == read(f"{TOP}/examples/host.txt"), said.stdout + said.stderr)
     words = ["node", "--experimental-wasm-memory64", f"{TESTS}/runs.mjs", f"{TOP}/docs/try/index.html", f"{OUT}/nd.wasm"]
-    said = run(words, input=json.dumps(runs()))
+    said = run(words, input=json.dumps(node_programs.traced()))
+    wanted = [text for _, text, _ in traced]
     wrong = [difference(one, other) for one, other in zip(json.loads(said.stdout or "[]"), wanted) if one != other]
     lines = sum(text.count("\n") for text in wanted)
     report_if(f"wasm64 in node: {len(wanted)} scripts, {lines} lines as on this machine", said.stdout and not wrong, said.stderr + "\n".join(wrong[:4]))
@@ -122,18 +139,9 @@ def check_targets(room, archive):
             skip("other processors", line.removeprefix("skipped: "))
     if not report_if("targets/build.py", made.returncode == 0, made.stdout + made.stderr):
         return None
-    trace = f"{room}/trace_here"
-    said = run(["gcc", *STATIC, "-O2", f"-I{TOP}/include", f"{TESTS}/trace.c", COUNTING, archive, "-o", trace])
-    if not report_if("trace for this machine is built", said.returncode == 0, said.stderr):
+    wanted = reference(room, archive)
+    if not wanted:
         return None
-    wanted = traced([trace])
-    with ThreadPoolExecutor(2) as pool:
-        list(pool.map(lambda it: lacking(it[1], it[2]) or it[3] or objects(it[1]), TARGETS))
-    for target in TARGETS:
-        what, compiler, qemu, of = target
-        why = lacking(compiler, qemu)
-        if why or not os.path.exists(of or f"{DIST}/nd.c"):
-            skip("other processors", f"{what}: {why or 'it was not built'}")
-        else:
-            check_target(room, target, wanted)
-    return check_wasm64(wanted)
+    check_processors(room, wanted)
+    check_commands(room)
+    return check_wasm64(wanted["trace"])

@@ -18,8 +18,9 @@ passed, failed = 0, 0
 # The parts that were skipped, and why.
 skipped = {}
 # The part that is skipped without a tool.
-PARTS = {"rt": "the archives", "g++": "headers in C++", "clang": "programs by clang", "valgrind": "programs under valgrind", "cargo": "programs in Rust",
-         "rustc": "programs in Rust", "node": "the page in node", **dict.fromkeys(("gcc", "cc", "ar", "objcopy", "nm", "make"), "programs in C")}
+PARTS = {"rt": "the archives", "g++": "headers in C++", "clang": "programs by clang", "valgrind": "programs under valgrind", "node": "the page in node",
+         **dict.fromkeys(("cargo", "rustc"), "programs in Rust"), **dict.fromkeys(("pkg-config", "cmake", "meson", "ninja"), "what is installed"),
+         **dict.fromkeys(("gcc", "cc", "ar", "objcopy", "nm", "make"), "programs in C")}
 
 
 def run(words, **more):

@@ -4,8 +4,8 @@
  *
  * One function, with no state: filters, logs and test benches can link it alone, from
  * libnd_hear_c.a. It takes no memory and calls nothing. The crate nd_hear_c has the contract of
- * each field. The library of a whole node, libnd_c.a, has the function too: nd.h includes this
- * header.
+ * each field. The library of a whole node, libnd_c.a or nd.c, has the function too: nd.h includes
+ * this header.
  */
 #ifndef JONDASIK_ND_HEAR_H
 #define JONDASIK_ND_HEAR_H

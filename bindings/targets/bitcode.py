@@ -1,7 +1,8 @@
 #!/usr/bin/env python3
-"""bitcode OUT [CRATE]: builds the archive of crates/nd_c, or of the crate that is named, for aarch64 as `rt lib --target` does, over libraries of today's
-sources, and leaves it in OUT as nd.a. OUT/nd.bc is the LLVM module that Rattle passed to clang for it, and OUT/nd.verdict what the prover said last. A
-folder of a toolchain whose clang copies its input stands in for the kit's."""
+"""bitcode OUT [CRATE [TARGET]]: builds a crate, crates/nd_c unless another is named, as `rt lib --target` and `rt run` do, over libraries of today's
+sources. OUT/nd.bc is the LLVM module that Rattle passed to clang for it, OUT/nd.verdict what the prover said last, and OUT/nd.a what was built: the
+archive, or the object of a program. TARGET is aarch64's unless it is named; `host` is x86-64's, for which the archive of `rt lib` is. A folder of a toolchain
+whose clang copies its input stands in for the kit's."""
 import importlib.machinery
 import importlib.util
 import os
@@ -12,7 +13,8 @@ import sys
 sys.path.insert(0, f"{os.path.dirname(os.path.realpath(__file__))}/..")
 import archives  # noqa: E402
 
-TARGET = "aarch64-unknown-linux-gnu"
+AARCH64 = "aarch64-unknown-linux-gnu"
+HOST = "host"
 CRATES = os.path.realpath(f"{os.path.dirname(__file__)}/../../crates")
 # Rattle clears the environment of clang, so that the paths are in the text.
 CLANG = """#!/bin/sh
@@ -52,17 +54,18 @@ def keeping_toolchain(kit, out):
     return folder
 
 
-def main(out, name="nd_c"):
+def main(out, name="nd_c", target=AARCH64):
     sys.dont_write_bytecode = True
     out, crate = os.path.realpath(out), f"{CRATES}/{name}"
     os.makedirs(out, exist_ok=True)
     # Libraries of other sources than today's are built again.
-    archives.make(name)
+    archives.make_below(name)
     kit = kit_of(shutil.which("rt"))
     rtlib = library(kit)
     os.chdir(crate)
     words = rtlib.Crate(crate, rtlib.root_above(crate) or crate, {}).words(["--jobs", "1"])
-    made = subprocess.run([f"{kit}/bin/rattle", "build", *words, "--incremental", "out/incremental", "--target", TARGET,
+    words += ["--target", target] if target != HOST else []
+    made = subprocess.run([f"{kit}/bin/rattle", "build", *words, "--incremental", "out/incremental",
                            "--toolchain", keeping_toolchain(kit, out), "-o", f"{out}/nd.a"], capture_output=True, text=True, check=False)
     said = (made.stdout + made.stderr).strip().splitlines()
     if made.returncode or not os.path.exists(f"{out}/nd.bc"):

@@ -1,11 +1,10 @@
 #!/usr/bin/env python3
-"""build TARGET..: the library for other processors, of what `rt lib` keeps of crates/nd_c. What is made is in bindings/out/targets, and nd.c with its
-headers in dist/, which is committed. Where a tool is missing the target is skipped, with a line 'skipped: ..'.
+"""build TARGET..: the library for other processors, of what `rt lib` keeps of crates/nd_c. What is made is in bindings/out/targets. Where a tool is missing
+the target is skipped, with a line 'skipped: ..'.
 
   aarch64   libnd_c.a for aarch64: the one that `rt lib --target` makes, as it comes with the module for the others
   riscv64   libnd_c.a for riscv64, of Rattle's LLVM module
-  wasm64    nd.wasm of the same module, with a 64-bit memory
-  dist      nd.c: the node in C, of a module of WebAssembly with a 32-bit memory and without instructions that copy or fill memory"""
+  wasm64    nd.wasm of the same module, with a 64-bit memory"""
 import hashlib
 import os
 import re
@@ -14,21 +13,17 @@ import subprocess
 import sys
 from concurrent.futures import ThreadPoolExecutor
 
-import stamp
-from dist_headers import dist_headers
-
 HERE = os.path.dirname(os.path.realpath(__file__))
 BINDINGS = os.path.dirname(HERE)
 TOP = os.path.dirname(BINDINGS)
 OUT = f"{BINDINGS}/out/targets"
-DIST = f"{TOP}/dist"
 HEADERS = ["nd.h", "nd_hear.h"]
 STACK = 16384
 PAGE = 65536
 WASM = "wasm64-unknown-unknown"
 LOWER = [f"--enable-{feature}" for feature in ("memory64", "bulk-memory", "sign-ext", "nontrapping-float-to-int", "mutable-globals", "extended-const",
                                                "multivalue")]
-PACKAGES = {"wasm-opt": "binaryen", "wasm2c": "wabt", "gcc": "gcc", "aarch64-linux-gnu-objcopy": "binutils-aarch64-linux-gnu",
+PACKAGES = {"wasm-opt": "binaryen", "gcc": "gcc", "aarch64-linux-gnu-objcopy": "binutils-aarch64-linux-gnu",
             "riscv64-linux-gnu-objcopy": "binutils-riscv64-linux-gnu"}
 
 
@@ -92,12 +87,12 @@ def made_once(path, paths, make, words=()):
     write(stamp, wanted)
 
 
-def bitcode(out=OUT, crate="nd_c"):
-    """Makes Rattle's LLVM module of a crate for aarch64, and returns its path."""
+def bitcode(out=OUT, crate="nd_c", *target):
+    """Makes Rattle's LLVM module of a crate for aarch64, or for a target that bitcode.py knows, and returns its path."""
     need("rt")
     os.makedirs(out, exist_ok=True)
     tool = f"{HERE}/bitcode.py"
-    made_once(f"{out}/nd.bc", [*sources(), f"{TOP}/crates.txt", tool], lambda: print(run(sys.executable, tool, out, crate), end="", flush=True))
+    made_once(f"{out}/nd.bc", [*sources(), f"{TOP}/crates.txt", tool], lambda: print(run(sys.executable, tool, out, crate, *target), end="", flush=True))
     return f"{out}/nd.bc"
 
 
@@ -167,38 +162,7 @@ def wasm64():
     module("nd", 16 * PAGE)
 
 
-def without_includes(text):
-    """Returns C without what includes wasm2c's own headers."""
-    return re.sub(r'^#include "(?:wasm-rt|nd_module)\.h"\n', "", text, flags=re.M)
-
-
-def dist(folder=DIST):
-    """Makes the files of dist/, and their stamp if they are to be committed."""
-    need("rt", "gcc", "wasm-opt", "wasm2c")
-    commit = stamp.commit() if folder == DIST else None
-    wide = module("nd_bytewise", PAGE, "-mno-bulk-memory-opt")
-    run("wasm-opt", *LOWER, "--memory64-lowering", wide, "-o", f"{OUT}/nd_module.wasm")
-    listed = run("wasm-objdump", "-d", f"{OUT}/nd_module.wasm")
-    if re.search(r"\| memory\.(copy|fill|init)|call_indirect", listed):
-        sys.exit("FAILED: the module for nd.c copies or fills memory as a whole, or calls by a table")
-    run("wasm2c", "nd_module.wasm", "-n", "nd_module", "-o", "nd_module.c", cwd=OUT)
-    os.makedirs(folder, exist_ok=True)
-    parts = [read(f"{HERE}/runtime.h"), *(without_includes(read(f"{OUT}/nd_module.{end}")) for end in "hc"), read(f"{HERE}/front.c")]
-    write(f"{folder}/nd.c", "/* Made by `make -C bindings dist` of the proved library, by way of WebAssembly; see README.md. */\n" + "\n".join(parts))
-    try:
-        texts = dist_headers()
-    except ValueError as why:
-        sys.exit(f"FAILED: {why}")
-    for name, text in texts.items():
-        write(f"{folder}/{name}", text)
-    for name in stamp.EXAMPLES:
-        write(f"{folder}/{name}", read(f"{TOP}/examples/{name}"))
-    write(f"{folder}/README.md", read(f"{HERE}/dist.md"))
-    if commit:
-        write(f"{folder}/STAMP", stamp.text(commit, kit(), read(f"{OUT}/nd.verdict").strip()))
-
-
-TARGETS = {"aarch64": aarch64, "riscv64": riscv64, "wasm64": wasm64, "dist": dist}
+TARGETS = {"aarch64": aarch64, "riscv64": riscv64, "wasm64": wasm64}
 
 
 def make(name):

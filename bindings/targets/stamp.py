@@ -1,5 +1,6 @@
-"""stamp: what dist/ was made of. `dist/STAMP` has the commit and a sum of all sources, the tools that made nd.c of them (others may make other bytes of
-the same code), the verdict of the prover on the library, and the SHA-256 of each file of dist/."""
+"""stamp: what dist/ was made of. `dist/STAMP` has the commit and a sum of all sources, the toolchain that made the C files of them (another may make
+other bytes of the same code), the verdict of the prover on each crate, and the SHA-256 of each file of dist/."""
+import glob
 import hashlib
 import os
 import re
@@ -9,11 +10,15 @@ import sys
 HERE = os.path.dirname(os.path.realpath(__file__))
 TOP = os.path.dirname(os.path.dirname(HERE))
 STAMP = f"{TOP}/dist/STAMP"
+# The crates of the node and of the command.
+CRATES = ["nd_c", "ndpctl"]
 # The frames of the examples in C, and what these print of them.
 EXAMPLES = [f"{name}.{kind}" for name in ("host", "router", "link") for kind in ("hex", "txt")]
-# The files besides the crates.
-OTHERS = ["include/nd.h", "include/nd_hear.h", "include/nd_text.h", "bindings/c/memory.names", "bindings/c/pool.c", *(f"examples/{name}" for name in EXAMPLES),
-          *(f"bindings/targets/{name}" for name in ("bitcode.py", "build.py", "dist.md", "dist_headers.py", "front.c", "module.c", "retarget.py", "runtime.h"))]
+# The files besides the crates and the translator.
+OTHERS = ["include/nd.h", "include/nd_hear.h", "include/nd_text.h", "bindings/archives.py", "bindings/c/heap.c", "bindings/c/pool.c",
+          *(f"examples/{name}" for name in EXAMPLES),
+          *(f"bindings/targets/{name}" for name in ("CMakeLists.txt", "bitcode.py", "build.py", "dist.md", "dist.py", "front.c", "meson.build", "system.c"))]
+TRANSLATOR = "bindings/translate"
 
 
 def read(path):
@@ -21,10 +26,16 @@ def read(path):
         return file.read()
 
 
-def crates_of(name):
-    """Returns a crate and those that it is built over, in the order of their names, with the line of crates.txt of each."""
+def others():
+    """Returns the files besides the crates, the translator's too."""
+    found = [path for end in ("py", "h") for path in glob.glob(f"{TOP}/{TRANSLATOR}/*.{end}")]
+    return [*OTHERS, *sorted(os.path.relpath(path, TOP) for path in found)]
+
+
+def crates_of(names):
+    """Returns crates and those that they are built over, in the order of their names, with the line of crates.txt of each."""
     lines = dict(re.findall(r"^(\w+)(?: staticlib)?:(.*)$", read(f"{TOP}/crates.txt").decode(), re.M))
-    found, open_ones = {}, [name]
+    found, open_ones = {}, [*names]
     while open_ones:
         crate = open_ones.pop()
         if crate in lines and crate not in found:
@@ -41,25 +52,20 @@ def files_of(crate):
 
 
 def sum_of_sources():
-    """Returns the sum of all that nd.c is made of: the names and bytes of the files, and what each crate is built over."""
+    """Returns the sum of all that the C files are made of: the names and bytes of the files, and what each crate is built over."""
     summed = hashlib.sha256()
-    crates = crates_of("nd_c")
-    files = [f"{TOP}/{name}" for name in OTHERS] + [path for crate, _ in crates for path in files_of(crate)]
+    crates = crates_of(CRATES)
+    files = [f"{TOP}/{name}" for name in others()] + [path for crate, _ in crates for path in files_of(crate)]
     for path in sorted(os.path.relpath(path, TOP) for path in files):
         summed.update(f"{path} {hashlib.sha256(read(f'{TOP}/{path}')).hexdigest()}\n".encode())
-    for crate, others in crates:
-        summed.update(f"{crate}: {' '.join(others)}\n".encode())
+    for crate, below in crates:
+        summed.update(f"{crate}: {' '.join(below)}\n".encode())
     return summed.hexdigest()
 
 
-def version(*words):
-    return re.search(r"\d[\d.]*", subprocess.run(words, capture_output=True, text=True, check=True).stdout)[0]
-
-
 def tools(kit):
-    """Returns the names of the tools that make nd.c, with the folder of the kit."""
-    name = read(f"{kit}/KIT-ID").decode().strip()
-    return f"{name}, binaryen {version('wasm-opt', '--version')}, wabt {version('wasm2c', '--version')}"
+    """Returns the name of the toolchain in the folder `kit`, whose clang makes the modules. All else that makes the C files is among the sources."""
+    return read(f"{kit}/KIT-ID").decode().strip()
 
 
 def sums(folder):
@@ -69,7 +75,7 @@ def sums(folder):
 
 def commit():
     """Returns the commit that last changed a source. Exits if a source has changes that are not committed."""
-    names = [*OTHERS, "crates.txt", *(f"crates/{crate}/{part}" for crate, _ in crates_of("nd_c") for part in ("src", "specs", "proofs"))]
+    names = [*OTHERS, TRANSLATOR, "crates.txt", *(f"crates/{crate}/{part}" for crate, _ in crates_of(CRATES) for part in ("src", "specs", "proofs"))]
     names = [name for name in names if os.path.exists(f"{TOP}/{name}")]
     git = ["git", "-C", TOP]
     changed = subprocess.run([*git, "status", "--porcelain", "--", *names], capture_output=True, text=True, check=True).stdout
@@ -78,6 +84,7 @@ def commit():
     return subprocess.run([*git, "log", "-1", "--format=%H", "--", *names], capture_output=True, text=True, check=True).stdout.strip()
 
 
-def text(of, kit, verdict):
-    """Returns the stamp of dist/, which was made of this commit by this kit."""
-    return "\n".join([f"commit {of}", f"sources {sum_of_sources()}", f"tools {tools(kit)}", f"verdict {verdict}", *sums(f"{TOP}/dist"), ""])
+def text(of, kit, verdicts):
+    """Returns the stamp of dist/, which was made of this commit by this kit. `verdicts` are those of the crates by their names."""
+    said = [f"verdict {crate} {verdict}" for crate, verdict in verdicts.items()]
+    return "\n".join([f"commit {of}", f"sources {sum_of_sources()}", f"tools {tools(kit)}", *said, *sums(f"{TOP}/dist"), ""])
