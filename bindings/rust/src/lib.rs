@@ -1,5 +1,5 @@
 //! IPv6 Neighbor Discovery for one Ethernet interface, as a host or as a router (RFC 4861; RFC 4862, section 5; RFC 8106; RFC 4191 without its route
-//! option), over the library `libnd_c.a`. It has no dependencies.
+//! option), over a proved node in C, which the crate carries. It has no dependencies; the build needs a C compiler.
 //!
 //! A [`Node`] keeps the tables of Neighbor Discovery, decides what is sent and when, and says why a frame was dropped. It has no clock, no socket, no
 //! thread and no callback. The program passes frames and moments in, and takes reports out: frames to send, packets for the upper layer, and what
@@ -60,15 +60,19 @@
 //!
 //! # Threads
 //!
-//! A [`Node`] may go from thread to thread, and different threads may use different nodes and [`hear`] at the same time. Over an archive of
-//! `dist/nd.c` their calls wait for one another, since all of them use one memory. Over the archive that `make -C bindings archive` makes, which the
-//! build recognises, no call waits.
+//! A [`Node`] may go from thread to thread, and different threads may use different nodes and [`hear`] at the same time. No call waits for another.
 //!
 //! # Memory
 //!
 //! With the feature `memory`, the default, the crate defines the library's memory functions `nd_alloc`, `nd_realloc` and `nd_free` over
-//! [`std::alloc`]. Without it the program defines them, as `nd.h` says. An archive of `dist/nd.c` calls none of them: all its nodes share a memory of
-//! its own. A call that is refused memory returns [`Error::NoMemory`].
+//! [`std::alloc`]. Without it the program defines them, as `nd.h` says. A call that is refused memory returns [`Error::NoMemory`].
+//!
+//! # Building
+//!
+//! The build compiles the node, `c/nd.c`, by the compiler of `CC`, else by `cc`, with `-O2` and the flags of `CFLAGS`, and archives it by `AR` or
+//! `ar`. For a target that is not the machine itself `CC_target` and `AR_target` name these tools, where `target` is cargo's name with `_` for `-`. If
+//! `ND_LIB` names a folder, its `libnd_c.a` is linked instead, such as the one that `make -C bindings archive` makes. With the feature `memory` it must
+//! not define the memory functions itself.
 //!
 //! # Versions
 //!
@@ -80,7 +84,6 @@
 mod error;
 mod header;
 mod hear;
-mod lock;
 #[cfg(feature = "memory")]
 mod memory;
 mod node;

@@ -2,7 +2,7 @@
 //!
 //! What the calls of the library owe is the same for each: the slot is that of an open node, and no other call uses it meanwhile, since `Node` is not
 //! `Sync` and no call is made by another one. The structures, slices and addresses behind the pointers are borrowed for as long as the call runs, no
-//! pointer is null, and what is written overlaps nothing else. Where nodes share one memory, `raw` sees to it that no two calls overlap.
+//! pointer is null, and what is written overlaps nothing else.
 
 use crate::error::{done, found, Error};
 use crate::header::Header;
@@ -60,11 +60,9 @@ pub struct Node {
 }
 
 /// # Safety
-/// The library keeps a node in its own blocks of memory and has no global state, so a node may go to another thread; that its parts may is proved of
-/// the library's source. The memory functions are those of `std::alloc`, or the program promises the same of its own.
-///
-/// This holds of the archive that `make -C bindings archive` makes. All nodes of an archive of `dist/nd.c` use one memory, and so does
-/// [`hear`](crate::hear()): over it, and over each archive that the build doesn't recognise, a call waits until no other one runs.
+/// A call uses what it is passed, the node's own blocks of memory, and constants. The library has no variables, neither static ones nor those of a
+/// thread, and a block does not depend on the thread that requested it. So a node may go to another thread; that its parts may is proved of the
+/// library's source. The memory functions are those of `std::alloc`, which any thread may call, or the program promises the same of its own.
 unsafe impl Send for Node {}
 
 impl Drop for Node {
@@ -803,7 +801,7 @@ impl Node {
 }
 
 /// A question for all rows of a table.
-type Ask<Raw> = unsafe fn(*mut raw::nd_node, u64, *mut Raw, usize, *mut usize) -> i32;
+type Ask<Raw> = unsafe extern "C" fn(*mut raw::nd_node, u64, *mut Raw, usize, *mut usize) -> i32;
 
 /// For how many rows there is room at first.
 const ROOM: usize = 64;

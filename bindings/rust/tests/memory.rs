@@ -72,7 +72,6 @@ fn example() -> Vec<(u64, Vec<u8>)> {
 }
 
 #[test]
-#[cfg_attr(not(nd_parallel), ignore = "nd.c has its own memory, and requests none")]
 fn a_node_that_is_not_opened_out_of_memory_holds_none() {
     let held = HELD.get();
     for granted in 0..1000 {
@@ -119,7 +118,6 @@ fn story(is_scarce: bool) -> (Story, usize) {
 }
 
 #[test]
-#[cfg_attr(not(nd_parallel), ignore = "nd.c has its own memory, and requests none")]
 fn a_call_that_is_refused_memory_is_made_again() {
     let held = HELD.get();
     {

@@ -45,7 +45,6 @@ fn story(frames: &[Vec<u8>]) -> Story {
     Story { reports, kinds, neighbours, addresses }
 }
 
-/// Over an archive whose nodes share one memory this is so only if calls wait for one another, with those that open and close a node too.
 #[test]
 fn a_node_in_each_of_four_threads_does_what_one_does_alone() {
     let frames = frames();
