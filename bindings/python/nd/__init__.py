@@ -13,8 +13,8 @@ The program passes frames and moments in, and takes records out. A moment is a n
         for address in node.addresses(1200):
             print(address.address, address.state.name)
 
-`hear` says what one frame is, without a node. Frames are bytes, or anything that `bytes()` takes. The library runs one call at a time: the module
-holds a lock, so threads may use it. Not in a signal handler, nor in a forked child of a process with threads."""
+`hear` says what one frame is, without a node. Frames are bytes, or anything that `bytes()` takes. Threads may use the module: calls for different
+nodes run at the same time, and those for one node wait for one another. Not in a signal handler, nor in a forked child of a process with threads."""
 from .errors import Closed, Error, Invalid, LibraryError, NoMemory, NoRoom, Past
 from .hearing import HeardFrame, hear
 from .library import version

@@ -38,7 +38,7 @@ class HeardFrame:
 
 def hear(frame: BytesLike, role: Role) -> HeardFrame:
     """Returns what a frame, from its Ethernet destination on, is to a role: a valid message, another packet, or the first reason to drop it (RFC
-    4861, 6.1, 7.1 and 8.1; RFC 4191, 2.2). Raises Invalid for a frame above 65,536 bytes, and for a number that is no role."""
+    4861, 6.1, 7.1 and 8.1; RFC 4191, 2.2). Raises Invalid for a number that is no role."""
     content, heard = bytes_of(frame), raw.nd_heard()
     checked(library.call("nd_hear", content, len(content), unsigned(role, 32), ctypes.byref(heard)))
     why = Why(heard.why) if heard.hearing == Hearing.DROP else None

@@ -1,8 +1,7 @@
 """The library: finds or compiles it, loads it, and calls it.
 
-`nd.c` runs one call at a time, also for different nodes, since all calls use one memory. `call` holds `lock` while a call runs, so threads may use
-this module freely, even one node: their calls wait for one another. Do not use it in a signal handler, nor in a forked child of a process with
-threads.
+Calls for different nodes, and calls without a node, may run at the same time. A node holds a lock of its own while a call for it runs (node.py), so
+threads may use this module freely, even one node. Do not use it in a signal handler, nor in a forked child of a process with threads.
 
 The environment: `ND_LIB` names a shared library that is already built, and `CC` the compiler (else `cc`). The compiled library is kept in
 `XDG_CACHE_HOME`, else in the user's `.cache`, under a name that has a sum of its sources and of the command."""
@@ -23,13 +22,11 @@ from typing import Any, List, Optional
 from . import raw
 from .errors import LibraryError
 
-# All nodes of the process share this many bytes (ND_MEMORY_BYTES of nd.c). It is an array of zeros, so a system gives a page when it is used.
-MEMORY_BYTES = 1 << 26
-FLAGS = ["-O1", "-fPIC", "-shared", f"-DND_MEMORY_BYTES={MEMORY_BYTES}"]
+FLAGS = ["-O1", "-fPIC", "-shared"]
 SOURCES = ("nd.c", "nd.h", "nd_hear.h")
 
-# Python may run Node.__del__ within a call of the same thread, before the library is entered: so the lock is one that a thread may take again.
-lock = threading.RLock()
+# Held while the library is compiled and loaded. Python may run Node.__del__ meanwhile in the same thread: so a thread may take it again.
+_loading = threading.RLock()
 _loaded: Optional[ctypes.CDLL] = None
 
 
@@ -82,7 +79,7 @@ def compile_library() -> Path:
         path.parent.mkdir(parents=True, exist_ok=True)
         with tempfile.TemporaryDirectory(dir=path.parent) as room:
             made = Path(room) / "nd.so"
-            _run_compiler([*command, str(source_folder() / "nd.c"), "-o", str(made), "-lm"])
+            _run_compiler([*command, str(source_folder() / "nd.c"), "-o", str(made)])
             os.replace(made, path)
     except OSError as error:
         raise LibraryError(f"nd.c cannot be compiled into {path.parent}: {error}") from error
@@ -115,12 +112,13 @@ def _parts(version_number: int) -> tuple[int, int, int]:
 
 
 def call(name: str, *arguments: Any) -> Any:
-    """Calls a function of nd.h, and returns its result. No other call runs meanwhile. The first call compiles and loads the library."""
+    """Calls a function of nd.h, and returns its result. Other threads run meanwhile. The first call compiles and loads the library."""
     global _loaded
-    with lock:
-        if _loaded is None:
-            _loaded = _load()
-        return getattr(_loaded, name)(*arguments)
+    if _loaded is None:
+        with _loading:
+            if _loaded is None:
+                _loaded = _load()
+    return getattr(_loaded, name)(*arguments)
 
 
 def version() -> tuple[int, int, int]:

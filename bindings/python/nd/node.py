@@ -3,6 +3,7 @@ from __future__ import annotations
 
 import ctypes
 import enum
+import threading
 from typing import Any, Callable, Iterator, NoReturn, Optional, Type, TypeVar, Union
 
 from . import library, raw
@@ -32,25 +33,32 @@ class Node:
     Past or NoMemory if it does not take place. The caller passes only frames to the interface's own address and to multicast addresses, and none
     that the interface itself sent; and to a router, of the frames to multicast addresses only those with ICMPv6 of types 133 to 137.
 
-    All calls of the process wait for one another (library.py). A node is closed by `close`, or at the end of a `with` block. It cannot be copied or
-    pickled."""
+    Several threads may use one node: a call waits for the one that runs. Calls for different nodes run at the same time. A node is closed by `close`,
+    or at the end of a `with` block. It cannot be copied or pickled."""
 
-    _node = raw.nd_node()  # not open: that of an object whose `__init__` did not open one
+    _lock: Any  # held while a call for this node runs
+    _node: raw.nd_node
+
+    def __new__(cls, *_arguments: object, **_options: object) -> Node:
+        node = super().__new__(cls)
+        node._lock, node._node = threading.RLock(), raw.nd_node()  # not open yet
+        return node
 
     def __init__(self, options: Options) -> None:
         """Opens a node (RFC 4861, 6.3.2; RFC 4862, 5.3 and 5.4). Nothing is reported yet. Raises Invalid if an option is out of its range, and
         NoMemory if there is no room for the node. Where it is called again, it closes the node that is open, as `io.FileIO` does a file."""
         made = options.raw()
-        if self._node.is_open:
-            self.close()
-        self._node = raw.nd_node()
-        self._buffer = ctypes.create_string_buffer(raw.BUFFER_BYTES)
-        self._changes = Change(0)
-        checked(library.call("nd_open", self._node, made, ctypes.sizeof(made)))
+        with self._lock:
+            if self._node.is_open:
+                self.close()
+            self._node = raw.nd_node()
+            self._buffer = ctypes.create_string_buffer(raw.BUFFER_BYTES)
+            self._changes = Change(0)
+            checked(self._call("nd_open", made, ctypes.sizeof(made)))
 
     def close(self) -> None:
         """Closes the node. Nothing is sent, and records that were not polled are lost. A closed node may be closed again."""
-        library.call("nd_close", self._node)
+        self._call("nd_close")
 
     def __enter__(self) -> Node:
         return self
@@ -63,21 +71,21 @@ class Node:
             self.close()
 
     def __reduce__(self) -> NoReturn:
-        raise TypeError("a node cannot be copied or pickled: its state is in the memory of nd.c")
+        raise TypeError("a node cannot be copied or pickled: its state is in the memory of the library")
 
     # ---- time
 
     def last_moment(self) -> int:
         """Returns the moment up to which time has passed, ms; 2^64 - 1 if the node is closed."""
-        return library.call("nd_last_moment", self._node)
+        return self._call("nd_last_moment")
 
     def next_due(self) -> int:
         """Returns the earliest moment at which something is due, ms: call `pass_time` then. 2^64 - 1 if the node is closed."""
-        return library.call("nd_next_due", self._node)
+        return self._call("nd_next_due")
 
     def lease_version(self) -> int:
         """Returns the version of all leases: a lease holds while this is the version of its path. 0 if the node is closed."""
-        return library.call("nd_lease_version", self._node)
+        return self._call("nd_lease_version")
 
     def pass_time(self, now: int) -> Outcome:
         """Does all that is due up to `now` (RFC 4861, 6.2.4, 6.2.6, 6.3.5, 6.3.7, 7.2.2, 7.3.3; RFC 4862, 5.4 and 5.5.4)."""
@@ -135,7 +143,7 @@ class Node:
         """Returns where packets to `destination` go, for a stack that keeps and sends them itself (RFC 4861, 5.2, 7.2.2 and 7.3.3). It counts as a
         use of the next hop, and one whose link-layer address is not known is solicited: `Resolved` or `Failed` is reported then."""
         path = raw.nd_path()
-        status = library.call("nd_resolve", self._node, moment_of(now), raw_address(destination), path)
+        status = self._call("nd_resolve", moment_of(now), raw_address(destination), path)
         refusal = library.call("nd_refusal_of", status)
         if refusal:
             limit = library.call("nd_limit_of", status)
@@ -172,9 +180,9 @@ class Node:
     def poll_one(self) -> Optional[Record]:
         """Takes the oldest record, or returns None if there is none."""
         out = raw.nd_out()
-        with library.lock:  # another thread may poll the same node, into the same buffer
+        with self._lock:  # another thread may poll the same node, into the same buffer
             try:
-                status = checked(library.call("nd_poll", self._node, out, self._buffer, len(self._buffer)))
+                status = checked(self._call("nd_poll", out, self._buffer, len(self._buffer)))
             except NoRoom:
                 self._buffer = ctypes.create_string_buffer(out.length)
                 return self.poll_one()
@@ -188,7 +196,7 @@ class Node:
         """Returns the tables that may have changed with the records that were taken since this was last asked. Besides, a table changes by a call
         for it, as `clear`, and by time: a row is gone, or an address DEPRECATED, when what is left of its lifetime has passed, and ReachableTime is
         drawn anew. The neighbours have no bit: with most frames one of them changes."""
-        with library.lock:
+        with self._lock:
             changes, self._changes = self._changes, Change(0)
         return changes
 
@@ -254,22 +262,27 @@ class Node:
 
     # ---- calls
 
+    def _call(self, name: str, *arguments: Any) -> Any:
+        """Calls a function of nd.h for this node. No other call for it runs meanwhile."""
+        with self._lock:
+            return library.call(name, self._node, *arguments)
+
     def _event(self, name: str, now: int, *arguments: Any) -> Outcome:
-        status = library.call(name, self._node, moment_of(now), *arguments)
+        status = self._call(name, moment_of(now), *arguments)
         if library.call("nd_refusal_of", status):
             return Outcome.REFUSED
         return Outcome.NO_ROUTE if checked(status) == Status.NOTHING else Outcome.DONE
 
     def _question(self, name: str, now: int, *arguments: Any) -> bool:
         """Returns true if the row was written."""
-        return checked(library.call(name, self._node, moment_of(now), *arguments)) == Status.DONE
+        return checked(self._call(name, moment_of(now), *arguments)) == Status.DONE
 
     def _rows(self, name: str, now: int, kind: Type[ctypes.Structure], row_of: Callable[[Any], Row]) -> Iterator[Row]:
         room, count = 64, ctypes.c_size_t()
         while True:
             rows = (kind * room)()
             try:
-                checked(library.call(name, self._node, moment_of(now), rows, room, count))
+                checked(self._call(name, moment_of(now), rows, room, count))
             except NoRoom:
                 room *= 8
                 continue

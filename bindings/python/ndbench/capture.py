@@ -8,7 +8,7 @@ from typing import BinaryIO, Callable, Dict, Iterator, List, Optional, Tuple
 ETHERNET = 1
 NANOSECONDS = 10 ** 9
 LONGEST_BLOCK = 1 << 26
-LONGEST_FRAME = 65536  # ND_FRAME_BYTES of nd.c
+LONGEST_FRAME = 65536  # no Ethernet is that long; a longer one is a fault of the capture, or was put together by offload
 VLAN_TYPES = {b"\x81\x00", b"\x88\xa8", b"\x91\x00"}
 # The magic numbers of pcap: the byte order, and the units of a second.
 PCAP_MAGICS = {b"\xd4\xc3\xb2\xa1": ("<", 10 ** 6), b"\xa1\xb2\xc3\xd4": (">", 10 ** 6), b"\x4d\x3c\xb2\xa1": ("<", 10 ** 9),

@@ -63,27 +63,45 @@ class Finding(unittest.TestCase):
 
 
 class Overlap:
-    """A library whose calls take a while, and that counts those that run at a time."""
+    """A library that counts the calls which run at a time. A call takes a while, and as long as it takes until `meeting` threads have made one."""
 
-    def __init__(self) -> None:
+    def __init__(self, meeting: int) -> None:
         self.running = 0
         self.most = 0
+        self.meeting = threading.Barrier(meeting, timeout=20)
 
-    def nd_version(self) -> int:
+    def nd_open(self, *_arguments: object) -> int:
+        return 0
+
+    def nd_close(self, *_arguments: object) -> None:
+        pass
+
+    def nd_next_due(self, _node: object) -> int:
         self.running += 1
         self.most = max(self.most, self.running)
+        self.meeting.wait()
         time.sleep(0.002)
         self.running -= 1
         return 0
 
 
 class Threads(unittest.TestCase):
-    def test_one_call_runs_at_a_time(self) -> None:
-        loaded = Overlap()
+    def calls(self, loaded: Overlap, nodes: int) -> None:
+        """Opens nodes of a library, and calls it in eight threads, each for the node whose turn it is."""
         with mock.patch.object(library, "_loaded", loaded):
-            threads = [threading.Thread(target=nd.version) for _ in range(8)]
+            opened = [nd.Node(nd.Options.host("02:00:00:00:00:01", seed=1)) for _ in range(nodes)]
+            threads = [threading.Thread(target=opened[number % nodes].next_due) for number in range(8)]
             for thread in threads:
                 thread.start()
             for thread in threads:
                 thread.join()
+
+    def test_calls_for_one_node_wait_for_one_another(self) -> None:
+        loaded = Overlap(1)
+        self.calls(loaded, 1)
         self.assertEqual(loaded.most, 1)
+
+    def test_calls_for_eight_nodes_run_at_the_same_time(self) -> None:
+        loaded = Overlap(8)
+        self.calls(loaded, 8)
+        self.assertEqual((loaded.meeting.broken, loaded.most), (False, 8))

@@ -2,7 +2,9 @@
 from __future__ import annotations
 
 import copy
+import os
 import pickle
+import subprocess
 import sys
 import threading
 import time
@@ -15,7 +17,7 @@ import nd
 from nd import library
 from nd.raw import FOREVER
 
-from .paths import example, example_events, example_frames
+from .paths import PYTHON, example, example_events, example_frames
 
 HOST_MAC, ROUTER_MAC = "34:56:78:9a:bc:de", "02:00:00:00:00:01"
 LINK_LOCAL = IPv6Address("fe80::3656:78ff:fe9a:bcde")
@@ -181,12 +183,65 @@ class Threads(unittest.TestCase):
         self.assertEqual(len(mixed), 0)
 
 
+    def test_a_node_in_each_of_four_threads(self) -> None:
+        """Each does what one does alone."""
+        frames, told = example_frames("link.hex"), []
+
+        def tell() -> List[nd.Record]:
+            with opened(nd.Role.HOST, HOST_MAC) as node:
+                for number, frame in enumerate(frames):
+                    node.receive(2000 + 1000 * number, frame)
+                return list(node.poll())
+
+        alone = tell()
+        self.assertGreater(len(alone), len(frames))
+        threads = [threading.Thread(target=lambda: told.extend(tell() for _ in range(20))) for _ in range(4)]
+        for thread in threads:
+            thread.start()
+        for thread in threads:
+            thread.join()
+        self.assertEqual((len(told), [records for records in told if records != alone]), (80, []))
+
+
+# Opens nodes in 64 MiB more than the process has at the start. One has more than 300,000 bytes for its tables, so 1,000 fit only one after another.
+# Prints how many were open at the same time when there was no memory for another one.
+SCARCE = """
+import resource, sys, nd
+options = nd.Options(nd.Role.HOST, "34:56:78:9a:bc:de", draws=nd.Seed(1), limits=nd.Limits(neighbours=2048))
+node = nd.Node(options)
+assert 1000 * nd.node_bytes(nd.Limits(neighbours=2048)) > 300_000_000
+with open("/proc/self/statm") as file:
+    limit = int(file.read().split()[0]) * resource.getpagesize() + (64 << 20)
+resource.setrlimit(resource.RLIMIT_AS, (limit, limit))
+for _ in range(1000):
+    nd.Node(options)
+for _ in range(1000):
+    node.__init__(options)
+nodes = []
+try:
+    while len(nodes) < 1000:
+        nodes.append(nd.Node(options))
+except nd.NoMemory:
+    print(len(nodes))
+nodes.clear()
+nodes.append(nd.Node(options))
+"""
+
+
+@unittest.skipUnless(sys.platform == "linux", "the memory of a process is bounded as on Linux")
+class Memory(unittest.TestCase):
+    def test_it_is_given_back_and_may_be_refused(self) -> None:
+        """By `close`, where a node is collected, and where it is opened again."""
+        said = subprocess.run([sys.executable, "-c", SCARCE], env={**os.environ, "PYTHONPATH": str(PYTHON)}, capture_output=True, text=True, check=False)
+        self.assertRegex(said.stdout, r"^\d+\n$", said.stderr)
+        self.assertTrue(100 < int(said.stdout) < 1000, said.stdout)
+
+
 class Objects(unittest.TestCase):
     def test_a_second_init_closes_the_node(self) -> None:
-        """1,000 nodes at a time have no room. Wrong options leave the node as it is."""
+        """Wrong options leave the node as it is."""
         node, options = opened(nd.Role.HOST, HOST_MAC), nd.Options.host(HOST_MAC)
-        for _ in range(1000):
-            node.__init__(options)  # type: ignore[misc]
+        node.__init__(options)  # type: ignore[misc]
         node.pass_time(1000)
         with self.assertRaises(nd.Invalid):
             node.__init__(nd.Options(nd.Role.HOST, HOST_MAC, transmits=256))  # type: ignore[misc]
@@ -251,21 +306,6 @@ class Errors(unittest.TestCase):
         with self.assertRaises(nd.Closed):
             list(node.poll())
         self.assertEqual(node.last_moment(), FOREVER)
-
-    def test_memory_is_given_back(self) -> None:
-        """All nodes of the process share 64 MiB, and one takes 151,008 bytes for its tables: 1,000 nodes fit only one after another."""
-        tables = nd.node_bytes()
-        self.assertIsNotNone(tables)
-        self.assertGreater(1000 * (tables or 0), 1 << 26)
-        for _ in range(1000):
-            opened(nd.Role.HOST, HOST_MAC)
-
-    def test_more_nodes_than_memory(self) -> None:
-        nodes: List[nd.Node] = []
-        with self.assertRaises(nd.NoMemory):
-            while len(nodes) < 1000:
-                nodes.append(opened(nd.Role.HOST, HOST_MAC))
-        self.assertGreater(len(nodes), 100)
 
     def test_a_host_refuses_what_a_router_does(self) -> None:
         with opened(nd.Role.HOST, HOST_MAC) as node:
