@@ -1,8 +1,9 @@
-/* broken: a library that is wrong in the way that the variable FAULT numbers, for `fuzz` to notice. It is linked with --wrap for the functions below. */
+/* broken: a library that is wrong in the way that the variable FAULT numbers, for `fuzz` to notice. It is linked with --wrap for the functions
+ * below. */
 #include <stdlib.h>
 #include "nd.h"
 
-#define FAULTS 26 /* bindings/check reads it */
+#define FAULTS 33 /* bindings/check reads it */
 
 /* Returns true each second time if this is the fault. */
 static bool is_wrong(int fault)
@@ -17,6 +18,11 @@ static bool is_wrong(int fault)
     result __wrap_##call(__VA_ARGS__); \
     result __wrap_##call(__VA_ARGS__)
 
+WRAP(size_t, nd_node_bytes, const nd_limits *limits)
+{
+    return is_wrong(33) ? 0 : __real_nd_node_bytes(limits);
+}
+
 WRAP(int32_t, nd_counts_of, nd_node *node, uint64_t now, nd_counts_row *row)
 {
     int32_t status = __real_nd_counts_of(node, now, row);
@@ -25,6 +31,19 @@ WRAP(int32_t, nd_counts_of, nd_node *node, uint64_t now, nd_counts_row *row)
     if (is_wrong(2))
         row->routers = row->limits.routers + 1u;
     return status;
+}
+
+/* The node that was opened last. */
+static nd_node *newest;
+
+/* A node without one of its policies, for the faults 27 and 28. */
+WRAP(int32_t, nd_open, nd_node *node, const nd_options *options, size_t size)
+{
+    nd_options other = *options;
+    if (other.policies <= ND_POLICIES_ROBUST && (is_wrong(27) || is_wrong(28)))
+        other.policies &= ~(uint32_t)(atoi(getenv("FAULT")) == 27 ? ND_POLICY_PARTS : ND_POLICY_SELF);
+    newest = node;
+    return __real_nd_open(node, &other, size);
 }
 
 WRAP(int32_t, nd_neighbour_at, nd_node *node, uint64_t now, size_t index, nd_neighbour_row *row)
@@ -76,7 +95,18 @@ WRAP(int32_t, nd_pass, nd_node *node, uint64_t now)
 WRAP(int32_t, nd_receive, nd_node *node, uint64_t now, const uint8_t *frame, size_t length)
 {
     int32_t status = __real_nd_receive(node, now, frame, length);
+    if (status == ND_DONE && is_wrong(29))
+        nd_clear(node, now, ND_CLEARABLE_PREFIXES);
     return status == ND_DONE && is_wrong(13) ? ND_NOTHING : status == ND_NO_MEMORY && is_wrong(14) ? ND_PAST : status;
+}
+
+WRAP(int32_t, nd_receive_message, nd_node *node, uint64_t now, const nd_message *message, const uint8_t *bytes, size_t length)
+{
+    nd_message other = *message;
+    int32_t status;
+    other.reserved = is_wrong(30) ? 0 : other.reserved;
+    status = __real_nd_receive_message(node, now, &other, bytes, length);
+    return status == ND_DONE && is_wrong(31) ? ND_NOTHING : status;
 }
 
 WRAP(int32_t, nd_send, nd_node *node, uint64_t now, const nd_addr *from, const nd_addr *to, uint8_t next, const uint8_t *payload, size_t length)
@@ -91,6 +121,8 @@ WRAP(int32_t, nd_send, nd_node *node, uint64_t now, const nd_addr *from, const n
 
 WRAP(int32_t, nd_clear, nd_node *node, uint64_t now, uint32_t table)
 {
+    if (is_wrong(32) && newest != NULL && newest != node && newest->is_open)
+        __real_nd_clear(newest, __real_nd_last_moment(newest), ND_CLEARABLE_NEIGHBOURS);
     return __real_nd_clear(node, now, is_wrong(16) && table == 0 ? 1 : table);
 }
 

@@ -59,8 +59,8 @@ static inline void hear_named(nd_node *node, uint64_t now, const char *name)
     require(nd_receive(node, now, frame->bytes, frame->length) == ND_DONE, name);
 }
 
-/* Returns the CRC-32 of all fields of a structure that nd_hear wrote: it has no padding. */
-static inline uint32_t crc_of(const nd_heard *heard)
+/* Returns the CRC-32 of bytes. */
+static inline uint32_t crc_of_bytes(const uint8_t *bytes, size_t length)
 {
     static uint32_t table[256];
     uint32_t crc = UINT32_MAX;
@@ -69,9 +69,23 @@ static inline uint32_t crc_of(const nd_heard *heard)
         for (int bit = 0; bit < 8; bit++)
             table[i] = table[i] >> 1 ^ (table[i] % 2 != 0 ? UINT32_C(0xedb88320) : 0);
     }
-    for (size_t i = 0; i < sizeof *heard; i++)
-        crc = crc >> 8 ^ table[(crc ^ ((const uint8_t *)heard)[i]) & 0xff];
+    for (size_t i = 0; i < length; i++)
+        crc = crc >> 8 ^ table[(crc ^ bytes[i]) & 0xff];
     return ~crc;
+}
+
+/* Returns the CRC-32 of all fields that nd_hear wrote, which have no padding. On each machine the numbers count with their lowest byte first. */
+static inline uint32_t crc_of(const nd_heard *heard)
+{
+    uint8_t fields[sizeof *heard];
+    uint32_t number;
+    memcpy(fields, heard, sizeof fields);
+    for (size_t at = offsetof(nd_heard, hearing); at < offsetof(nd_heard, hop_limit); at += sizeof number) {
+        memcpy(&number, fields + at, sizeof number);
+        for (size_t i = 0; i < sizeof number; i++)
+            fields[at + i] = (uint8_t)(number >> 8 * i);
+    }
+    return crc_of_bytes(fields, sizeof fields);
 }
 
 /* The limit of default routers of a busy node, 0 for the usual one. */

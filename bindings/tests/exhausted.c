@@ -2,7 +2,6 @@
  * need on, in steps of STEP bytes. A host answers datagrams of its neighbours, or a router passes packets on to as many, until nothing more fits; then
  * no frame arrives for a day. It requires: a call with an empty queue is done, or has done something that was due; the node comes to the end of the
  * day; then it defends its address.
- * Built with ND_MEMORY_BYTES, as dist/nd.c is then, it tries the pool that this one has, with 24 neighbours and small tables.
  *   A line for each flood says at how many sizes the node was out of memory. */
 #include <sys/wait.h>
 #include <unistd.h>
@@ -11,16 +10,6 @@
 
 enum { AT = 10000, DAY = 86400000, MOST_CALLS = 100000, ROUNDS = 16, LONGEST = 1446 };
 
-#ifdef ND_MEMORY_BYTES
-enum { STEP = ND_MEMORY_BYTES, SIZES = 1, NEIGHBOURS = 24 };
-
-static const nd_limits LIMITS = {NEIGHBOURS, 2, 4, 4, 2, 2, 4, 8, 1, 1, 8, {0}};
-
-static void give_pool(size_t bytes)
-{
-    (void)bytes;
-}
-#else
 enum { STEP = 512, SIZES = 96, UNIT = 16, MOST_BYTES = 262144, NEIGHBOURS = 64 };
 
 static const nd_limits LIMITS = {.neighbours = NEIGHBOURS};
@@ -35,7 +24,6 @@ static void give_pool(size_t bytes)
 {
     nd_pool_units = bytes / UNIT;
 }
-#endif
 
 struct flood {
     const char *what;

@@ -1,15 +1,40 @@
-/* fuzz.h: what the bytes of an input decide: numbers, addresses, frames, and what the calls are passed. Most frames are messages that a host or a router
- * takes, and most numbers those of a usual link. */
+/* fuzz.h: what the bytes of an input decide: numbers, addresses, frames, and what the calls are passed. Most frames are messages that a host or a
+ * router takes, and most numbers those of a usual link. Where several bytes are taken C says in which order, so that an input is the same calls by
+ * each compiler. */
 #ifndef FUZZ_H
 #define FUZZ_H
 #include "tables.h"
 
 enum { LONGEST = 2048 };
-enum call { PASS, RECEIVE, SEND, CONFIRM, CONFIRM_TO, FORGET, CLEAR, ADD_ADDRESS, REMOVE_ADDRESS, NEXT_HOP, RESOLVE, ADVERTISE, OFFER, ROUTE, STOP, OPEN, CLOSE, CALLS };
+enum call {
+    PASS, RECEIVE, MESSAGE, SEND, CONFIRM, CONFIRM_TO, FORGET, CLEAR, ADD_ADDRESS, REMOVE_ADDRESS,
+    NEXT_HOP, RESOLVE, ADVERTISE, OFFER, ROUTE, STOP, OPEN, CLOSE, CALLS
+};
+
+/* How many nodes an input has at most. Each has an Ethernet address of its own, which differs from MAC in the last byte. */
+enum { MOST_NODES = 4 };
 
 static const nd_addr ALL_NODES = {{0xff, 2, [15] = 1}}, ALL_ROUTERS = {{0xff, 2, [15] = 2}};
 /* The solicited-node address of LINK_LOCAL. */
 static const nd_addr SOLICITED = {{0xff, 2, [11] = 1, 0xff, 0x9a, 0xbc, 0xde}};
+
+/* Of the node that the next call is for: its number, Ethernet address and link-local address, and the solicited-node address of that. */
+static uint8_t own;
+static nd_mac own_mac;
+static nd_addr own_address, own_group;
+
+/* The last frame that a node has sent, and the number of the node. */
+static struct {
+    uint8_t bytes[LONGEST];
+    size_t length;
+    uint8_t sender;
+} sent;
+
+static void be(uint8_t which)
+{
+    own = which, own_mac = MAC, own_address = LINK_LOCAL, own_group = SOLICITED;
+    own_mac.bytes[5] ^= which, own_address.bytes[15] ^= which, own_group.bytes[15] ^= which;
+}
 
 /* What is left of the bytes. When none is, zeros are taken. */
 static const uint8_t *input;
@@ -48,11 +73,11 @@ static nd_addr an_address(void)
     nd_addr it = {{0xfe, 0x80, [15] = k / 8}};
     switch (k % 8) {
     case 0: return (nd_addr){{[15] = k / 128}};
-    case 1: return LINK_LOCAL;
+    case 1: it = own_address, it.bytes[15] ^= k < 192 ? 0 : k / 8 % MOST_NODES; return it;
     case 2: return k < 128 ? ALL_NODES : ALL_ROUTERS;
-    case 3: return SOLICITED;
+    case 3: return own_group;
     case 4: return (nd_addr){{0x20, 1, 0xd, 0xb8, 0, k / 64, [15] = k / 8 % 8}};
-    case 5: it = LINK_LOCAL, memcpy(it.bytes, (const uint8_t[]){0x20, 1, 0xd, 0xb8, 0, k / 64}, 6); return it;
+    case 5: it = own_address, memcpy(it.bytes, (const uint8_t[]){0x20, 1, 0xd, 0xb8, 0, k / 64}, 6); return it;
     default: return it;
     }
 }
@@ -88,6 +113,14 @@ static size_t put_address(uint8_t *to)
     return put_mostly(to, an_address());
 }
 
+/* Writes mostly the link-layer address of a neighbour; else the node's own, a group's, or zeros. */
+static size_t put_mac(uint8_t *to)
+{
+    const nd_mac others[] = {own_mac, {{0x33, 0x33, [5] = 1}}, {{0}}, {{1, [5] = 9}}};
+    nd_mac mac = {{2, 0, 0, 0, 0, take() % 16}};
+    return put(to, once_in(16) ? &others[below(4)] : &mac, sizeof mac);
+}
+
 /* Writes an option whose bytes are zero so far. Returns its length. */
 static size_t put_option(uint8_t *to)
 {
@@ -95,7 +128,7 @@ static size_t put_option(uint8_t *to)
     uint32_t which = below(sizeof TYPES);
     to[0] = TYPES[which], to[1] = UNITS[which];
     if (which < 2)
-        put(to + 2, (const uint8_t[]){2, 0, 0, 0, 0, take() % 16}, 6);
+        put_mac(to + 2);
     else if (which < 6)
         put_number(to + 4, mostly(which == 3 ? 1500 : 1800), 4);
     if (which == 2) {
@@ -121,7 +154,7 @@ static size_t put_message(uint8_t *to)
         to[4] = take(), to[5] = take();
         put_number(to + 6, mostly(1800), 2), put_number(to + 8, mostly(0), 4), put_number(to + 12, mostly(0), 4);
     } else if (which == 2)
-        put_mostly(to + 8, LINK_LOCAL);
+        put_mostly(to + 8, own_address);
     else if (which > 2)
         to[4] = which == 3 ? take() : 0, put_neighbour(to + 8);
     if (which == 4)
@@ -143,20 +176,26 @@ static void put_sum(uint8_t *packet, size_t length)
     put_number(packet + 42, ~sum, 2);
 }
 
-/* Writes a frame with a message or another packet, and changes it now and then. Returns its length. */
+/* Writes a frame with a message or another packet, and changes it now and then; or the last frame of another node. Returns its length. */
 static size_t put_frame(uint8_t *frame)
 {
-    const nd_addr usual[] = {ALL_ROUTERS, ALL_NODES, SOLICITED, LINK_LOCAL, LINK_LOCAL};
+    static const nd_mac group = {{0x33, 0x33, 0, 0, 0, 1}};
+    const nd_addr usual[] = {ALL_ROUTERS, ALL_NODES, own_group, own_address, own_address};
     bool is_message = !once_in(6);
     size_t length;
     memset(frame, 0, LONGEST);
-    put(frame, (const uint8_t[]){0x33, 0x33, 0, 0, 0, 1, 2, 0, 0, 0, 0, 9, 0x86, 0xdd, 0x60}, 15);
+    if (sent.length > 0 && sent.sender != own && once_in(6))
+        return put(frame, sent.bytes, sent.length);
+    put(frame, is_message || once_in(4) ? &group : &own_mac, sizeof group);
+    put(frame + 6, (const uint8_t[]){2, 0, 0, 0, 0, 9, 0x86, 0xdd, 0x60}, 9);
     frame[20] = is_message ? 58 : 17, frame[21] = is_message && !once_in(16) ? 255 : take();
     length = is_message ? put_message(frame + 54) : 8 * below(180);
     put_neighbour(frame + 22), is_message ? put_mostly(frame + 38, usual[frame[54] - 133]) : put_address(frame + 38);
     put_number(frame + 18, (uint32_t)length, 2);
-    if (once_in(16))
-        frame[14 + below(40 + (uint32_t)length % 200)] ^= take();
+    if (once_in(16)) {
+        uint8_t *at = frame + 14 + below(40 + (uint32_t)length % 200);
+        *at ^= take();
+    }
     if (is_message && !once_in(16))
         put_sum(frame + 14, length);
     return once_in(16) ? take() % (54 + length) : 54 + length;
@@ -166,6 +205,7 @@ static size_t put_frame(uint8_t *frame)
 static struct {
     uint8_t bytes[LONGEST];
     size_t length;
+    nd_message message; /* what precedes `bytes` there */
     nd_addr one, other;
     nd_own_address own;
     nd_advertising settings;
@@ -190,16 +230,26 @@ static bool is_good_own(const nd_own_address *own)
            memcmp(&own->address, &loopback, sizeof loopback) != 0 && own->valid_lifetime > 0 && own->preferred_lifetime <= own->valid_lifetime;
 }
 
+static void prepare_settings(void)
+{
+    nd_advertising *settings = &with.settings;
+    *settings = (nd_advertising){.hop_limit = 64, .other = 1};
+    settings->min_interval = mostly(200), settings->max_interval = mostly(600), settings->lifetime = mostly(1800);
+    settings->reachable_time = mostly(0), settings->retrans_timer = mostly(0), settings->mtu = mostly(1500);
+    settings->preference = (uint8_t)below(4);
+}
+
 static void prepare_router(enum call call)
 {
     static const uint32_t BITS[] = {64, 64, 64, 64, 0, 48, 128, 129};
     const uint8_t *prefix = with.one.bytes;
     uint32_t bits = BITS[below(8)];
     if (call == ADVERTISE) {
-        with.settings = (nd_advertising){mostly(200), mostly(600), mostly(1800), mostly(0), mostly(0), mostly(1500), 64, 0, 1, (uint8_t)below(4), 0};
+        prepare_settings();
         with.are_good = is_good_advertising(&with.settings);
     } else if (call == OFFER) {
-        with.offer = (nd_offer_row){with.one, bits, mostly(7200), mostly(1800), (uint8_t)below(2), 1, {0}};
+        with.offer = (nd_offer_row){.prefix = with.one, .bits = bits, .autonomous = 1};
+        with.offer.valid_lifetime = mostly(7200), with.offer.preferred_lifetime = mostly(1800), with.offer.on_link = (uint8_t)below(2);
         with.are_good = bits <= 128 && with.offer.preferred_lifetime <= with.offer.valid_lifetime &&
                         (bits == 0 || (prefix[0] != 0xff && !(prefix[0] == 0xfe && prefix[1] == 0x80)));
     } else if (call == ROUTE) {
@@ -210,6 +260,20 @@ static void prepare_router(enum call call)
     }
 }
 
+/* Takes the fields of a frame's header for nd_receive_message, and leaves what follows the header. */
+static void prepare_message(void)
+{
+    size_t length = put_frame(with.bytes);
+    with.message = (nd_message){.hop_limit = with.bytes[21]};
+    with.message.checksum_good = (uint8_t)(once_in(32) ? 2 : below(2));
+    with.message.reserved = once_in(64);
+    memcpy(&with.message.source, with.bytes + 22, sizeof with.message.source);
+    memcpy(&with.message.destination, with.bytes + 38, sizeof with.message.destination);
+    with.length = length > 54 ? length - 54 : 0;
+    memmove(with.bytes, with.bytes + 54, with.length);
+    with.are_good = with.message.checksum_good <= 1 && with.message.reserved == 0 && with.length > 0 && with.bytes[0] >= 133 && with.bytes[0] <= 137;
+}
+
 /* Makes what a call is passed, and notes whether it is in its range. */
 static void prepare(enum call call)
 {
@@ -217,14 +281,17 @@ static void prepare(enum call call)
     with.one = an_address(), with.other = an_address(), with.are_good = true;
     if (call == RECEIVE)
         with.length = put_frame(with.bytes);
+    else if (call == MESSAGE)
+        prepare_message();
     else if (call == SEND)
-        with.length = LENGTHS[below(8)], with.one = once_in(4) ? with.one : LINK_LOCAL;
+        with.length = LENGTHS[below(8)], with.one = once_in(4) ? with.one : own_address;
     else if (call == CONFIRM_TO)
         with.number = a_number();
     else if (call == CLEAR)
         with.number = below(7), with.are_good = with.number >= ND_CLEARABLE_NEIGHBOURS && with.number <= ND_CLEARABLE_DNS;
     else if (call == ADD_ADDRESS) {
-        with.own = (nd_own_address){with.one, mostly(1800), mostly(600)};
+        with.own = (nd_own_address){.address = with.one};
+        with.own.valid_lifetime = mostly(1800), with.own.preferred_lifetime = mostly(600);
         with.are_good = is_good_own(&with.own);
     }
     prepare_router(call);

@@ -423,11 +423,38 @@ static size_t some_length(void)
     return below(2) == 0 ? longest : HEADERS + 1 + below(longest - HEADERS);
 }
 
+/* The steps of random calls that take several random numbers. Each is drawn in a statement of its own: in which order C calls the functions in the
+ * arguments of a call is open. */
+static void change_some_names(void)
+{
+    size_t shortest = 2 + below(LONGEST_NAME - 1), spread = below(LONGEST_NAME - shortest + 1), length = some_length() < SHORTEST ? SHORTEST : longest;
+    remove_names();
+    change_names(length, shortest, spread);
+}
+
+static void pass_some_time(void)
+{
+    uint64_t late = below(2), more = below(2);
+    pass(nd_next_due(&node) + more, late);
+}
+
+static void advertise_some_router(void)
+{
+    size_t seconds = 1 + below(4), i = below(70);
+    advertise_router(i, seconds);
+}
+
+static void give_some_address(void)
+{
+    uint32_t seconds = 1 + (uint32_t)below(4);
+    give_address(below(70), seconds);
+}
+
 /* Makes one of all these calls. */
 static void do_some(void)
 {
     uint8_t address[16];
-    size_t i = below(neighbours + neighbours / 4 + 1), shortest = 2 + below(LONGEST_NAME - 1);
+    size_t i = below(neighbours + neighbours / 4 + 1);
     near(address, i);
     switch (below(20)) {
     case 0:
@@ -437,17 +464,16 @@ static void do_some(void)
         solicit(address);
         return;
     case 2:
-        remove_names();
-        change_names(some_length() < 200 ? 200 : longest, shortest, below(LONGEST_NAME - shortest + 1));
+        change_some_names();
         return;
     case 3:
         deliver(some_length());
         return;
     case 4:
-        pass(nd_next_due(&node) + below(2), below(2));
+        pass_some_time();
         return;
     case 5:
-        advertise_router(below(70), 1 + below(4));
+        advertise_some_router();
         return;
     case 6:
         if (below(40) == 0)
@@ -463,7 +489,7 @@ static void do_some(void)
         configure();
         return;
     case 9:
-        give_address(below(70), 1 + (uint32_t)below(4));
+        give_some_address();
         return;
     case 10:
         remove_address(below(70));

@@ -111,7 +111,7 @@ def heard_by_both(frame):
 
 
 # struct nd_heard: the addresses, the numbers, and the bytes.
-HEARD = struct.Struct("=16s16s16s16s9I8B")
+HEARD = struct.Struct("<16s16s16s16s9I8B")
 VALID_HEARING, OTHER_HEARING, DROP_HEARING = 1, 2, 3
 DROPPED_CRC = [zlib.crc32(HEARD.pack(*[bytes(16)] * 4, DROP_HEARING, why, *[0] * 15)) for why in range(21)]
 PREFERENCES = (0, 1, 0, 2)
