@@ -6,8 +6,8 @@
  * Time jumps from one event to the next. The heap of a link has each node once, by the moment of its next event: what nd_next_due says, or a packet
  * that it sends. The wire of a link has its frames, the oldest first, since each takes the same time to arrive.
  *
- * A thread takes a link, runs it to the end, and takes the next one: threads=64 is a thread for each of 64 links. Over dist/nd.c, where all nodes
- * share one memory, there has to be one thread, which is the usual number; more are refused. */
+ * A thread takes a link, runs it to the end, and takes the next one: threads=64 is a thread for each of 64 links. The usual number is 1, which is also
+ * that for memory functions of one thread, such as those of bindings/c/pool.c. */
 #define _POSIX_C_SOURCE 200809L /* clock_gettime, with -std=c11 too */
 #include <inttypes.h>
 #include <pthread.h>
@@ -18,12 +18,6 @@
 #include <time.h>
 #include "nd.h"
 
-#ifdef ND_ONE_MEMORY /* dist/nd.h has it */
-enum { IS_ONE_MEMORY = true };
-#else
-enum { IS_ONE_MEMORY = false };
-#endif
-
 enum {
     LATENCY_MS = 1,
     SETTLED_MS = 10000, /* no packet is sent so long after the beginning, while addresses are tried, and before the end: all arrive or are lost */
@@ -32,7 +26,6 @@ enum {
     NUMBER_BITS = 16,   /* of the number of a node on its link */
     MOST_NUMBER = (1 << NUMBER_BITS) - 1,
     MOST_THREADS = 1024,
-    MIB = 1 << 20,
     NO_NEXT_HEADER = 59, /* RFC 8200, 4.7 */
     REDIRECT = 137,      /* RFC 4861, 4.5 */
 };
@@ -89,24 +82,9 @@ static void require(bool holds, const char *what) /* ends the program, from any 
     _Exit(1);
 }
 
-/* Returns an estimate of the bytes that dist/nd.c needs for all nodes: for each what its full tables take, and half as much for the packets that wait
- * and the queues; and for all a frame, a stack and constants. It is in whole MiB. */
-static uint64_t bytes_of_all(void)
-{
-    uint64_t bytes = MIB / 8;
-    for (const struct link *link = links; link < links + arguments[LINKS].number; link++)
-        bytes += (uint64_t)nd_node_bytes(&link->limits) * link->count * 3 / 2;
-    return (bytes + MIB - 1) / MIB * MIB;
-}
-
 static void require_done(int32_t status, const char *what) /* ends the program unless a call returned ND_DONE */
 {
-    char text[128];
-    if (status == ND_NO_MEMORY) {
-        snprintf(text, sizeof text, "out of memory; over dist/nd.c, -DND_MEMORY_BYTES=%" PRIu64 " should be enough", bytes_of_all());
-        require(false, text);
-    }
-    require(status == ND_DONE, what);
+    require(status == ND_DONE, status == ND_NO_MEMORY ? "out of memory" : what);
 }
 
 static uint64_t draw(uint64_t *state) /* splitmix64 */
@@ -387,7 +365,6 @@ int main(int argc, char **argv)
             return fprintf(stderr, "usage: many [hosts=N] [links=N] [routers=N] [seconds=N] [seed=N] [threads=N]\n"), 2;
     uint64_t random = arguments[SEED].number, count = arguments[LINKS].number;
     require(arguments[HOSTS].number / count + arguments[ROUTERS].number + 1 < MOST_NUMBER, "too many hosts on a link");
-    require(!IS_ONE_MEMORY || arguments[THREADS].number == 1, "all nodes of dist/nd.c share one memory, so threads=1 alone is possible");
     links = calloc(count, sizeof *links);
     require(links != NULL, "out of memory");
     for (size_t i = 0; i < count; i++)
