@@ -17,11 +17,13 @@ namespace jondasik
 class Checks
 {
   public:
+    /// Counts a check that is passed if `isSo`.
     void That(bool isSo, const std::string& what)
     {
         (isSo ? m_passed : m_failed)++;
         std::cout << (isSo ? "passed: " : "FAILED: ") << what << std::endl;
     }
+    /// Counts a check that is passed if the numbers are equal, and prints both.
     void Equal(uint64_t wanted, uint64_t found, const std::string& what)
     {
         That(found == wanted, what + ": " + std::to_string(found) + " of " + std::to_string(wanted));
@@ -42,6 +44,7 @@ struct Reports {
     std::map<uint32_t, int> dropped; // by enum nd_why
     int duplicates = 0;
 
+    /// Counts a record.
     void Add(const nd_out& record)
     {
         if (record.kind == ND_OUT_DROPPED) {
@@ -157,6 +160,7 @@ class Pings
             ns3::Simulator::Schedule(ns3::Seconds(i), &Pings::Send, this, i);
         }
     }
+    /// Returns how many replies the node has received (RFC 4443, 4.2).
     int Replies() const
     {
         return m_replies;

@@ -58,8 +58,8 @@ inline bool IsNeighborDiscovery(const ns3::Ipv6Header& header, const ns3::Ptr<co
 
 /// How a node is opened.
 struct Settings {
-    nd_options options = ND_OPTIONS_INIT; ///< `mac` and `start` are ignored: they are the device's address and the time of the simulation
-    bool hearsDetectionOfNs3 = true;      ///< a solicitation from :: is heard without its Source Link-Layer Address: InterfaceNode::Hear
+    nd_options options = ND_OPTIONS_INIT;    ///< `mac` and `start` are ignored: they are the device's address and the time of the simulation
+    bool hearsDetectionOfNs3 = true;         ///< a Neighbor Solicitation from :: is heard without its Source Link-Layer Address option
     std::function<void(nd_node*)> configure; ///< called each time the node was opened, such as for nd_advertise; it may be empty
 };
 
@@ -79,14 +79,16 @@ enum class Fate {
 
 /// What a stack does with what its node reports.
 struct Callbacks {
-    std::function<bool()> isUp;                         ///< returns true if frames may be sent
-    std::function<void(const nd_out&)> onRecord;        ///< a record that is no frame
-    std::function<void(const Outgoing&, Fate)> onFate;  ///< a packet that waited, or has no path
+    std::function<bool()> isUp;                        ///< returns true if frames may be sent
+    std::function<void(const nd_out&)> onRecord;       ///< called for a record that is no frame
+    std::function<void(const Outgoing&, Fate)> onFate; ///< called for a packet that waited, or has no path
 };
 
+/// A node of nd.h on a device of ns-3.
 class InterfaceNode
 {
   public:
+    /// Makes a closed node: the caller opens it once it can take the callbacks.
     InterfaceNode(ns3::Ptr<ns3::NetDevice> device, const Settings& settings, Callbacks callbacks)
         : m_device(device), m_settings(settings), m_callbacks(std::move(callbacks))
     {
@@ -174,25 +176,19 @@ class InterfaceNode
         return status == ND_DONE ? std::make_optional(MacOf(path)) : std::nullopt;
     }
 
-    /// Returns the node's own addresses that are in one of two states, of `enum nd_state`.
-    std::vector<ns3::Ipv6Address> AddressesIn(uint32_t state, uint32_t other)
+    /// Returns the node's assigned addresses, in the order of addresses (RFC 4862, 5.4).
+    std::vector<ns3::Ipv6Address> Assigned()
     {
         std::array<nd_address_row, 64> rows; // the most that a node has
         size_t count = 0;
         nd_addresses(&m_node, NowMs(), rows.data(), rows.size(), &count);
         std::vector<ns3::Ipv6Address> addresses;
         for (size_t i = 0; i < count; i++) {
-            if (rows[i].state == state || rows[i].state == other) {
+            if (rows[i].state == ND_STATE_PREFERRED || rows[i].state == ND_STATE_DEPRECATED) {
                 addresses.push_back(ToNs3(rows[i].address));
             }
         }
         return addresses;
-    }
-
-    /// Returns the node's assigned addresses, which packets may have.
-    std::vector<ns3::Ipv6Address> Assigned()
-    {
-        return AddressesIn(ND_STATE_PREFERRED, ND_STATE_DEPRECATED);
     }
 
     /// Returns the default routers, in the order in which they entered the list (RFC 4861, 5.1).
@@ -212,9 +208,10 @@ class InterfaceNode
         nd_path path;
     };
 
-    static constexpr size_t SOLICITATION = 24;    // bytes of a Neighbor Solicitation without options (RFC 4861, 4.3)
-    static constexpr size_t LINK_LAYER_OPTION = 8; // bytes of a Source Link-Layer Address option of Ethernet (RFC 2464, 6)
-    static constexpr size_t MOST_WAITING = 3;     // packets for one next hop, as many as the node itself keeps
+    static constexpr uint8_t NEIGHBOR_SOLICITATION = 135; // a type of ICMPv6 (RFC 4861, 4.3)
+    static constexpr size_t SOLICITATION = 24;            // bytes of one without options
+    static constexpr size_t LINK_LAYER_OPTION = 8;        // bytes of a Source Link-Layer Address option of Ethernet (RFC 2464, 6)
+    static constexpr size_t MOST_WAITING = 3;             // packets for one next hop, as many as the node itself keeps
 
     static ns3::Mac48Address MacOf(const nd_path& path)
     {
@@ -223,11 +220,13 @@ class InterfaceNode
         return mac;
     }
 
-    // Returns true if a message is a solicitation from :: whose one option is a Source Link-Layer Address (RFC 4861, 7.1.1). nd_hear names the first
-    // reason to drop it: if that is this one, the hop limit, the checksum and the lengths are good.
+    // Returns true if a message is a Neighbor Solicitation from :: whose one option is a Source Link-Layer Address (RFC 4861, 7.1.1). nd_hear names
+    // the first reason to drop it: if that is this one, the hop limit, the checksum and the lengths are good.
     static bool IsDetectionOfNs3(const ns3::Ipv6Header& header, const ns3::Ptr<const ns3::Packet>& payload)
     {
-        if (!header.GetSource().IsAny() || payload->GetSize() != SOLICITATION + LINK_LAYER_OPTION) {
+        uint8_t type = 0;
+        payload->CopyData(&type, 1);
+        if (!header.GetSource().IsAny() || type != NEIGHBOR_SOLICITATION || payload->GetSize() != SOLICITATION + LINK_LAYER_OPTION) {
             return false;
         }
         ns3::Ptr<ns3::Packet> packet = payload->Copy();
@@ -316,7 +315,7 @@ class InterfaceNode
     uint64_t m_due = UINT64_MAX;
     std::array<Lease, 64> m_leases = {};
     std::map<ns3::Ipv6Address, std::deque<Outgoing>> m_waiting; // by next hop
-    std::vector<std::pair<Outgoing, Fate>> m_decided;           // packets whose fate the stack is not told yet
+    std::vector<std::pair<Outgoing, Fate>> m_decided;           // packets for which onFate is to be called
 };
 
 } // namespace jondasik

@@ -81,7 +81,7 @@ class LinkOfRadvd
         for (uint32_t i : {ROUTER, HOST, LATE}) {
             SetUp(m_devices.Get(i));
         }
-        Ipv6Of(LATE)->SetDown(1); // ns-3 ends with an error if the interface itself is added later
+        Ipv6Of(LATE)->SetDown(1); // ns-3 crashes if the interface itself is added while the simulation runs
         AddRadvd(m_nodes.Get(ROUTER), 1, {PREFIX});
         if (!g_isAsNs3) {
             RepairRouter(m_nodes.Get(ROUTER));

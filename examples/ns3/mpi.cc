@@ -205,7 +205,7 @@ void Print(const Counts& own, const Counts& all)
     getrusage(RUSAGE_SELF, &usage);
     std::ostringstream text; // one write, so that the lines of two ranks are not mixed
     text << "rank " << MpiInterface::GetSystemId() << " of " << MpiInterface::GetSize() << ": events " << own.events << ", user seconds "
-         << usage.ru_utime.tv_sec << ", resident " << usage.ru_maxrss << " KB\n";
+         << usage.ru_utime.tv_sec + usage.ru_utime.tv_usec / 1e6 << ", resident " << usage.ru_maxrss << " KB\n";
     if (MpiInterface::GetSystemId() == 0) {
         text << "all: events " << all.events << ", datagrams sent " << all.sent << ", arrived " << all.arrived << ", across " << all.across
              << ", hash " << std::hex << all.hash << "\n";

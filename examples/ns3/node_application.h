@@ -11,6 +11,7 @@
 namespace jondasik
 {
 
+/// An application that is the whole IPv6 of its ns-3 node.
 class NodeApplication : public ns3::Application
 {
   public:

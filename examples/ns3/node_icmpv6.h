@@ -172,10 +172,11 @@ class NodeIcmpv6 : public ns3::Icmpv6L4Protocol
     // Takes an address from the node that was removed from an interface.
     void Remove(ns3::Ptr<ns3::Ipv6Interface> interface, ns3::Ipv6InterfaceAddress removed)
     {
-        Port& port = *PortOf(interface->GetDevice());
-        const nd_addr address = ToNd(removed.GetAddress());
-        nd_remove_address(port.node->Node(), NowMs(), &address);
-        port.node->Settle();
+        if (Port* port = PortOf(interface->GetDevice())) {
+            const nd_addr address = ToNd(removed.GetAddress());
+            nd_remove_address(port->node->Node(), NowMs(), &address);
+            port->node->Settle();
+        }
     }
 
     // Shows in ns-3's tables what a record reports.
