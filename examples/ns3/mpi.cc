@@ -1,6 +1,7 @@
 // mpi [--hosts=1000] [--links=64] [--seconds=120]: hosts of node_application.h on links, in one process or, by `mpirun -n 2`, in two, each with half
 // of the links. The routers of a half are one ns-3 node, and these two are joined by a point-to-point link of 2 ms, which ns-3's MPI carries. One
-// datagram of ten goes to a host of any link. Prints a hash of all that the nodes of the hosts reported, which is the same for one rank and for two.
+// datagram of ten goes to a host of any link. Prints a hash of what the nodes of the hosts reported, but for frames, which is the same for one rank
+// and for two.
 #include "node_application.h"
 #include "ns3/core-module.h"
 #include "ns3/csma-module.h"
