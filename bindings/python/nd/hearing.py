@@ -3,11 +3,14 @@ from __future__ import annotations
 
 import ctypes
 from dataclasses import dataclass
+from functools import cached_property
 from ipaddress import IPv6Address
 from typing import Optional
 
 from . import library, raw
 from .errors import checked
+from .messages import Message, NeighborAdvertisement, NeighborSolicitation, RedirectMessage, RouterAdvertisement, RouterSolicitation
+from .option_types import options_of
 from .raw import Hearing, Preference, Role, Why
 from .values import BytesLike, address_of, bytes_of, unsigned
 
@@ -35,6 +38,23 @@ class HeardFrame:
     solicited: bool           # NA: S
     override: bool            # NA: O
 
+    @cached_property
+    def message(self) -> Optional[Message]:
+        """The message with its fields and options, or None if the frame is no valid one."""
+        if self.hearing is not Hearing.VALID:
+            return None
+        ends, options = (self.source, self.destination), tuple(options_of(self.options))
+        if self.message_type == RouterSolicitation.message_type:
+            return RouterSolicitation(*ends, options)
+        if self.message_type == RouterAdvertisement.message_type:
+            return RouterAdvertisement(*ends, self.hop_limit, self.managed, self.other, self.preference, self.router_lifetime, self.reachable_time,
+                                       self.retrans_timer, options)
+        if self.message_type == NeighborSolicitation.message_type:
+            return NeighborSolicitation(*ends, self.target, options)
+        if self.message_type == NeighborAdvertisement.message_type:
+            return NeighborAdvertisement(*ends, self.router, self.solicited, self.override, self.target, options)
+        return RedirectMessage(*ends, self.target, self.redirected, options)
+
 
 def hear(frame: BytesLike, role: Role) -> HeardFrame:
     """Returns what a frame, from its Ethernet destination on, is to a role: a valid message, another packet, or the first reason to drop it (RFC
@@ -47,3 +67,12 @@ def hear(frame: BytesLike, role: Role) -> HeardFrame:
                       address_of(heard.redirected), heard.message_type, heard.next_header, options, heard.hop_limit, bool(heard.managed),
                       bool(heard.other), Preference(heard.preference), heard.router_lifetime, heard.reachable_time, heard.retrans_timer,
                       bool(heard.router), bool(heard.solicited), bool(heard.override_flag))
+
+
+def message_of(frame: BytesLike) -> Optional[Message]:
+    """Returns the message of a frame, heard by the role that takes it: a Router Solicitation by a router, each other one by a host. None if it is no
+    valid message."""
+    heard = hear(frame, Role.HOST)
+    if heard.why is Why.NOT_FOR_US:
+        heard = hear(frame, Role.ROUTER)
+    return heard.message

@@ -23,11 +23,10 @@ from typing import Dict, Iterable, Iterator, List, Optional, Tuple
 import nd
 
 from .capture import Packet
-from .options import Unknown, options_of
 from .replay import MILLISECOND, moment_of
 from .sections import section_of_drop
 from .setup import Setup
-from .texts import frame_text, heard_by_its_role, message_text, seconds_text
+from .texts import frame_text, heard_by_its_role, is_passed_over, message_text, seconds_text
 
 
 # Milliseconds after which a host that hears nothing has its link-local address, and solicits routers no longer: a delay of at most 1 s, at most 8
@@ -86,7 +85,7 @@ def message_of(moment: int, frame: bytes, packet: int) -> Optional[Message]:
     if heard.why is not None:
         return Message(moment, frame_text(heard), Purpose.DROPPED, (), section_of_drop(heard.why, frame), packet)
     purpose, about = purpose_of(heard)
-    known = [option for option in options_of(heard.options) if not isinstance(option, Unknown)]
+    known = [option for option in nd.options_of(heard.options) if not is_passed_over(option)]
     return Message(moment, message_text(heard, known), purpose, about, purpose.value, packet)
 
 

@@ -7,10 +7,10 @@ from typing import Iterator, List
 
 import nd
 
-from .options import (MTU, NAMES, PREFIX, REDIRECTED, SERVERS, SLLA, TLLA, LinkLayerAddress, Mtu, Option, PrefixInformation, Unknown, options_of)
-from .texts import MESSAGES, address_text, prefix_text
+from .texts import MESSAGES, address_text, is_passed_over, network_text
 
-ROUTER_ADVERTISEMENT = 134
+ROUTER_ADVERTISEMENT, NEIGHBOR_SOLICITATION = 134, 135
+NONCE = 14
 MOST_LIFETIME = 9000                # s, AdvDefaultLifetime (RFC 4861, 6.2.1)
 MOST_REACHABLE = 3_600_000          # ms, AdvReachableTime (RFC 4861, 6.2.1)
 LEAST_REACHABLE = 1_000             # ms, of the policy `timers`
@@ -20,9 +20,10 @@ LEAST_MTU, ETHERNET_MTU = 1280, 1500
 INTERFACE_BITS = 64                 # RFC 2464, 4
 TIMERS = "our choice: the policy timers"
 # The options that RFC 4861 and RFC 8106 define, and the messages that have them.
-PLACES = {SLLA: (133, 134, 135), TLLA: (136, 137), PREFIX: (134,), REDIRECTED: (137,), MTU: (134,), SERVERS: (134,), NAMES: (134,)}
+PLACES = {nd.SourceLinkLayerAddress.number: (133, 134, 135), nd.TargetLinkLayerAddress.number: (136, 137), nd.PrefixInformation.number: (134,),
+          nd.RedirectedHeader.number: (137,), nd.Mtu.number: (134,), nd.RecursiveDnsServers.number: (134,), nd.DnsSearchList.number: (134,)}
 # Options of other RFCs.
-ELSEWHERE = {7: "Advertisement Interval (RFC 6275, 7.3)", 8: "Home Agent Information (RFC 6275, 7.4)", 14: "Nonce (RFC 3971, 5.3.2)",
+ELSEWHERE = {7: "Advertisement Interval (RFC 6275, 7.3)", 8: "Home Agent Information (RFC 6275, 7.4)", NONCE: "Nonce (RFC 3971, 5.3.2)",
              24: "Route Information (RFC 4191, 2.3)", 26: "RA Flags Extension (RFC 5175, 4)", 37: "Captive-Portal (RFC 8910, 2.3)",
              38: "PREF64 (RFC 8781, 4)"}
 # The first byte of the reserved bits in the message, how many, and which of them are reserved.
@@ -48,9 +49,15 @@ def remarks_of(frame: bytes, heard: nd.HeardFrame) -> List[Remark]:
     found = [*_of_reserved_bits(frame, heard.message_type)]
     if heard.message_type == ROUTER_ADVERTISEMENT:
         found += _of_router(frame, heard)
-    for option in options_of(heard.options):
-        found += _of_option(heard.message_type, option)
+    for option in nd.options_of(heard.options):
+        if not _is_nonce_of_detection(heard, option):
+            found += _of_option(heard.message_type, option)
     return found
+
+
+def _is_nonce_of_detection(heard: nd.HeardFrame, option: nd.Option) -> bool:
+    """Returns true for the nonce of a detection, by which a host knows its own solicitation if the link sends it back (RFC 7527)."""
+    return option.number == NONCE and heard.message_type == NEIGHBOR_SOLICITATION and heard.source.is_unspecified
 
 
 def _of_reserved_bits(frame: bytes, kind: int) -> Iterator[Remark]:
@@ -82,34 +89,34 @@ def _of_timers(heard: nd.HeardFrame) -> Iterator[Remark]:
         yield Remark(f"Cur Hop Limit {heard.hop_limit} is below {LEAST_HOP_LIMIT}", TIMERS)
 
 
-def _of_option(message: int, option: Option) -> Iterator[Remark]:
-    if isinstance(option, Unknown):
+def _of_option(message: int, option: nd.Option) -> Iterator[Remark]:
+    if is_passed_over(option):
         what = "not well formed" if option.number in PLACES else ELSEWHERE.get(option.number, "unknown")
         yield Remark(f"option {option.number} is {what}, and passed over", "RFC 4861, 4.6")
         return
     if message not in PLACES[option.number]:
         yield Remark(f"option {option.number} is not one of a message {MESSAGES[message]}, and passed over", OPTIONS[message])
-    if isinstance(option, PrefixInformation):
+    if isinstance(option, nd.PrefixInformation):
         yield from _of_prefix(option)
-    if isinstance(option, Mtu) and not LEAST_MTU <= option.mtu <= ETHERNET_MTU:
+    if isinstance(option, nd.Mtu) and not LEAST_MTU <= option.mtu <= ETHERNET_MTU:
         yield Remark(f"MTU {option.mtu} is not from {LEAST_MTU} to {ETHERNET_MTU}, and passed over", "RFC 2464, 2")
-    if isinstance(option, Mtu) and option.reserved:
+    if isinstance(option, nd.Mtu) and option.reserved:
         yield Remark(f"reserved bits 0x{option.reserved:04x} of an MTU are not zero", "RFC 4861, 4.6.4")
-    if isinstance(option, LinkLayerAddress) and (option.mac.is_group or not any(option.mac)):
+    if isinstance(option, nd.LinkLayerAddress) and (option.mac.is_group or not any(option.mac)):
         yield Remark(f"link-layer address {option.mac} is a group's or zero", "our choice: the policy self")
 
 
-def _of_prefix(option: PrefixInformation) -> Iterator[Remark]:
-    prefix = prefix_text(option.prefix, option.bits)
-    if option.preferred > option.valid:
-        yield Remark(f"preferred lifetime {option.preferred} s of {prefix} is above the valid one, {option.valid} s", "RFC 4862, 5.5.3 c")
-    if option.autonomous and option.bits != INTERFACE_BITS:
+def _of_prefix(option: nd.PrefixInformation) -> Iterator[Remark]:
+    prefix, valid, preferred = network_text(option.prefix), option.valid_lifetime, option.preferred_lifetime
+    if preferred > valid:
+        yield Remark(f"preferred lifetime {preferred} s of {prefix} is above the valid one, {valid} s", "RFC 4862, 5.5.3 c")
+    if option.autonomous and option.prefix.prefixlen != INTERFACE_BITS:
         yield Remark(f"{prefix} is autonomous, and no address of an interface identifier of {INTERFACE_BITS} bits fits it", "RFC 4862, 5.5.3 d")
-    if option.prefix.is_link_local:
+    if option.as_sent.is_link_local:
         yield Remark(f"{prefix} is link-local", "RFC 4861, 4.6.2")
-    if option.prefix.is_multicast:
+    if option.as_sent.is_multicast:
         yield Remark(f"{prefix} is multicast", "RFC 4291, 2.7")
-    if int(option.prefix) & ((1 << (128 - option.bits)) - 1):
-        yield Remark(f"bits of {address_text(option.prefix)} past its length {option.bits} are not zero", "RFC 4861, 4.6.2")
-    if option.flags & 0x1F or option.reserved:
+    if option.beyond:
+        yield Remark(f"bits of {address_text(option.as_sent)} past its length {option.prefix.prefixlen} are not zero", "RFC 4861, 4.6.2")
+    if option.reserved:
         yield Remark(f"reserved bits of {prefix} are not zero", "RFC 4861, 4.6.2")

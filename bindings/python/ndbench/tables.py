@@ -1,22 +1,16 @@
 """The rows of a node's tables, as `ndpctl run` shows them (docs/FORMATS.md)."""
 from __future__ import annotations
 
-from ipaddress import IPv6Network
 from typing import Callable, Dict, Iterator, Optional
 
 import nd
 
-from .texts import address_text, flags_text, prefix_text, word_of
+from .texts import address_text, flags_text, network_text, word_of
 
 
 def left_text(left: Optional[int]) -> str:
     """Returns the milliseconds that are left, or `inf`."""
     return "inf" if left is None else str(left)
-
-
-def network_text(network: IPv6Network) -> str:
-    """Returns a prefix and its length."""
-    return prefix_text(network.network_address, network.prefixlen)
 
 
 def neighbours(node: nd.Node, now: int) -> Iterator[str]:

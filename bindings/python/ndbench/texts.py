@@ -2,18 +2,17 @@
 from __future__ import annotations
 
 from enum import IntEnum
-from ipaddress import IPv6Address
+from ipaddress import IPv6Address, IPv6Network
 from typing import List, Optional
 
 import nd
 
 from .capture import NANOSECONDS
-from .options import LinkLayerAddress, Mtu, Names, Option, PrefixInformation, RedirectedHeader, Servers, Unknown, options_of
 
 MESSAGES = {133: "rs", 134: "ra", 135: "ns", 136: "na", 137: "redirect"}
 ROUTER_SOLICITATION = 133
 ICMPV6 = 58
-LINK_LAYER_WORDS = {1: "slla", 2: "tlla"}
+LINK_LAYER_WORDS = {nd.SourceLinkLayerAddress.number: "slla", nd.TargetLinkLayerAddress.number: "tlla"}
 
 
 def address_text(address: IPv6Address) -> str:
@@ -30,10 +29,9 @@ def address_text(address: IPv6Address) -> str:
     return f"{':'.join(words[:best])}::{':'.join(words[best + length:])}"
 
 
-def prefix_text(prefix: IPv6Address, bits: int) -> str:
-    """Returns a prefix and its length. Bits past the length are zeroed."""
-    kept = int(prefix) >> (128 - bits) << (128 - bits)
-    return f"{address_text(IPv6Address(kept))}/{bits}"
+def network_text(network: IPv6Network) -> str:
+    """Returns a prefix and its length."""
+    return f"{address_text(network.network_address)}/{network.prefixlen}"
 
 
 def word_of(number: IntEnum) -> str:
@@ -83,10 +81,10 @@ def frame_text(heard: nd.HeardFrame) -> str:
         return f"drop {int(heard.why)} {reason_text(heard.why)}"
     if heard.hearing is not nd.Hearing.VALID:
         return f"other {heard.next_header}"
-    return message_text(heard, options_of(heard.options))
+    return message_text(heard, nd.options_of(heard.options))
 
 
-def message_text(heard: nd.HeardFrame, options: List[Option]) -> str:
+def message_text(heard: nd.HeardFrame, options: List[nd.Option]) -> str:
     """Returns the line of a valid message with these options."""
     said = f"{MESSAGES[heard.message_type]} {address_text(heard.source)} {address_text(heard.destination)}{fields_text(heard)}"
     return " ".join([said, *map(option_text, options)])
@@ -104,22 +102,27 @@ def fields_text(heard: nd.HeardFrame) -> str:
     return f"{flags}{target}{destination}"
 
 
-def option_text(option: Option) -> str:
+def is_passed_over(option: nd.Option) -> bool:
+    """Returns true for an option that the nodes of this library pass over (RFC 4861, 4.6)."""
+    return isinstance(option, (nd.UnknownOption, nd.RouteInformation))
+
+
+def option_text(option: nd.Option) -> str:
     """Returns the text of an option."""
-    if isinstance(option, LinkLayerAddress):
-        return f"{LINK_LAYER_WORDS[option.number]} {option.mac}"
-    if isinstance(option, PrefixInformation):
+    if isinstance(option, (nd.UnknownOption, nd.RouteInformation)):
+        return f"opt {option.number} {option.data.hex()}"
+    if isinstance(option, nd.PrefixInformation):
         flags = flags_text(l=option.on_link, a=option.autonomous)
-        return f"prefix {prefix_text(option.prefix, option.bits)} {flags} {option.valid} {option.preferred}"
-    if isinstance(option, RedirectedHeader):
+        return f"prefix {network_text(option.prefix)} {flags} {option.valid_lifetime} {option.preferred_lifetime}"
+    if isinstance(option, nd.RedirectedHeader):
         return f"redirected {len(option.packet)}"
-    if isinstance(option, Mtu):
+    if isinstance(option, nd.Mtu):
         return f"mtu {option.mtu}"
-    if isinstance(option, Servers):
+    if isinstance(option, nd.RecursiveDnsServers):
         return " ".join([f"rdnss {option.lifetime} {len(option.addresses)}", *map(address_text, option.addresses)])
-    if isinstance(option, Names):
+    if isinstance(option, nd.DnsSearchList):
         return " ".join([f"dnssl {option.lifetime} {len(option.names)}", *option.names])
-    return f"opt {option.number} {option.data.hex()}" if isinstance(option, Unknown) else ""
+    return f"{LINK_LAYER_WORDS[option.number]} {option.mac}"
 
 
 # ---- records

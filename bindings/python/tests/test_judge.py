@@ -6,6 +6,7 @@ import io
 import json
 import tempfile
 import unittest
+from ipaddress import IPv6Address
 from pathlib import Path
 from typing import List, Tuple
 
@@ -33,15 +34,16 @@ def judged(*frames: bytes) -> List[str]:
 
 class Lines(unittest.TestCase):
     def test_frames_of_a_link(self) -> None:
-        """By examples/README.md frame 4 has a Retrans Timer of 4,294,967 ms, and 5, 7, 8 and 10 have options of other RFCs: these are odd."""
+        """By examples/README.md frame 4 has a Retrans Timer of 4,294,967 ms, and 5, 7 and 8 have options of other RFCs: these are odd. The nonce of
+        a detection, as in frame 10, is not (RFC 7527)."""
         for make in (pcap, pcapng):
             status, out, err = run(make(spaced(example_frames("link.hex"))), "judge")
             lines = [line.split(" ", 2) for line in out.splitlines() if line[0] != " "]
             self.assertEqual([line[2] for line in lines], example("link.txt").splitlines())
             self.assertEqual([line[:2] for line in lines[:3]], [["1", "0.000000"], ["2", "0.500000"], ["3", "1.000000"]])
             self.assertEqual(sorted({line.split(" ")[0] for line, after in zip(out.splitlines(), out.splitlines()[1:])
-                                     if line[0] != " " and after.startswith("    odd: ")}, key=int), ["4", "5", "7", "8", "10"])
-            self.assertEqual((status, err), (0, "13 messages (5 with remarks), 1 other packet, 0 dropped, 0 skipped\n"))
+                                     if line[0] != " " and after.startswith("    odd: ")}, key=int), ["4", "5", "7", "8"])
+            self.assertEqual((status, err), (0, "13 messages (4 with remarks), 1 other packet, 0 dropped, 0 skipped\n"))
 
     def test_frames_of_the_corpus_as_json(self) -> None:
         checks = corpus().checks()
@@ -150,6 +152,13 @@ class Remarks(unittest.TestCase):
                 ("0201020000000001", "option 2 is not one of a message ra, and passed over [RFC 4861, 4.2]"),
                 ("0101333300000001", "link-layer address 33:33:00:00:00:01 is a group's or zero [our choice: the policy self]")):
             self.assertEqual(self.odd(advertisement(options=bytes.fromhex(option))), [f"odd: {wanted}"])
+
+    def test_the_nonce_of_a_detection(self) -> None:
+        """Linux sends it in each detection (RFC 7527). In a solicitation from an address it is passed over."""
+        solicitation = b"\x87" + bytes(7) + IPv6Address("fe80::1:2:3").packed + bytes.fromhex("0e01ccdd89fd7fab")
+        self.assertEqual(self.odd(message_frame(solicitation, "::", "ff02::1:ff02:3")), [])
+        self.assertEqual(self.odd(message_frame(solicitation, "fe80::1", "ff02::1:ff02:3")),
+                         ["odd: option 14 is Nonce (RFC 3971, 5.3.2), and passed over [RFC 4861, 4.6]"])
 
     def test_reserved_bits(self) -> None:
         self.assertEqual(self.odd(advertisement(flags=0x01)), ["odd: reserved bits 0x01 are not zero [RFC 4861, 4.2]"])

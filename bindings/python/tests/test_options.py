@@ -7,8 +7,8 @@ import unittest
 from ipaddress import IPv6Address
 from typing import List
 
+from nd import DnsSearchList, RecursiveDnsServers, UnknownOption, options_of
 from ndbench.__main__ import main
-from ndbench.options import Names, Servers, Unknown, options_of
 
 LIFETIME = bytes(2) + (300).to_bytes(4, "big")
 SERVER = IPv6Address("2001:db8::53")
@@ -28,14 +28,14 @@ class ServersRow(unittest.TestCase):
     """Recursive DNS Server (RFC 8106, 5.1): an odd length of at least 3, and addresses that may be servers'."""
 
     def test_lengths(self) -> None:
-        self.assertEqual(options_of(option(25, LIFETIME + SERVER.packed * 2)), [Servers(300, (SERVER, SERVER))])
+        self.assertEqual(options_of(option(25, LIFETIME + SERVER.packed * 2)), [RecursiveDnsServers((SERVER, SERVER), 300)])
         for data in (LIFETIME, LIFETIME + SERVER.packed[:8], LIFETIME + SERVER.packed + bytes(8)):
-            self.assertEqual(options_of(option(25, data)), [Unknown(25, data)])
+            self.assertEqual(options_of(option(25, data)), [UnknownOption(25, data)])
 
     def test_addresses(self) -> None:
         for wrong in ("::", "::1", "ff02::1"):
             data = LIFETIME + SERVER.packed + IPv6Address(wrong).packed
-            self.assertEqual(options_of(option(25, data)), [Unknown(25, data)])
+            self.assertEqual(options_of(option(25, data)), [UnknownOption(25, data)])
 
 
 class NamesRow(unittest.TestCase):
@@ -44,7 +44,7 @@ class NamesRow(unittest.TestCase):
     def names(self, data: bytes) -> object:
         found = options_of(option(31, LIFETIME + data))
         self.assertEqual(len(found), 1)
-        return found[0].names if isinstance(found[0], Names) else None
+        return found[0].names if isinstance(found[0], DnsSearchList) else None
 
     def test_names(self) -> None:
         self.assertEqual(self.names(name(b"Example", b"COM") + name(b"a_b-")), ("example.com", "a_b-"))
