@@ -8,6 +8,7 @@ from typing import Any, Dict, Iterable, Iterator, List, Optional
 import nd
 
 from .capture import Packet
+from .plain import plain
 from .remarks import Remark, remarks_of
 from .sections import section_of_drop
 from .texts import counted, frame_text, heard_by_its_role, reason_text, seconds_text
@@ -15,12 +16,14 @@ from .texts import counted, frame_text, heard_by_its_role, reason_text, seconds_
 
 @dataclass(frozen=True)
 class Judgement:
-    """What a packet is. `line` is that of `ndpctl check`, or empty if the packet is skipped; `section` is that of a drop."""
+    """What a packet is. `line` is that of `ndpctl check`, or empty if the packet is skipped; `section` is that of a drop; `message` that of a valid
+    frame."""
     packet: Packet
     line: str
     why: Optional[nd.Why] = None
     section: str = ""
     remarks: List[Remark] = field(default_factory=list)
+    message: Optional[nd.Message] = None
 
 
 @dataclass
@@ -57,7 +60,7 @@ def judgement_of(packet: Packet) -> Judgement:
         return Judgement(packet, "")
     heard = heard_by_its_role(packet.frame)
     section = section_of_drop(heard.why, packet.frame) if heard.why is not None else ""
-    return Judgement(packet, frame_text(heard), heard.why, section, remarks_of(packet.frame, heard))
+    return Judgement(packet, frame_text(heard), heard.why, section, remarks_of(packet.frame, heard), heard.message)
 
 
 def text_of(judgement: Judgement, begin: int) -> str:
@@ -70,12 +73,15 @@ def text_of(judgement: Judgement, begin: int) -> str:
 
 
 def json_of(judgement: Judgement) -> str:
-    """Returns a packet as a line of JSON: its time is in seconds since 1970."""
+    """Returns a packet as a line of JSON: its time is in seconds since 1970. The message of a valid frame has its fields and its options, each with
+    its class in `nd` as `kind`."""
     packet = judgement.packet
     said: Dict[str, Any] = {"number": packet.number, "time": seconds_text(packet.time, 9)}
     if packet.skipped:
         return json.dumps({**said, "skipped": packet.skipped})
     said["line"] = judgement.line
+    if judgement.message is not None:
+        said["message"] = plain(judgement.message)
     if judgement.why is not None:
         said.update(why=int(judgement.why), reason=reason_text(judgement.why), section=judgement.section)
     if judgement.remarks:

@@ -4,21 +4,20 @@ The node's moments are in milliseconds since its start. A packet whose time is b
 one. Packets from the node's own Ethernet address are those of the host that it replaces: they are printed, and not heard."""
 from __future__ import annotations
 
-import dataclasses
 import json
 from dataclasses import dataclass, field
-from enum import IntEnum
 from ipaddress import IPv6Address
-from typing import Any, Dict, Iterable, Iterator, List, Optional, Union
+from typing import Iterable, Iterator, List, Optional, Union
 
 import nd
 
 from .capture import CaptureError, Packet
 from .pcapng import Written
+from .plain import fields_of
 from .sections import section_not_for, section_of_drop
 from .setup import Setup
 from .tables import TABLES
-from .texts import address_text, frame_text, heard_by_its_role, record_text, seconds_text
+from .texts import frame_text, heard_by_its_role, record_text, seconds_text
 
 MILLISECOND = 10 ** 6    # nanoseconds
 LONGEST_GAP = 1 << 40    # milliseconds: 34 years, from a packet to the next one, and from the first to the last
@@ -160,21 +159,10 @@ def json_of(replay: Replay, event: Event) -> str:
     if isinstance(event, (Passed, Own)):
         kind = "Own" if isinstance(event, Own) else "Packet"
         return json.dumps({"kind": kind, "moment": event.moment, "number": event.packet.number, "line": line_of(event.packet.frame)})
-    said: Dict[str, Any] = {"kind": type(event).__name__}
-    said.update((part.name, _plain(getattr(event, part.name))) for part in dataclasses.fields(event))
+    said = fields_of(event)
     if isinstance(event, nd.Dropped):
         said["section"] = replay.section_of(event)
     return json.dumps({**said, "line": line_of(event.frame)} if isinstance(event, nd.Frame) else {**said, "text": record_text(event)})
-
-
-def _plain(value: object) -> object:
-    if isinstance(value, nd.Mac):
-        return str(value)
-    if isinstance(value, bytes):
-        return value.hex()
-    if isinstance(value, IPv6Address):
-        return address_text(value)
-    return value.name if isinstance(value, IntEnum) else value
 
 
 @dataclass

@@ -56,6 +56,25 @@ class Lines(unittest.TestCase):
             if row["line"].startswith("drop "):
                 self.assertEqual(row["line"], f"drop {row['why']} {row['reason']}")
 
+    def test_messages_as_json(self) -> None:
+        """The fields of three frames, as tshark 4.0 reads them."""
+        frames = example_frames("link.hex")
+        said = [json.loads(line) for line in run(pcap(spaced([frames[number] for number in (6, 10, 9, 13)])), "judge", "--json")[1].splitlines()]
+        advertisement_said, options = said[0]["message"], said[0]["message"].pop("options")
+        self.assertEqual(advertisement_said, {
+            "kind": "RouterAdvertisement", "source": "fe80::ff:fe00:2", "destination": "ff02::1", "hop_limit": 64, "managed": False, "other": False,
+            "preference": "HIGH", "router_lifetime": 30, "reachable_time": 0, "retrans_timer": 0})
+        self.assertEqual([option["kind"] for option in options], ["PrefixInformation", "RouteInformation", "RouteInformation", "Mtu",
+                                                                  "SourceLinkLayerAddress"])
+        self.assertEqual((options[0]["prefix"], options[0]["valid_lifetime"], options[0]["on_link"]), ("2001:db8::/64", 86400, True))
+        self.assertEqual((options[1]["number"], options[1]["prefix"], options[1]["preference"]), (24, "2001:db8:7::/64", "HIGH"))
+        self.assertEqual((options[3]["mtu"], options[4]["mac"]), (1500, "02:00:00:00:00:02"))
+        self.assertEqual(said[1]["message"], {
+            "kind": "NeighborAdvertisement", "source": "fe80::ff:fe00:99", "destination": "fe80::ff:fe00:2", "router": False, "solicited": True,
+            "override": False, "target": "fe80::ff:fe00:99", "options": []})
+        self.assertEqual(said[2]["message"]["options"], [{"kind": "UnknownOption", "number": 14, "data": "ccdd89fd7fab"}])
+        self.assertNotIn("message", said[3])
+
     def test_what_is_skipped_is_said(self) -> None:
         self.assertEqual(judged(bytes(12) + b"\x81\x00" + bytes(60)), ["1 0.000000 skipped: a VLAN tag"])
         out = run(pcap([(0, bytes(60))], link=113), "judge", "--json")[1]
