@@ -18,6 +18,10 @@ Version: {VERSION}
 Summary: IPv6 Neighbor Discovery as a host or as a router, over a proved node in C, and a test bench for captures
 Requires-Python: >=3.9
 """
+ENTRY_POINTS = """[console_scripts]
+ndbench = ndbench.__main__:main
+nd-hear = ndbench.hear:main
+"""
 WHEEL = """Wheel-Version: 1.0
 Generator: jondasik
 Root-Is-Purelib: true
@@ -30,7 +34,8 @@ def files() -> Dict[str, bytes]:
     found = {f"{package}/{path.name}": path.read_bytes() for package in ("nd", "ndbench") for path in sorted((HERE / package).iterdir())
              if path.suffix in (".py", ".typed")}
     found.update({f"nd/source/{name}": (DIST / name).read_bytes() for name in ("nd.c", "nd.h", "nd_hear.h")})
-    found.update({f"{INFO}/METADATA": METADATA.encode(), f"{INFO}/WHEEL": WHEEL.encode()})
+    texts = {"METADATA": METADATA, "WHEEL": WHEEL, "entry_points.txt": ENTRY_POINTS}
+    found.update({f"{INFO}/{name}": text.encode() for name, text in texts.items()})
     return found
 
 
