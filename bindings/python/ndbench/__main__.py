@@ -5,18 +5,16 @@ from __future__ import annotations
 import argparse
 import os
 import sys
-from collections import Counter
-from contextlib import contextmanager
 from typing import Callable, ContextManager, Iterator, List, Optional
 
 import nd
 from nd import library
 
 from . import compare, judge, picture, replay
-from .capture import CaptureError, Packet, read_capture
+from .capture import Packet
 from .drawing import Drawing
+from .inputs import BadInput, Input
 from .pcapng import write_capture
-from .progress import Progress
 from .setup import add_arguments, setup_of
 from .texts import counted
 
@@ -24,54 +22,14 @@ DONE, DIFFERENT, BAD_INPUT, INTERRUPTED = 0, 1, 2, 130
 LONGEST_MILLISECONDS = 1 << 40  # 34 years: an idle node takes seconds for them
 
 
-class BadInput(Exception):
-    """An input that cannot be read. The text is for the user."""
-
-
-@contextmanager
-def opened(path: str, is_quiet: bool, says_skipped: bool = True) -> Iterator[Iterator[Packet]]:
-    """Opens a capture, shows how much of it is read, and says at the end which of its packets were skipped."""
-    skipped: Counter[str] = Counter()
-    try:
-        with open(path, "rb") as file:
-            progress = Progress(os.fstat(file.fileno()).st_size, is_quiet)
-            try:
-                yield _watched(read_capture(file), progress, skipped)
-            finally:
-                progress.end()
-                if skipped and says_skipped and not is_quiet:
-                    print(skipped_text(skipped), file=sys.stderr)
-    except CaptureError as error:
-        raise BadInput(f"{path}: {error}") from error
-    except BrokenPipeError:
-        raise
-    except OSError as error:
-        raise BadInput(f"{error.filename or path}: {error.strerror}") from error
-
-
-def _watched(packets: Iterator[Packet], progress: Progress, skipped: Counter[str]) -> Iterator[Packet]:
-    for packet in packets:
-        progress.show(packet.position)
-        if packet.skipped:
-            skipped[packet.skipped.partition(":")[0]] += 1  # what follows is of this packet alone
-        yield packet
-
-
-def skipped_text(skipped: Counter[str]) -> str:
-    """Returns how many packets are skipped, and why, the most frequent reason first."""
-    count = sum(skipped.values())
-    reasons = "; ".join(f"{reason} ({number})" for reason, number in skipped.most_common())
-    return f"ndbench: {counted(count, 'packet')} {'is' if count == 1 else 'are'} skipped: {reasons}"
-
-
 def do_judge(arguments: argparse.Namespace) -> int:
     """Prints what each frame is."""
-    counts, begin = judge.Counts(), None
-    with opened(arguments.capture, arguments.quiet) as packets:
+    counts, begin, source = judge.Counts(), None, Input(arguments.capture, arguments.quiet)
+    with source.opened() as packets:
         for judgement in judge.judge(packets):
             begin = judgement.packet.time if begin is None else begin
             counts.add(judgement)
-            print(judge.json_of(judgement) if arguments.json else judge.text_of(judgement, begin))
+            print(judge.json_of(judgement) if arguments.json else judge.text_of(judgement, begin), flush=source.is_standard)
     if not arguments.quiet:
         print(counts.text(), file=sys.stderr)
     return DONE
@@ -80,7 +38,7 @@ def do_judge(arguments: argparse.Namespace) -> int:
 def do_replay(arguments: argparse.Namespace) -> int:
     """Prints, or writes, what a node sends and reports that hears the capture."""
     made = replay.Replay(setup_of(arguments), arguments.before, arguments.after)
-    with opened(arguments.capture, arguments.quiet) as packets:
+    with Input(arguments.capture, arguments.quiet).opened() as packets:
         events = made.events(packets)
         if arguments.write:
             with open(arguments.write, "wb") as file:
@@ -96,13 +54,13 @@ def do_replay(arguments: argparse.Namespace) -> int:
 
 def do_compare(arguments: argparse.Namespace) -> int:
     """Prints the first difference between another stack and the node, or all of them."""
-    setup = setup_of(arguments)
+    setup, source = setup_of(arguments), Input(arguments.capture, arguments.quiet, is_kept=True)
     survey = compare.Survey(setup)
-    error = passed_to(survey.take, opened(arguments.capture, arguments.quiet))
+    error = passed_to(survey.take, source.opened())
     if survey.first is None:
-        raise error or BadInput(f"{arguments.capture}: {arguments.mac} sends no message of Neighbor Discovery")
+        raise error or BadInput(f"{source.name}: {arguments.mac} sends no message of Neighbor Discovery")
     made = compare.Comparison(setup, survey, arguments.tolerance, arguments.before)
-    error = passed_to(made.take, opened(arguments.capture, arguments.quiet, says_skipped=False))
+    error = passed_to(made.take, source.opened(says_skipped=False))
     made.finish()
     found = made.differences()
     for difference in found if arguments.all else found[:1]:
@@ -129,7 +87,8 @@ def passed_to(take: Callable[[Packet], None], capture: ContextManager[Iterator[P
 
 def do_picture(arguments: argparse.Namespace) -> int:
     """Writes the picture of a capture, with a node that hears it if its address is given."""
-    with opened(arguments.capture, arguments.quiet) as packets:
+    source = Input(arguments.capture, arguments.quiet)
+    with source.opened() as packets:
         if arguments.mac is None:
             made = picture.picture_of(packets)
         else:
@@ -137,7 +96,7 @@ def do_picture(arguments: argparse.Namespace) -> int:
     if made.error is None or made.begin is not None:
         write_text(arguments.write, Drawing(made).text())
     if made.error is not None:
-        raise BadInput(f"{arguments.capture}: {made.error}")
+        raise BadInput(f"{source.name}: {made.error}")
     return DONE
 
 
@@ -171,7 +130,7 @@ def parser() -> argparse.ArgumentParser:
     made = argparse.ArgumentParser(prog="ndbench", description="A test bench for captures of IPv6 Neighbor Discovery (pcap and pcapng).")
     commands = made.add_subparsers(dest="command", required=True)
     shared = argparse.ArgumentParser(add_help=False)
-    shared.add_argument("capture", help="a file of Ethernet frames, pcap or pcapng")
+    shared.add_argument("capture", help="pcap, pcapng, or a frame a line in hexadecimal digits; - is standard input")
     shared.add_argument("--quiet", action="store_true", help="no progress bar, and no counts")
     add_judge(commands.add_parser("judge", parents=[shared], help="what each frame is, and what is odd in it"))
     add_replay(commands.add_parser("replay", parents=[shared], help="what a node sends and reports that hears the capture"))

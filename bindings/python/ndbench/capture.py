@@ -1,19 +1,22 @@
-"""Reads captures: pcap (draft-ietf-opsawg-pcap) and pcapng (draft-ietf-opsawg-pcapng), in both byte orders, with times of any resolution."""
+"""Reads captures: pcap (draft-ietf-opsawg-pcap) and pcapng (draft-ietf-opsawg-pcapng), in both byte orders, with times of any resolution; and frames as
+lines of hexadecimal digits, which have no times."""
 from __future__ import annotations
 
 import struct
 from dataclasses import dataclass
 from typing import BinaryIO, Callable, Dict, Iterator, List, Optional, Tuple
 
-ETHERNET = 1
+from .hexadecimal import frames_of
+from .links import Links
+
 NANOSECONDS = 10 ** 9
 LONGEST_BLOCK = 1 << 26
-LONGEST_FRAME = 65536  # no Ethernet is that long; a longer one is a fault of the capture, or was put together by offload
-VLAN_TYPES = {b"\x81\x00", b"\x88\xa8", b"\x91\x00"}
 # The magic numbers of pcap: the byte order, and the units of a second.
 PCAP_MAGICS = {b"\xd4\xc3\xb2\xa1": ("<", 10 ** 6), b"\xa1\xb2\xc3\xd4": (">", 10 ** 6), b"\x4d\x3c\xb2\xa1": ("<", 10 ** 9),
                b"\xa1\xb2\x3c\x4d": (">", 10 ** 9)}
 SECTION, INTERFACE, OLD_PACKET, SIMPLE_PACKET, ENHANCED_PACKET = 0x0A0D0D0A, 1, 2, 3, 6
+# What lines of hexadecimal digits begin with.
+DIGITS_AND_ENDS = frozenset(b"0123456789ABCDEFabcdef\n")
 BYTE_ORDER_MAGIC = b"\x1a\x2b\x3c\x4d"
 RESOLUTION_OPTION, OFFSET_OPTION = 9, 14
 
@@ -24,13 +27,15 @@ class CaptureError(Exception):
 
 @dataclass(frozen=True)
 class Packet:
-    """A packet of a capture. `number` counts from 1; `time` is in nanoseconds since 1970; `position` is the number of bytes of the file up to its
-    end. `skipped` says why its bytes are no whole Ethernet frame without a VLAN tag; it is empty if they are."""
+    """A packet of a capture. `number` counts from 1; `time` is in nanoseconds since 1970, and 0 if there are no times; `position` is the number of
+    bytes of the file up to its end. `skipped` says why its bytes are no whole Ethernet frame; it is empty if they are. `frame` has no tags: `vlans`
+    are the numbers that they had, the outermost first."""
     number: int
     time: int
     frame: bytes
-    skipped: str
-    position: int
+    skipped: str = ""
+    position: int = 0
+    vlans: Tuple[int, ...] = ()
 
 
 @dataclass(frozen=True)
@@ -52,18 +57,17 @@ def read_capture(file: BinaryIO) -> Iterator[Packet]:
         return _Pcap(file, *PCAP_MAGICS[magic]).packets()
     if magic == b"\x0a\x0d\x0d\x0a":
         return _Pcapng(file).packets()
-    raise CaptureError("it is neither pcap nor pcapng")
+    if DIGITS_AND_ENDS.issuperset(magic):
+        return _lines(file, magic)
+    raise CaptureError("it is neither pcap, nor pcapng, nor lines of hexadecimal digits")
 
 
-def why_skipped(link: int, frame: bytes, length: int) -> str:
-    """Returns why a packet is no whole Ethernet frame without a VLAN tag, or an empty text. `length` is what it had on the link."""
-    if link != ETHERNET:
-        return f"link type {link}, and not Ethernet"
-    if len(frame) < length:
-        return f"cut by the capture: {len(frame)} of {length} bytes"
-    if frame[12:14] in VLAN_TYPES:
-        return "a VLAN tag"
-    return f"longer than {LONGEST_FRAME} bytes" if len(frame) > LONGEST_FRAME else ""
+def _lines(file: BinaryIO, begun: bytes) -> Iterator[Packet]:
+    """Returns the packets of lines of hexadecimal digits, of which some bytes were read."""
+    for number, frame in enumerate(frames_of(file, begun), 1):
+        if frame is None:
+            raise CaptureError(f"packet {number}: its line is malformed")
+        yield Packet(number, 0, frame)
 
 
 class _File:
@@ -71,6 +75,7 @@ class _File:
 
     def __init__(self, file: BinaryIO) -> None:
         self.file, self.position, self.number, self.in_header = file, 4, 0, True
+        self.links = Links()
 
     def error(self, what: str) -> CaptureError:
         """Returns the error of the file's header, or of the packet that is read now."""
@@ -84,10 +89,11 @@ class _File:
         self.position += len(content)
         return content
 
-    def packet(self, link: int, time: int, frame: bytes, length: int) -> Packet:
+    def packet(self, link: int, time: int, content: bytes, length: int) -> Packet:
         """Returns the packet that was read, and counts it."""
         self.number += 1
-        return Packet(self.number, time, frame, why_skipped(link, frame, length), self.position)
+        made = self.links.unwrapped(link, content, length)
+        return Packet(self.number, time, made.frame, made.skipped, self.position, made.vlans)
 
 
 class _Pcap(_File):

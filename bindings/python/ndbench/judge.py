@@ -79,6 +79,8 @@ def json_of(judgement: Judgement) -> str:
     said: Dict[str, Any] = {"number": packet.number, "time": seconds_text(packet.time, 9)}
     if packet.skipped:
         return json.dumps({**said, "skipped": packet.skipped})
+    if packet.vlans:
+        said["vlans"] = list(packet.vlans)
     said["line"] = judgement.line
     if judgement.message is not None:
         said["message"] = plain(judgement.message)

@@ -5,7 +5,8 @@ import struct
 from dataclasses import dataclass
 from typing import BinaryIO, Iterable
 
-from .capture import BYTE_ORDER_MAGIC, ENHANCED_PACKET, ETHERNET, INTERFACE, RESOLUTION_OPTION, SECTION
+from .capture import BYTE_ORDER_MAGIC, ENHANCED_PACKET, INTERFACE, RESOLUTION_OPTION, SECTION
+from .links import ETHERNET
 
 COMMENT_OPTION, FLAGS_OPTION = 1, 2
 INBOUND, OUTBOUND = 1, 2

@@ -85,6 +85,19 @@ def prefix_option(bits: int = 64, flags: int = 0xC0, valid: int = 3600, preferre
     return struct.pack(">BBBBIII", 3, 4, bits, flags, valid, preferred, reserved) + IPv6Address(prefix).packed
 
 
+def cooked(frame: bytes, link: int, kind: int = 0, hardware: int = 1) -> bytes:
+    """Returns an Ethernet frame as a packet of a cooked capture, LINKTYPE_LINUX_SLL (113) or LINKTYPE_LINUX_SLL2 (276)."""
+    source, protocol, packet = frame[6:12], frame[12:14], frame[14:]
+    if link == 113:
+        return struct.pack(">HHH6s2x2s", kind, hardware, 6, source, protocol) + packet
+    return struct.pack(">2s2xIHBB6s2x", protocol, 2, hardware, kind, 6, source) + packet
+
+
+def tagged(frame: bytes, *tags: int, kind: int = 0x8100) -> bytes:
+    """Returns an Ethernet frame with tags (IEEE 802.1Q, 9.6): a priority of 5 and the number of a VLAN."""
+    return frame[:12] + b"".join(struct.pack(">HH", kind, 5 << 13 | tag) for tag in tags) + frame[12:]
+
+
 def spaced(frames: List[bytes]) -> List[Timed]:
     """Returns frames with times, half a second apart."""
     return [(number * 500_000_000, frame) for number, frame in enumerate(frames)]

@@ -9,7 +9,8 @@ from typing import List
 from ndbench.capture import CaptureError, Packet, read_capture
 
 from . import captures
-from .captures import BEGIN, block, enhanced, interface, pcap, pcapng, section
+from .captures import BEGIN, block, cooked, enhanced, interface, pcap, pcapng, section, spaced, tagged
+from .paths import EXAMPLES, example_frames
 
 FRAMES = [(0, b"\2" * 60), (1_234_567_000, b"\3" * 61), (3_000_000_999, bytes(14) + b"\4" * 3)]
 
@@ -55,10 +56,10 @@ class Formats(unittest.TestCase):
 
     def test_sections_in_both_orders_have_their_own_interfaces(self) -> None:
         other = block("<", 0x0BAD, b"what other blocks have")
-        content = pcapng(FRAMES[:1]) + other + section(">") + interface(">", link=113) + interface(">", resolution=9)
+        content = pcapng(FRAMES[:1]) + other + section(">") + interface(">", link=105) + interface(">", resolution=9)
         content += enhanced(">", 10 ** 9, *FRAMES[1], index=1) + enhanced(">", 10 ** 6, *FRAMES[2], index=0)
         packets = read(content)
-        self.assertEqual([packet.skipped for packet in packets], ["", "", "link type 113, and not Ethernet"])
+        self.assertEqual([packet.skipped for packet in packets], ["", "", "link type 105, and not Ethernet"])
         self.assertEqual(times(packets), [0, 1_234_567_000, 3_000_000_000])
 
     def test_blocks_of_older_writers(self) -> None:
@@ -72,10 +73,7 @@ class Formats(unittest.TestCase):
 
 class Skipped(unittest.TestCase):
     def test_what_is_no_whole_frame_is_said(self) -> None:
-        tagged = [bytes(12) + kind + bytes(60) for kind in (b"\x81\x00", b"\x88\xa8")]
-        said = [packet.skipped for packet in read(pcap([(0, frame) for frame in tagged]))]
-        self.assertEqual(said, ["a VLAN tag"] * 2)
-        self.assertEqual(read(pcap(FRAMES[:1], link=276))[0].skipped, "link type 276, and not Ethernet")
+        self.assertEqual(read(pcap(FRAMES[:1], link=105))[0].skipped, "link type 105, and not Ethernet")
         self.assertEqual(read(pcap(FRAMES[:1], lost=36))[0].skipped, "cut by the capture: 60 of 96 bytes")
         self.assertEqual(read(pcap([(0, bytes(65537))]))[0].skipped, "longer than 65536 bytes")
         cut = block("<", 3, struct.pack("<I", 100) + b"\3" * 60)
@@ -86,14 +84,67 @@ class Skipped(unittest.TestCase):
         self.assertEqual(read(pcap(FRAMES[:1], link=0x24000001))[0].skipped, "")
 
 
+class Cooked(unittest.TestCase):
+    """Captures of `tcpdump -i any`. examples/captures has a link of two Linux hosts as it was captured at the same time in three ways."""
+
+    def test_a_link_of_linux_hosts(self) -> None:
+        """The frames are those that were captured on the Ethernet interface, their destinations too."""
+        ethernet, *others = [read((EXAMPLES / "captures" / f"linux{name}.pcap").read_bytes()) for name in ("", "-sll", "-sll2")]
+        self.assertEqual(len(ethernet), 24)
+        for packets in others:
+            self.assertEqual([packet.frame for packet in packets], [packet.frame for packet in ethernet])
+            self.assertEqual([packet.time for packet in packets], [packet.time for packet in ethernet])
+
+    def test_the_destination(self) -> None:
+        """A group's follows from the IPv6 destination (RFC 2464, 7); that of an address is known once it has sent something."""
+        to_a, from_a = example_frames("link.hex")[8], example_frames("link.hex")[1]  # a probe of fe80::ff:fe00:99, and its solicitation of routers
+        for link in (113, 276):
+            packets = read(pcap(spaced([cooked(frame, link) for frame in (to_a, from_a, to_a)]), link=link))
+            self.assertEqual([packet.frame for packet in packets], [bytes(6) + to_a[6:], from_a, to_a])
+
+    def test_a_tag_in_it(self) -> None:
+        frame = example_frames("link.hex")[0]
+        (packet,) = read(pcap([(0, cooked(tagged(frame, 7), 276))], link=276))
+        self.assertEqual((packet.frame, packet.vlans, packet.skipped), (frame, (7,), ""))
+
+    def test_what_is_skipped(self) -> None:
+        """A packet of an interface that is not Ethernet, such as the loopback one (ARPHRD_LOOPBACK, 772), and one without a whole header."""
+        frame = example_frames("link.hex")[0]
+        for link, size in ((113, 16), (276, 20)):
+            packets = read(pcap(spaced([cooked(frame, link, hardware=772), cooked(frame, link)[:size - 1], cooked(frame, link)[:size]]), link=link))
+            self.assertEqual([packet.skipped for packet in packets], ["hardware type 772, and not Ethernet", "shorter than its cooked header", ""])
+
+
+class Tags(unittest.TestCase):
+    def test_tags_are_taken_off(self) -> None:
+        frame = example_frames("link.hex")[0]
+        packets = read(pcap(spaced([tagged(frame, 5), tagged(tagged(frame, 5), 4094, kind=0x88A8), frame, tagged(frame, 5)[:16]])))
+        self.assertEqual([packet.frame for packet in packets], [frame, frame, frame, tagged(frame, 5)[:16]])
+        self.assertEqual([packet.vlans for packet in packets], [(5,), (4094, 5), (), ()])
+
+
+class Digits(unittest.TestCase):
+    def test_lines(self) -> None:
+        frames = [packet.frame for packet in read((EXAMPLES / "link.hex").read_bytes())]
+        self.assertEqual(frames, example_frames("link.hex"))
+        for content, wanted in ((b"\n", [b""]), (b"33", [b"\x33"]), (b"33\n44", [b"\x33", b"\x44"]), (b"\n\n\n\n\nAb", [b""] * 5 + [b"\xab"]),
+                                (b"414243\n\n", [b"ABC", b""])):
+            self.assertEqual([(packet.frame, packet.time) for packet in read(content)], [(frame, 0) for frame in wanted])
+
+    def test_a_malformed_line(self) -> None:
+        for content, number in ((b"333\n", 1), (b"33\n3 3\n", 2), (b"3333\r\n", 1), (b"33\n" + b"41" * 8193, 2)):
+            with self.assertRaisesRegex(CaptureError, f"packet {number}: its line is malformed"):
+                read(content)
+
+
 class BadInput(unittest.TestCase):
     def fails(self, content: bytes, text: str) -> None:
         with self.assertRaisesRegex(CaptureError, text):
             read(content)
 
     def test_other_files(self) -> None:
-        for content in (b"GIF8", b"3333ff9abcde"):
-            self.fails(content, "neither pcap nor pcapng")
+        for content in (b"GIF8", b"333 3"):
+            self.fails(content, "it is neither pcap, nor pcapng, nor lines of hexadecimal digits")
         self.fails(b"", r"\Athe file is empty\Z")
 
     def test_the_file_header(self) -> None:

@@ -11,14 +11,14 @@ import time
 import unittest
 from pathlib import Path
 
-from .captures import BEGIN, advertisement, block, enhanced, interface, pcap, pcapng, section, spaced
+from .captures import BEGIN, advertisement, block, cooked, enhanced, interface, pcap, pcapng, section, spaced
 from .paths import PYTHON, corpus, example_frames
 from .test_judge import run
 
 HOST = ["--mac", "34:56:78:9a:bc:de", "--before", "1500"]
 COMMANDS = (["judge"], ["judge", "--json"], ["replay", *HOST], ["compare", "--mac", "02:00:00:00:00:99"], ["picture", *HOST])
 ROUNDS = 150
-ERROR = r"(?m)^ndbench: capture: (packet \d+: |the file header: |the file is empty|it is neither pcap nor pcapng|[0-9a-f:]{17} sends no message)"
+ERROR = r"(?m)^ndbench: capture: (packet \d+: |the file header: |the file is empty|it is neither pcap, nor pcapng, nor lines|[0-9a-f:]{17} sends no message)"
 
 
 def damaged(content: bytes, chance: random.Random) -> bytes:
@@ -32,10 +32,11 @@ def damaged(content: bytes, chance: random.Random) -> bytes:
 class Damaged(unittest.TestCase):
     def test_files(self) -> None:
         frames = example_frames("link.hex") + [bytes.fromhex(digits) for digits, _ in corpus().checks()]
-        files = [pcap(spaced(frames)), pcapng(spaced(frames)), pcapng(spaced(frames), ">", 10 ** 9, 9)]
+        cooked_frames = spaced([cooked(frame, 276) for frame in frames if len(frame) >= 14])
+        files = [pcap(spaced(frames)), pcapng(spaced(frames)), pcapng(spaced(frames), ">", 10 ** 9, 9), pcap(cooked_frames, link=276)]
         chance, statuses = random.Random(1), set()
         for number in range(ROUNDS):
-            content, words = damaged(files[number % 3], chance), COMMANDS[number % 5]
+            content, words = damaged(files[number % 4], chance), COMMANDS[number % 5]
             with self.subTest(number):
                 status, _, err = run(content, words[0], *words[1:])
                 statuses.add(status)

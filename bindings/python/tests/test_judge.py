@@ -4,6 +4,8 @@ from __future__ import annotations
 import contextlib
 import io
 import json
+import subprocess
+import sys
 import tempfile
 import unittest
 from ipaddress import IPv6Address
@@ -13,8 +15,8 @@ from typing import List, Tuple
 import nd
 from ndbench.__main__ import main
 
-from .captures import advertisement, message_frame, pcap, pcapng, prefix_option, spaced
-from .paths import corpus, example, example_frames
+from .captures import advertisement, message_frame, pcap, pcapng, prefix_option, spaced, tagged
+from .paths import EXAMPLES, PYTHON, corpus, example, example_frames
 
 
 def run(content: bytes, *words: str) -> Tuple[int, str, str]:
@@ -76,17 +78,38 @@ class Lines(unittest.TestCase):
         self.assertNotIn("message", said[3])
 
     def test_what_is_skipped_is_said(self) -> None:
-        self.assertEqual(judged(bytes(12) + b"\x81\x00" + bytes(60)), ["1 0.000000 skipped: a VLAN tag"])
-        out = run(pcap([(0, bytes(60))], link=113), "judge", "--json")[1]
-        self.assertEqual(json.loads(out)["skipped"], "link type 113, and not Ethernet")
+        self.assertEqual(run(pcap([(0, bytes(60))], link=105), "judge")[1], "1 0.000000 skipped: link type 105, and not Ethernet\n")
+        out = run(pcap([(0, bytes(60))], link=105), "judge", "--json")[1]
+        self.assertEqual(json.loads(out)["skipped"], "link type 105, and not Ethernet")
+
+    def test_tags(self) -> None:
+        frame = example_frames("link.hex")[0]
+        said = [json.loads(line) for line in run(pcap(spaced([tagged(frame, 5), frame])), "judge", "--json")[1].splitlines()]
+        self.assertEqual([(row["line"], row.get("vlans")) for row in said], [(example("link.txt").splitlines()[0], [5]),
+                                                                              (example("link.txt").splitlines()[0], None)])
+
+    def test_standard_input(self) -> None:
+        """A capture, or lines of digits, as `tcpdump -U -w - | ndbench judge -` passes them: each packet is judged once it is there."""
+        for content, wanted in (((EXAMPLES / "captures" / "linux-sll2.pcap").read_bytes(), 24), (example("link.hex").encode(), 14)):
+            said = subprocess.run([sys.executable, "-m", "ndbench", "judge", "-"], cwd=PYTHON, input=content, capture_output=True, check=False)
+            self.assertEqual((said.returncode, len([line for line in said.stdout.splitlines() if line[:1] != b" "])), (0, wanted), said.stderr)
+        with subprocess.Popen([sys.executable, "-m", "ndbench", "judge", "-"], cwd=PYTHON, stdin=subprocess.PIPE, stdout=subprocess.PIPE,
+                              stderr=subprocess.DEVNULL, bufsize=0) as made:
+            assert made.stdin is not None and made.stdout is not None
+            made.stdin.write(pcap(spaced(example_frames("link.hex")[:1])))
+            self.assertEqual(made.stdout.readline().decode(), f"1 0.000000 {example('link.txt').splitlines()[0]}\n")
+            made.stdin.close()
+        said = subprocess.run([sys.executable, "-m", "ndbench", "judge", "-"], cwd=PYTHON, input=b"GIF8", capture_output=True, text=False, check=False)
+        self.assertEqual((said.returncode, said.stderr.splitlines()[-1]),
+                         (2, b"ndbench: standard input: it is neither pcap, nor pcapng, nor lines of hexadecimal digits"))
 
     def test_each_command_says_how_many_are_skipped_and_why(self) -> None:
-        """Two with a VLAN tag, of three; a capture of another link type; and three frames, two without their ends."""
-        tagged, good = bytes(12) + b"\x81\x00" + bytes(60), example_frames("link.hex")[0]
+        """Two that are too long, of three; a capture of another link type; and three frames, two without their ends."""
+        long, good = bytes(65537), example_frames("link.hex")[0]
         host = ["--mac", f"{nd.Mac(good[6:12])}"]
         cut = pcap([(0, good)]) + pcap([(0, bytes(110)), (0, bytes(100))], lost=10)[24:]
-        for content, text in ((pcap(spaced([tagged, good, tagged])), "2 packets are skipped: a VLAN tag (2)"),
-                              (pcap([(0, good)], link=113), "1 packet is skipped: link type 113, and not Ethernet (1)"),
+        for content, text in ((pcap(spaced([long, good, long])), "2 packets are skipped: longer than 65536 bytes (2)"),
+                              (pcap([(0, good)], link=105), "1 packet is skipped: link type 105, and not Ethernet (1)"),
                               (cut, "2 packets are skipped: cut by the capture (2)")):
             for words in (["judge"], ["replay", *host], ["compare", *host], ["picture"], ["picture", *host]):
                 with self.subTest(text, words=words):
