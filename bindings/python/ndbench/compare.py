@@ -9,7 +9,10 @@ The node cannot know what the stack's upper layers do, so the capture has to hav
 (`Node.resolve`) where the stack had a packet: when it solicits a neighbour, and when it sends another packet. If the node probes a neighbour and the
 stack does not, the stack's upper layers have confirmed it (RFC 4861, 7.3.1): then the node's neighbour is confirmed too, and its probe is not
 compared. The messages of both are sorted by what they are for, and the nth of the stack is compared with the nth of the node. Options that a receiver
-passes over are not compared (RFC 4861, 4.6)."""
+passes over are not compared (RFC 4861, 4.6).
+
+An address that the stack was given by hand is given to the node too (`--address`), once the node's link-local address is assigned. So the node tries
+it later than a stack that tries both at a time: when it does is not compared, and the stack may have tried it before the capture."""
 from __future__ import annotations
 
 import json
@@ -126,8 +129,8 @@ class Survey:
         self.first = packet.time if self.first is None else self.first
         if message.purpose is Purpose.PROBE:
             self.probes[message.about[0]].append(packet.time)
-        # A host may solicit routers before it has an address (RFC 4861, 4.1): the message behind that is looked at.
-        if self.start_time is None and not message.line.startswith("rs :: "):
+        # A host may solicit routers before it has an address (RFC 4861, 4.1), and try one that it was given by hand: what is behind is looked at.
+        if self.start_time is None and not message.line.startswith("rs :: ") and not is_of_given(self.setup, message):
             self.start, self.start_time = start_of(message), packet.time
 
     def node_begin(self, before: Optional[int]) -> int:
@@ -144,6 +147,11 @@ def start_of(message: Message) -> Optional[Purpose]:
     """Returns the purpose of a message with which a host starts, or None for any other message."""
     is_detection = message.purpose is Purpose.DETECTION and message.about[0].is_link_local
     return message.purpose if is_detection or message.purpose is Purpose.ROUTER_SOLICITATION else None
+
+
+def is_of_given(setup: Setup, message: Message) -> bool:
+    """Returns true for a detection of an address that the node is given by hand."""
+    return message.purpose is Purpose.DETECTION and message.about[0] in setup.addresses
 
 
 def first_moment(setup: Setup, purpose: Purpose) -> int:
@@ -211,6 +219,7 @@ class Comparison:
     def take_sent(self) -> None:
         """Takes the messages that the node sends, without those before the first packet if the capture begins behind the stack's detection."""
         for record in self.node.poll():
+            self.setup.give_addresses(self.node, record)
             message = message_of(record.moment, record.frame, 0) if isinstance(record, nd.Frame) else None
             if message is None:
                 continue
@@ -243,13 +252,14 @@ class Comparison:
         """Returns what is different between two messages, or an empty text."""
         if node is None:
             return "only the other stack sends it" if stack is not None and stack.purpose is not Purpose.DROPPED else "each receiver drops it"
+        is_given = is_of_given(self.setup, node)
         if stack is None:
             is_open = node.moment + self.tolerance > self.end
-            return "" if is_open or node.purpose is Purpose.PROBE else "only the node sends it"
+            return "" if is_open or is_given or node.purpose is Purpose.PROBE else "only the node sends it"
         if stack.line != node.line:
             return "the contents are different"
         apart = abs(stack.moment - node.moment)
-        return f"{apart} ms lie between both" if apart > self.tolerance else ""
+        return f"{apart} ms lie between both" if apart > self.tolerance and not is_given else ""
 
 
 def _sorted(messages: Iterable[Message]) -> Dict[Tuple[Purpose, Tuple[IPv6Address, ...]], List[Message]]:

@@ -66,6 +66,7 @@ class Replay:
         self.setup, self.before, self.after, self.step = setup, before, after, step
         self.node = setup.opened()
         self.first = self.begin = self.polls = 0
+        self.is_given = not setup.addresses  # those by hand; before, time passes from one due moment to the next
         self.heard: Optional[Passed] = None
 
     def events(self, packets: Iterable[Packet]) -> Iterator[Event]:
@@ -93,15 +94,17 @@ class Replay:
     def pass_time(self, moment: int) -> Iterator[Event]:
         """Lets time pass: to what is due, and on by `step`, until `moment`."""
         while self.node.next_due() < moment:
-            self.node.pass_time(min(self.node.next_due() + self.step, moment))
+            self.node.pass_time(min(self.node.next_due() + (self.step if self.is_given else 0), moment))
             yield from self.records()
         self.node.pass_time(moment)
         yield from self.records()
 
     def records(self) -> Iterator[nd.Record]:
-        """Takes the node's records."""
+        """Takes the node's records, and gives it its addresses by hand once that may be."""
         self.polls += 1
-        return self.node.poll()
+        for record in self.node.poll():
+            yield record
+            self.is_given |= self.setup.give_addresses(self.node, record)
 
     def rows(self) -> Iterator[str]:
         """Returns the rows of all tables at the last moment."""

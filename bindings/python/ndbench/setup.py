@@ -3,7 +3,7 @@ from __future__ import annotations
 
 import argparse
 from dataclasses import dataclass
-from ipaddress import IPv6Network
+from ipaddress import IPv6Address, IPv6Network
 from typing import Any, Optional, Tuple, Union
 
 import nd
@@ -16,9 +16,10 @@ USUAL = nd.Advertising(min_interval=200, max_interval=600, lifetime=1800, hop_li
 
 @dataclass(frozen=True)
 class Setup:
-    """How a node is opened, and the prefixes that it advertises if it is a router."""
+    """How a node is opened, the prefixes that it advertises if it is a router, and the addresses that it is given by hand."""
     options: nd.Options
     offers: Tuple[IPv6Network, ...] = ()
+    addresses: Tuple[IPv6Address, ...] = ()
 
     @property
     def mac(self) -> nd.Mac:
@@ -34,6 +35,14 @@ class Setup:
         if self.offers:
             node.advertise(self.options.start, USUAL)
         return node
+
+    def give_addresses(self, node: nd.Node, record: nd.Record) -> bool:
+        """Gives the node its addresses by hand if `record`, which it has just reported, says that its link-local address is assigned: before, they
+        would be refused. Returns true if it does."""
+        is_now = isinstance(record, nd.Assigned) and record.address.is_link_local and record.address not in self.addresses
+        for address in self.addresses if is_now else ():
+            node.add_address(node.last_moment(), address)
+        return is_now
 
     def is_own(self, frame: bytes) -> bool:
         """Returns true if the interface itself sent the frame."""
@@ -69,6 +78,8 @@ def add_arguments(command: argparse.ArgumentParser, is_host: bool = False, needs
         command.add_argument("--offer", default=[], action="append", type=prefix_argument, metavar="PREFIX", help="a router advertises this prefix")
     command.add_argument("--mac", required=needs_mac, action=Once, type=mac_argument, help="its Ethernet address, at most once")
     command.add_argument("--draws", default="seed:0", type=draws_argument, metavar="SOURCE", help="its random words: seed:N or word:N (seed:0)")
+    command.add_argument("--address", default=[], action="append", type=address_argument, metavar="ADDRESS",
+                         help="an address that it is given by hand, once its link-local one is assigned; more than one may be given")
     command.add_argument("--transmits", default=1, type=int, choices=range(1, 9), metavar="N",
                          help="solicitations for each of its addresses, 1 to 8 (1)")
     command.add_argument("--policy", default=nd.Policy(0), type=policy_argument, metavar="WORDS",
@@ -78,7 +89,7 @@ def add_arguments(command: argparse.ArgumentParser, is_host: bool = False, needs
 def setup_of(arguments: argparse.Namespace) -> Setup:
     """Returns the node that the arguments ask for."""
     options = nd.Options(nd.Role[arguments.role.upper()], arguments.mac, 0, arguments.draws, arguments.transmits, policies=arguments.policy)
-    return Setup(options, tuple(arguments.offer))
+    return Setup(options, tuple(arguments.offer), tuple(arguments.address))
 
 
 def mac_argument(text: str) -> nd.Mac:
@@ -110,6 +121,19 @@ def policy_argument(text: str) -> nd.Policy:
             raise argparse.ArgumentTypeError(f"{word!r} is no policy: parts, speakers, timers, self or unicast")
         found |= nd.Policy[word.upper()]
     return found
+
+
+def address_argument(text: str) -> IPv6Address:
+    """Reads an address that an interface may have."""
+    try:
+        address = IPv6Address(text)
+    except ValueError as error:
+        raise argparse.ArgumentTypeError(f"{text!r} is no IPv6 address") from error
+    if address.scope_id is not None:
+        raise argparse.ArgumentTypeError(f"{text!r} has a zone, and a node has one link")
+    if address.is_multicast or address.is_unspecified or address.is_loopback:
+        raise argparse.ArgumentTypeError(f"{text} is the address of no interface")
+    return address
 
 
 def prefix_argument(text: str) -> IPv6Network:

@@ -10,7 +10,7 @@ from typing import List, Tuple
 from ndbench.capture import read_capture
 
 from .captures import BEGIN, advertisement, message_frame, pcap, prefix_option
-from .paths import example
+from .paths import EXAMPLES, example
 from .test_judge import run
 
 HOST = ["--mac", "34:56:78:9a:bc:de", "--draws", "word:0"]
@@ -112,6 +112,42 @@ class Starts(unittest.TestCase):
         first = compared(self.asked(), "--before", "1500")[1]
         self.assertEqual(first[0], "at 5000 ms (3.501 s): only the node sends it [RFC 4861, 6.3.7]")
         self.assertEqual(compared(self.asked(), "--before", "500")[1][0], "at 500 ms (0.001 s): only the other stack sends it [RFC 4861, 7.2.4]")
+
+
+class ByHand(unittest.TestCase):
+    """The link of two Linux hosts, each with an address by hand (examples/README.md)."""
+
+    def compared(self, *words: str) -> Tuple[int, List[str], str]:
+        status, out, err = run((EXAMPLES / "captures" / "linux.pcap").read_bytes(), "compare", "--all", *words)
+        return status, out.splitlines(), err.splitlines()[-1]
+
+    def test_the_second_host(self) -> None:
+        """It tries its address 0.8 s after the link-local one, and probes the address of the first host, which has solicited it."""
+        for draws in ("seed:0", "seed:1", "word:0", "word:4294967295"):
+            done = self.compared("--mac", "02:00:00:00:00:0b", "--address", "2001:db8::b", "--draws", draws)
+            self.assertEqual(done, (0, [], "6 messages of the other stack, 0 differences"))
+
+    def test_the_first_host(self) -> None:
+        """Its address was given with a prefix on the link, and the node's without one (RFC 5942, 4): so it solicits the second host. It answers a
+        probe without its link-layer address, as it may (RFC 4861, 7.2.4). It tries the address by hand before the link-local one."""
+        status, lines, said = self.compared("--mac", "02:00:00:00:00:0a", "--address", "2001:db8::a")
+        self.assertEqual([line.partition("): ")[2] for line in lines if line[0] != " "],
+                         ["only the other stack sends it [RFC 4861, 7.2.2]", "the contents are different [RFC 4861, 7.2.4]"])
+        self.assertEqual((status, said), (1, "6 messages of the other stack, 2 differences"))
+
+    def test_without_its_address(self) -> None:
+        """Its detection, its probe, or its answer are differences too."""
+        for last in "ab":
+            lines = self.compared("--mac", f"02:00:00:00:00:0{last}")[1]
+            self.assertIn(f"target 2001:db8::{last}", "".join(line for line in lines if "other stack: packet" in line))
+
+    def test_it_was_tried_before_the_capture(self) -> None:
+        """The capture begins after the detections: what the node sends then is no difference."""
+        content = (EXAMPLES / "captures" / "linux.pcap").read_bytes()
+        packets = list(read_capture(io.BytesIO(content)))
+        later = pcap([(packet.time - packets[0].time, packet.frame) for packet in packets[9:]])
+        status, out, err = run(later, "compare", "--mac", "02:00:00:00:00:0b", "--address", "2001:db8::b", "--all")
+        self.assertEqual((status, out, err.splitlines()[-1]), (0, "", "4 messages of the other stack, 0 differences"))
 
 
 class Differences(unittest.TestCase):

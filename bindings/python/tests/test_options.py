@@ -78,6 +78,18 @@ class MacArgument(unittest.TestCase):
         self.fails(["--mac", "02:00:00:00:00:0a", "--mac", "02:00:00:00:00:0b"], "it is given twice, and a command has one node")
 
 
+class AddressArgument(unittest.TestCase):
+    def test_addresses_of_no_interface(self) -> None:
+        for text, wanted in (("ff02::1", "ff02::1 is the address of no interface"), ("::", ":: is the address of no interface"),
+                             ("::1", "::1 is the address of no interface"), ("fe80::1%eth0", "'fe80::1%eth0' has a zone, and a node has one link"),
+                             ("192.0.2.1", "'192.0.2.1' is no IPv6 address")):
+            for command in ("replay", "compare", "picture"):
+                with contextlib.redirect_stderr(io.StringIO()) as err, self.assertRaises(SystemExit) as ended:
+                    main([command, "/no/such/file", "--mac", "02:00:00:00:00:01", "--address", text])
+                self.assertEqual(ended.exception.code, 2)
+                self.assertIn(f"error: argument --address: {wanted}\n", err.getvalue())
+
+
 class OfferArgument(unittest.TestCase):
     def test_a_prefix_with_a_zone(self) -> None:
         with contextlib.redirect_stderr(io.StringIO()) as err, self.assertRaises(SystemExit) as ended:

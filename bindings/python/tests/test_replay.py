@@ -113,6 +113,24 @@ class Text(unittest.TestCase):
                 lines = run(pcap(sent), "replay", *HOST[2:], "--role", role, "--before", "2000", *words)[1].splitlines()
                 self.assertEqual(lines[lines.index("2000 drop 19 NotForUs") + 1], f"# [{section}]")
 
+    def test_an_address_by_hand(self) -> None:
+        """It is tried once the link-local address is assigned, without a delay by these draws, and assigned RetransTimer, 1 s, later (RFC 4862,
+        5.4). That the packets are an hour apart changes nothing. It is answered for (RFC 4861, 7.2.4), and without it the packet is dropped."""
+        target = IPv6Address("2001:db8::5").packed
+        question = message_frame(b"\x87" + bytes(7) + target + bytes.fromhex("0101020000000001"), "fe80::ff:fe00:1", "ff02::1:ff00:5",
+                                 "3333ff000005020000000001")
+        content = pcap([(0, advertisement()), (3_600_000_000_000, question)])
+        for role in ("host", "router"):
+            words = ["replay", *HOST[2:], "--role", role]
+            lines = run(content, *words, "--address", "2001:db8::5", "--address", "2001:db8::6")[1].splitlines()
+            detection = lines.index("# sends at 1.000000 s: ns :: ff02::1:ff00:5 target 2001:db8::5")
+            self.assertLess(lines.index("1000 assigned fe80::3656:78ff:fe9a:bcde"), detection)
+            self.assertIn("2000 assigned 2001:db8::5", lines)
+            self.assertIn("2000 assigned 2001:db8::6", lines)
+            self.assertEqual(lines[-1], "# sends at 3600.000000 s: na 2001:db8::5 fe80::ff:fe00:1 "
+                                        f"flags {'rso' if role == 'router' else 'so'} target 2001:db8::5 tlla 34:56:78:9a:bc:de")
+            self.assertIn("3600000 drop 19 NotForUs", run(content, *words)[1].splitlines())
+
     def test_time_goes_on_after_the_last_packet(self) -> None:
         """The last packet is at 2300 ms, when fe80::2 has 1,800 s left; the other router has its 1,800 s from 1200 ms on."""
         lines = [line for line in replayed("--after", "1800000").splitlines() if "ended" in line]
