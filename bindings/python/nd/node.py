@@ -77,15 +77,15 @@ class Node:
 
     def last_moment(self) -> int:
         """Returns the moment up to which time has passed, ms; 2^64 - 1 if the node is closed."""
-        return self._call("nd_last_moment")
+        return int(self._call("nd_last_moment"))
 
     def next_due(self) -> int:
         """Returns the earliest moment at which something is due, ms: call `pass_time` then. 2^64 - 1 if the node is closed."""
-        return self._call("nd_next_due")
+        return int(self._call("nd_next_due"))
 
     def lease_version(self) -> int:
         """Returns the version of all leases: a lease holds while this is the version of its path. 0 if the node is closed."""
-        return self._call("nd_lease_version")
+        return int(self._call("nd_lease_version"))
 
     def pass_time(self, now: int) -> Outcome:
         """Does all that is due up to `now` (RFC 4861, 6.2.4, 6.2.6, 6.3.5, 6.3.7, 7.2.2, 7.3.3; RFC 4862, 5.4 and 5.5.4)."""

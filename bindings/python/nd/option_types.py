@@ -174,7 +174,8 @@ def _servers(data: bytes) -> Optional[Option]:
 
 
 def _names(data: bytes) -> Optional[Option]:
-    (lifetime,), rest, names = struct.unpack(">I", data[2:6]), data[6:], []  # type: Tuple[int, ...], bytes, List[str]
+    (lifetime,), rest = struct.unpack(">I", data[2:6]), data[6:]
+    names: List[str] = []
     while rest and rest[0] != 0:
         read = _name(rest)
         if read is None:

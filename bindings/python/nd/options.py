@@ -6,7 +6,7 @@ from dataclasses import asdict, dataclass, field, fields
 from typing import Optional, Union
 
 from . import library, raw
-from .raw import Policy, Role
+from .raw import Policy, Role, nd_limits
 from .values import BytesLike, Mac, raw_mac, structure_of, unsigned
 
 SIZE_BITS = 8 * ctypes.sizeof(ctypes.c_size_t)
@@ -46,7 +46,7 @@ class Limits:
         return structure_of(raw.nd_limits, **asdict(self))
 
     @classmethod
-    def of(cls, limits: raw.nd_limits) -> Limits:
+    def of(cls, limits: nd_limits) -> Limits:
         """Returns the limits of a structure of nd.h."""
         return cls(**{limit.name: getattr(limits, limit.name) for limit in fields(cls)})
 

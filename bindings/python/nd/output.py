@@ -3,7 +3,7 @@ from __future__ import annotations
 
 from dataclasses import dataclass
 from ipaddress import IPv6Address
-from typing import Optional, Union
+from typing import Callable, Dict, Optional, Union
 
 from . import raw
 from .raw import Kind, Limit, Loss, Refusal, Why
@@ -116,9 +116,9 @@ class Other:
 
 Record = Union[Frame, Heard, Dropped, Up, Duplicate, Assigned, EndedAddress, EndedRouter, Failed, Lost, Refused, Resolved, Ignored, Other]
 
-_WITH_BYTES = {Kind.FRAME: Frame, Kind.UP: Up}
-_WITH_ADDRESS = {Kind.DUPLICATE: Duplicate, Kind.ASSIGNED: Assigned, Kind.ENDED_ADDRESS: EndedAddress, Kind.ENDED_ROUTER: EndedRouter,
-                 Kind.FAILED: Failed}
+_WITH_BYTES: Dict[int, Callable[[int, bytes], Record]] = {Kind.FRAME: Frame, Kind.UP: Up}
+_WITH_ADDRESS: Dict[int, Callable[[int, IPv6Address], Record]] = {
+    Kind.DUPLICATE: Duplicate, Kind.ASSIGNED: Assigned, Kind.ENDED_ADDRESS: EndedAddress, Kind.ENDED_ROUTER: EndedRouter, Kind.FAILED: Failed}
 
 
 def record_of(out: raw.nd_out, content: bytes) -> Record:

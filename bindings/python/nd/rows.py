@@ -7,7 +7,7 @@ from typing import Optional
 
 from . import raw
 from .options import Limits
-from .raw import Hop, Limit, Preference, Reachability, Refusal, State
+from .raw import Hop, Limit, Preference, Reachability, Refusal, State, nd_advertising, nd_offer_row, nd_route_row
 from .values import Mac, address_of, finite, mac_of, network_of, raw_address, structure_of
 
 
@@ -139,7 +139,7 @@ class Advertising:
         return structure_of(raw.nd_advertising, **{setting.name: getattr(self, setting.name) for setting in fields(self)})
 
     @classmethod
-    def of(cls, row: raw.nd_advertising) -> Advertising:
+    def of(cls, row: nd_advertising) -> Advertising:
         """Returns the settings of a structure."""
         return cls(row.min_interval, row.max_interval, row.lifetime, row.hop_limit, bool(row.managed), bool(row.other),
                    Preference(row.preference), row.reachable_time, row.retrans_timer, row.mtu)
@@ -161,7 +161,7 @@ class Offer:
                             preferred_lifetime=self.preferred_lifetime, on_link=self.on_link, autonomous=self.autonomous)
 
     @classmethod
-    def of(cls, row: raw.nd_offer_row) -> Offer:
+    def of(cls, row: nd_offer_row) -> Offer:
         """Returns the row of a structure."""
         return cls(network_of(row.prefix, row.bits), row.valid_lifetime, row.preferred_lifetime, bool(row.on_link), bool(row.autonomous))
 
@@ -179,7 +179,7 @@ class Route:
                             bits=prefix.prefixlen, hop=hop)
 
     @classmethod
-    def of(cls, row: raw.nd_route_row) -> Route:
+    def of(cls, row: nd_route_row) -> Route:
         """Returns the row of a structure."""
         return cls(network_of(row.prefix, row.bits), address_of(row.router) if row.hop == Hop.VIA else None)
 
