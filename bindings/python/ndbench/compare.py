@@ -32,9 +32,15 @@ from .setup import Setup
 from .texts import frame_text, heard_by_its_role, is_passed_over, message_text, seconds_text
 
 
+# Milliseconds that may lie between a message of the stack and that of the node.
+TOLERANCE = 1500
 # Milliseconds after which a host that hears nothing has its link-local address, and solicits routers no longer: a delay of at most 1 s, at most 8
 # detections a second apart (RFC 4862, 5.4.2 and 5.1), and three solicitations 4 s apart (RFC 4861, 10).
 SETTLED = 20_000
+
+
+class NothingSent(ValueError):
+    """The stack sends no message of Neighbor Discovery in the capture."""
 
 
 class Purpose(Enum):
@@ -237,6 +243,11 @@ class Comparison:
         """Returns a moment of the node as a time of the capture, in nanoseconds since 1970."""
         return self.begin + moment * MILLISECOND
 
+    @property
+    def has_start(self) -> bool:
+        """True if the capture has the stack's start. If not, the node does not know what the stack heard before."""
+        return self.survey.start is not None
+
     def differences(self) -> List[Difference]:
         """Returns the differences, the earliest first. `finish` was called."""
         pairs = _sorted(self.stack_messages), _sorted(self.node_messages)
@@ -260,6 +271,23 @@ class Comparison:
             return "the contents are different"
         apart = abs(stack.moment - node.moment)
         return f"{apart} ms lie between both" if apart > self.tolerance and not is_given else ""
+
+
+def compared(packets: Iterable[Packet], setup: Setup, tolerance: int = TOLERANCE, before: Optional[int] = None) -> Comparison:
+    """Returns the comparison of a whole capture, in the order of its packets: `differences()` are what differs, and `stack_messages` what the stack
+    sent. The Ethernet address of `setup` is that of the stack. Raises NothingSent if the stack sent no message, and CaptureError for times that are
+    too far apart."""
+    captured = list(packets)
+    survey = Survey(setup)
+    for packet in captured:
+        survey.take(packet)
+    if survey.first is None:
+        raise NothingSent(f"{setup.mac} sends no message of Neighbor Discovery")
+    made = Comparison(setup, survey, tolerance, before)
+    for packet in captured:
+        made.take(packet)
+    made.finish()
+    return made
 
 
 def _sorted(messages: Iterable[Message]) -> Dict[Tuple[Purpose, Tuple[IPv6Address, ...]], List[Message]]:

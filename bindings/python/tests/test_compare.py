@@ -7,7 +7,10 @@ import unittest
 from ipaddress import IPv6Address
 from typing import List, Tuple
 
+import nd
+import ndbench
 from ndbench.capture import read_capture
+from ndbench.setup import Setup
 
 from .captures import BEGIN, advertisement, message_frame, pcap, prefix_option
 from .paths import EXAMPLES, example
@@ -148,6 +151,32 @@ class ByHand(unittest.TestCase):
         later = pcap([(packet.time - packets[0].time, packet.frame) for packet in packets[9:]])
         status, out, err = run(later, "compare", "--mac", "02:00:00:00:00:0b", "--address", "2001:db8::b", "--all")
         self.assertEqual((status, out, err.splitlines()[-1]), (0, "", "4 messages of the other stack, 0 differences"))
+
+
+class Programs(unittest.TestCase):
+    """`compared`, as a program calls it."""
+
+    def test_packets_of_a_capture(self) -> None:
+        setup = Setup(nd.Options.host("02:00:00:00:00:0b"), addresses=(IPv6Address("2001:db8::b"),))
+        with open(EXAMPLES / "captures" / "linux.pcap", "rb") as file:
+            made = ndbench.compared(ndbench.read_capture(file), setup)
+        self.assertEqual((made.differences(), len(made.stack_messages), made.has_start), ([], 6, True))
+
+    def test_packets_of_a_program(self) -> None:
+        """The frames of the example without its solicitation of routers, by the times of their moments."""
+        sent = frames_of("scripts/failover.output", "tx")
+        timed = sorted([*sent[:1], *sent[2:], *frames_of("scripts/failover.script", "rx")], key=lambda pair: pair[0])
+        packets = [ndbench.Packet(number, moment * 10 ** 6, frame) for number, (moment, frame) in enumerate(timed, 1)]
+        made = ndbench.compared(packets, Setup(nd.Options(nd.Role.HOST, OWN, draws=nd.Word(0))))
+        (difference,) = made.differences()
+        self.assertEqual((difference.what, difference.moment, difference.section, difference.stack), ("only the node sends it", 1000,
+                                                                                                      "RFC 4861, 6.3.7", None))
+        assert difference.node is not None
+        self.assertEqual(difference.node.purpose, ndbench.Purpose.ROUTER_SOLICITATION)
+
+    def test_a_stack_that_sends_nothing(self) -> None:
+        with self.assertRaisesRegex(ndbench.NothingSent, "02:00:00:00:00:77 sends no message"):
+            ndbench.compared([ndbench.Packet(1, 0, advertisement())], Setup(nd.Options.host("02:00:00:00:00:77")))
 
 
 class Differences(unittest.TestCase):
