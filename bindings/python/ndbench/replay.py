@@ -21,7 +21,7 @@ from .texts import frame_text, heard_by_its_role, record_text, seconds_text
 
 MILLISECOND = 10 ** 6    # nanoseconds
 LONGEST_GAP = 1 << 40    # milliseconds: 34 years, from a packet to the next one, and from the first to the last
-STEP = 86_400_000        # milliseconds: a day, whose records the memory of nd.c has room for
+STEP = 86_400_000        # milliseconds: a day: so many records are kept until they are taken
 
 
 @dataclass(frozen=True)

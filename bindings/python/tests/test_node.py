@@ -237,6 +237,21 @@ class Memory(unittest.TestCase):
         self.assertTrue(100 < int(said.stdout) < 1000, said.stdout)
 
 
+    def test_it_grows_with_the_nodes(self) -> None:
+        """2,000 hosts with the usual limits are open at a time, which takes more than 128 MiB; each has its link-local address."""
+        with open("/proc/self/statm", encoding="ascii") as file:
+            before = int(file.read().split()[1])
+        nodes = [nd.Node(nd.Options.host("34:56:78:9a:bc:de", seed=seed)) for seed in range(2000)]
+        for node in nodes:
+            node.pass_time(3000)
+        with open("/proc/self/statm", encoding="ascii") as file:
+            grown = (int(file.read().split()[1]) - before) * os.sysconf("SC_PAGESIZE")
+        self.assertGreater(grown, 128 << 20)
+        self.assertTrue(all([row.state for row in node.addresses(3000)] == [nd.State.PREFERRED] for node in nodes))
+        small = nd.Limits(neighbours=8, routers=2, prefixes=4, addresses=4, servers=2, names=2, redirects=4, destinations=8, offers=1, routes=1)
+        self.assertEqual((nd.node_bytes(), nd.node_bytes(small)), (151_008, 12_667))
+
+
 class Objects(unittest.TestCase):
     def test_a_second_init_closes_the_node(self) -> None:
         """Wrong options leave the node as it is."""
