@@ -217,6 +217,33 @@ await go(500);""", "#capture")
     report_if(f"the page in a browser: {len(arrows)} arrows of a capture, at its times", is_right and moments == at, f"{arrows} {moments}")
 
 
+def check_stations_in_browser(browser, path):
+    """Drops the capture of two Linux hosts on the tab of a capture: each station has a line, and what is not for the host is grey, since no frame is wrong.
+    Of the link it says the addresses that examples/README.md names."""
+    with open(f"{TOP}/examples/captures/linux.pcap", "rb") as file:
+        data = file.read()
+    text = browser.after(path, dropped(data, "linux.pcap", "find('said').textContent.startsWith('linux.pcap')") + """
+enter('capture-mac', '02:00:00:00:00:0b');
+enter('capture-before', '3000');
+await go(500);
+const colour = (selector) => [...new Set([...document.querySelectorAll(selector)].map((it) => getComputedStyle(it)[it.matches('text') ? 'fill' : 'stroke']))];
+document.body.style.color = getComputedStyle(document.documentElement).getPropertyValue('--quiet');
+const quiet = getComputedStyle(document.body).color;
+document.body.dataset.colours = JSON.stringify([colour('#capture-diagram .arrow.aside'), colour('#capture-diagram .note.aside'), quiet]);""", "#capture")
+    picture = (re.search(r"<svg.*?</svg>", part_of(text, "capture-diagram"), re.S) or [""])[0]
+    link = part_of(text, "capture-link").split('id="capture-does"')[0]
+    kinds = re.findall(r'class="arrow (\w+)"', picture)
+    colours = json.loads(html.unescape((re.search(r'data-colours="(.*?)"', text) or ["", "[]"])[1]))
+    is_grey = "aside" in kinds and "dropped" not in kinds and len(colours) == 3 and colours[0] == colours[1] == [colours[2]]
+    report_if("the page in a browser: frames that are not for the host are grey", is_grey and "drop 19" not in re.sub("<title>.*?</title>", "", picture),
+              f"{kinds} {colours}")
+    stations = "Stations: A 02:00:00:00:00:0b, B 02:00:00:00:00:0a. A is the host here."
+    report_if("the page in a browser: a line for each station", picture.count('class="lifeline"') == 2 and stations in text_of(text), picture[:400])
+    said = re.sub(r"\s+", " ", text_of(link.replace("</div>", " ").replace("</th>", " ").replace("</td>", " ")))
+    wanted = [f"2001:db8::{last} at 02:00:00:00:00:0{last} " for last in "ab"] + ["Duplicates none seen", "Routers none seen", "DNS servers none seen"]
+    report_if("the page in a browser: what a capture says of its link", all(it in said for it in wanted), said)
+
+
 # What a page shows in a narrow window once an address or a file is opened, or a field has another value.
 SHOWN = """const result = {}, shown = (id) => find(id).checkVisibility() && find(id).textContent.trim();
 const open = async (address) => {
@@ -283,6 +310,7 @@ result.replays = shown('replay-these');""")
 def check_copies_in_browser(browser, path):
     """Copies the address of a page that is a file: without the place of the file. What is said of that ends with the next change."""
     found = shown_in(browser, path, """navigator.clipboard.writeText = async (text) => { result.copied = text; };
+result.button = find('link').innerText;
 find('link').click();
 await go(300);
 result.said = shown('said');
@@ -290,6 +318,7 @@ find('tab-node').click();
 await go(500);
 result.later = shown('said');""")
     is_right = str(found.get("copied")).startswith("#pair?start=2000") and "behind the end of its address" in str(found.get("said"))
+    is_right = is_right and found.get("button") == "Copy what is shown"  # what is behind that is for wide windows
     report_if("the page in a browser: a file's address is copied from # on", is_right and found.get("later") == "", str(found))
 
 
@@ -455,6 +484,7 @@ def check_browser(room):
     check_opening_in_browser(browser, path)
     check_runs_in_browser(browser, path, room)
     for check in (check_late_frames_in_browser, check_fault_in_browser, check_reasons_in_browser, check_addresses_in_browser, check_capture_in_browser,
+                  check_stations_in_browser,
                   check_narrow_in_browser, check_cut_links_in_browser, check_opened_rows_in_browser, check_copies_in_browser,
                   check_faults_of_fields_in_browser, check_files_in_browser, check_hints_in_browser, check_texts_in_browser):
         check(browser, path)

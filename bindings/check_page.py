@@ -220,6 +220,81 @@ def check_faults_in_node(path):
     report_if("the page has the lines of ndpctl run as docs/FORMATS.md has them", len(forms) == 14 and not wrong, "\n".join(wrong))
 
 
+TRIED, A, B, C = "2001:db8::5", "02:00:00:00:00:0a", "02:00:00:00:00:0b", "02:00:00:00:00:0c"
+
+
+def trial(mac):
+    """Returns a solicitation of duplicate address detection."""
+    return frames.frame("::", frames.solicited_node(TRIED), mac, bytes([135]) + bytes(7) + frames.packed(TRIED))
+
+
+def announcement(mac):
+    """Returns an advertisement to all nodes, with the flag Override."""
+    return frames.frame(TRIED, "ff02::1", mac, bytes([136, 0, 0, 0, 0x20, 0, 0, 0]) + frames.packed(TRIED) + frames.link_layer(2, mac))
+
+
+# Frames with their moments in milliseconds, and what they say of a duplicate. RFC 4862, 5.4.3 and 5.4.4: while an address is tried, which takes RetransTimer,
+# 1,000 ms, an advertisement of it, or a trial by another node, shows a duplicate. The last two are of one node: it tries twice, and uses the address then.
+DUPLICATES = [([(0, trial(A)), (50, announcement(B))], [f"{TRIED}, tried by {A}, in use at {B}"]),
+              ([(0, trial(A)), (50, announcement(A))], [f"{TRIED}, tried by {A}, in use at {A}"]),
+              ([(0, trial(A)), (999, trial(B))], [f"{TRIED}, tried by {A} and {B}"]),
+              ([(0, announcement(A)), (5000, announcement(B)), (9000, announcement(C))], [f"{TRIED}, used at {A} and {B} and {C}"]),
+              ([(0, trial(A)), (1000, trial(B))], []), ([(0, trial(A)), (500, trial(A)), (1500, announcement(A))], [])]
+
+
+def summary(path, data):
+    return json.loads(run(["node", f"{TESTS}/summary.mjs", path], input=data, text=False).stdout or "{}")
+
+
+def check_summaries_in_node(path):
+    """Requires that the page sums up of a capture what is on its link: that of examples/python/link.py, which offers a prefix and has an advertisement
+    forged; the frames of a link, whose options are those that tshark 4.0 reads; and duplicates."""
+    if not has_node("what a capture says of its link"):
+        return
+    with open(f"{TOP}/examples/captures/link.pcapng", "rb") as file:
+        made = summary(path, file.read())
+    wanted = {"Routers": ["fe80::ff:fe00:1 at 02:00:00:00:00:01, for 1,800 s, preference Medium"], "DNS servers": [], "Duplicates": [],
+              "Prefixes": ["2001:db8::/64, on the link, hosts form addresses of it, valid for 2,592,000 s, preferred for 604,800 s"],
+              "Not valid": ["1 frame: drop 10 HopLimit"]}
+    holders = {f"{prefix}::ff:fe00:{last}" for prefix in ("fe80", "2001:db8") for last in "abc"} | {"fe80::ff:fe00:1"}
+    is_right = {name: made.get(name) for name in wanted} == wanted and {re.split("[ ,]", it)[0] for it in made.get("Addresses", [])} == holders
+    report_if("the page in node: what a capture says of its link", is_right, str(made))
+    made = summary(path, read(f"{TOP}/examples/link.hex").encode())
+    wanted = {"Routes": ["2001:db8:7::/64 by fe80::ff:fe00:2, for 12 s, preference High",
+                         "2001:db8:8:1:2::/80 by fe80::ff:fe00:2, without end, preference Medium",
+                         "2001:db8:99::/48 by fe80::1, for 600 s, preference Low"],
+              "DNS servers": ["2001:db8::1 without end", "2001:db8::2 without end", "2001:db8::3 without end", "2001:db8::53 for 1,800 s",
+                              "2001:db8::54 for 1,800 s"],
+              "Search names": ["a.very.long.domain.name.for.the.search.list.example without end", "example.com for 1,800 s", "gone.example, withdrawn",
+                               "sub.example.net for 1,800 s"]}
+    report_if("the page in node: routes, servers and names of frames", {name: sorted(made.get(name, [])) for name in wanted} == wanted, str(made))
+    files = [(captures.pcap_of([bytes.fromhex(frame) for _, frame in rows], [at * 1000 for at, _ in rows]), said) for rows, said in DUPLICATES]
+    found = [summary(path, data).get("Duplicates") for data, _ in files]
+    report_if(f"the page in node: duplicates, in {len(files)} captures", found == [said for _, said in files], str(found))
+
+
+# Numbers of a line of a frame, what the page says of them, and the section that names them.
+EXPLAINED = {"opt 24 40080000000c": ("24", "Route Information (RFC 4191, 2.3)"), "opt 14 ccdd89fd7fab": ("14", "Nonce (RFC 3971, 5.3.2)"),
+             "other 0": ("0", "hop-by-hop options (RFC 8200, 4.3)"), "other 59": ("59", "no next header (RFC 8200, 4.7)"), "other 17": ("17", "UDP"),
+             "other 99": ("99", "the next header of the packet"), "opt 99 00": ("99", "the type of an option that is passed over")}
+
+
+def check_options_in_node(path):
+    """Requires that the page says what options of other RFCs and next headers are, and shows the fields of a Route Information option (RFC 4191, 2.3)."""
+    if not has_node("what numbers mean"):
+        return
+    said = dict(zip(EXPLAINED, results(path, "explained", [["frame", line] for line in EXPLAINED])))
+    wrong = [f"{line}: {said[line]}" for line, (number, text) in EXPLAINED.items() if not any(word == number and text in it for word, it in said[line])]
+    report_if(f"the page in node: what {len(EXPLAINED)} options and next headers are", not wrong, "\n".join(wrong))
+    routed = next(bytes.fromhex(frame) for frame, line in rows_of_link() if " opt 24 4008" in line)
+    rows = results(path, "fieldsOf", [[list(routed)]])[0]
+    at = next(number for number, row in enumerate(rows) if row.get("heading") == "Option: Route Information")
+    fields = {row["name"]: row["value"] for row in rows[at + 1:at + 7]}
+    wanted = {"option type": "24, Route Information", "option length": "3 × 8 bytes", "prefix length": "64", "preference": "High",
+              "route lifetime": "12 s", "prefix": "2001:db8:7::"}
+    report_if("the page in node: the fields of a Route Information option", fields == wanted, str(fields))
+
+
 def numbers_without_meaning(kind, lines, explained):
     """Returns the lines that have a number, behind their first word, of which the page doesn't say what it is."""
     return [f"{kind}: {word} in {line!r}" for line, words in zip(lines, explained) for word, meaning in words[kind == "frame":]
@@ -348,5 +423,5 @@ def check_page(room):
     check_longest_in_node("the page", page.PAGE)
     check_captures_in_node("the page", page.PAGE)
     for check in (check_longest_run_in_node, check_longest_capture_in_node, check_faults_in_node, check_words_in_node, check_sections_in_node,
-                  check_replays_in_node, check_examples_in_node):
+                  check_replays_in_node, check_examples_in_node, check_summaries_in_node, check_options_in_node):
         check(page.PAGE)

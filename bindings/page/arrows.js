@@ -1,13 +1,12 @@
-// Frames as arrows between two lines, with what is said at each line: of two hosts, and of a capture and a host. Time runs downwards.
+// Frames as arrows between the lines of two hosts, with what is said at each line. Time runs downwards.
 
 const SVG = 'http://www.w3.org/2000/svg';
 const ROW = 40, NOTE = 20;
 // Notes of what comes before the frames of its row.
 const EARLY = ['starts', 'assigned'];
 
-const markers = (name) => `<defs>${['sent', 'given', 'dropped'].map((kind) => `
-<marker id="tip-${name}-${kind}" class="${kind}" viewBox="0 0 8 8" refX="7" refY="4" markerWidth="8" markerHeight="8" orient="auto"><path d="M0 0 8 4 0 8z"/>
-</marker>`).join('')}
+const markers = (name) => `<defs>
+<marker id="tip-${name}-sent" class="sent" viewBox="0 0 8 8" refX="7" refY="4" markerWidth="8" markerHeight="8" orient="auto"><path d="M0 0 8 4 0 8z"/></marker>
 <marker id="tip-${name}-lost" viewBox="0 0 8 8" refX="4" refY="4" markerWidth="10" markerHeight="10">
 <path d="M1 1 7 7M7 1 1 7" fill="none" stroke="currentColor"/></marker>
 </defs>`;

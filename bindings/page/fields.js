@@ -19,6 +19,8 @@ const OPTIONS = {
         ['reserved', 4, ignored], ['prefix', 16, address]]],
     4: ['Redirected Header', [['reserved', 6, ignored], ['packet', Infinity, length]]],
     5: ['MTU', [['reserved', 2, ignored], ['MTU', 4, number]]],
+    24: ['Route Information', [['prefix length', 1, number], ['preference', 1, routePreference], ['route lifetime', 4, seconds],
+        ['prefix', Infinity, routePrefix]]],
     25: ['Recursive DNS Server', [['reserved', 2, ignored], ['lifetime', 4, seconds], ['server', 16, address, 'again']]],
     31: ['DNS Search List', [['reserved', 2, ignored], ['lifetime', 4, seconds], ['names', Infinity, names]]],
 };
@@ -70,6 +72,18 @@ function neighborFlags(bytes) {
 
 function prefixFlags(bytes) {
     return flags(bytes, [[0x80, 'on-link (L)'], [0x40, 'autonomous (A)']]);
+}
+
+// The preference of a route (RFC 4191, 2.1). One with the reserved value is ignored (2.3).
+function routePreference(bytes) {
+    return ['Medium', 'High', 'reserved: the route is ignored', 'Low'][(bytes[0] >> 3) & 3];
+}
+
+// A prefix of 0, 8 or 16 bytes.
+function routePrefix(bytes) {
+    const whole = new Uint8Array(16);
+    whole.set(bytes.subarray(0, 16));
+    return address(whole);
 }
 
 function names(bytes) {

@@ -1,7 +1,6 @@
-// The tab of a capture: a host hears its frames at the capture's times. They and what the host sends are arrows between it and the link.
+// The tab of a capture: a host hears its frames at the capture's times. They and what the host sends are arrows between stations.
 
 const HEARD_EXAMPLE = @CAPTURE@;
-const HEARING_WIDE = { width: 1000, lines: [110, 530] };
 const MOST_EVENTS = 300, AFTER = 5000;
 let capture = [], hearings = 0;
 
@@ -16,27 +15,50 @@ function brief(frame) {
         case 'na': return `na: I have ${target}`;
         case 'redirect': return `redirect: to ${destination} by ${target}`;
         case 'drop': return frame[20] === 58 && frame[54] in MESSAGES ? MESSAGES[frame[54]].name : 'a frame';
-        default: return line;
+        default: return word === 'other' ? `other: ${otherName(frame)}` : line;
     }
 }
 
-// The rows and arrows of a picture of events. What the host says of a frame is in the row of the frame.
-function hearingPicture(events) {
-    const rows = [], arrows = [];
-    for (const { at, kind, text, frame } of events.filter((it) => it.kind !== HEARD)) {
-        const row = rows.length, last = arrows.at(-1), note = { which: 1, kind: text?.split(' ')[0], text: kind === UP ? 'up: for an upper layer' : text };
-        if (kind === 0) arrows.push({ from: 0, row, to: row, kind: 'given', text: brief(frame), meaning: lineOf(frame, 'either'), frame });
-        if (kind === TX) arrows.push({ from: 1, row, to: row, kind: 'sent', text: brief(frame), meaning: lineOf(frame, 'either') });
-        if (kind === DROP) {
-            last.kind = 'dropped';
-            note.meaning = dropMeaning(text, last.frame);
+// What the host says of a frame that it drops: one that is not for it is no fault of the frame.
+function dropNote(text, frame) {
+    const meaning = dropMeaning(text, frame);
+    return isNotForUs(text) ? { kind: 'note aside', text: 'not for this host', meaning: `${text}: ${meaning}` } : { kind: 'note drop', text, meaning };
+}
+
+// What the host says besides its frames.
+function noteOf({ kind, text }, frame) {
+    if (kind === DROP) return dropNote(text, frame);
+    return { kind: `note ${text.split(' ')[0]}`, text: kind === UP ? 'up: for an upper layer' : text, meaning: text };
+}
+
+// The row of a frame, whose first text says what it is.
+function frameRow(at, kind, frame) {
+    const to = isGroup(frame) ? null : receiver(frame);
+    return { at, kind, from: sender(frame), to, frame, texts: [{ kind: 'label', text: brief(frame), meaning: lineOf(frame, 'either') }] };
+}
+
+// The rows of a picture of events. What the host says of a frame is in the row of the frame. A frame that is not valid is red, one that is not for this
+// host grey.
+function hearingRows(events) {
+    const rows = [];
+    for (const event of events.filter((it) => it.kind !== HEARD)) {
+        const { at, kind, frame } = event, last = rows.at(-1), isOfLast = last?.kind && last.kind !== 'sent' && last.at === at;
+        if (kind === 0 || kind === TX) {
+            rows.push(frameRow(at, kind === TX ? 'sent' : 'given', frame));
+            continue;
         }
-        const isOfLast = last?.row === row - 1 && last.from === 0 && rows[row - 1].at === at;
-        if (kind === 0 || kind === TX) rows.push({ at, notes: [] });
-        else if (isOfLast) rows[row - 1].notes.push(note);
-        else rows.push({ at, notes: [note] });
+        const note = noteOf(event, last?.frame);
+        if (kind === DROP && isOfLast) last.kind = isNotForUs(event.text) ? 'aside' : 'dropped';
+        if (isOfLast) last.texts.push(note);
+        else rows.push({ at, texts: [note] });
     }
-    return { rows, arrows };
+    return rows;
+}
+
+// The stations of a picture, by the letters of their lines.
+function stationsText(stations) {
+    const named = laneNames(stations).map((name, index) => (name.length > 1 ? `${stations.length - index} others` : `${name} ${stations[index]}`));
+    return `Stations: ${named.join(', ')}. A is the host here.`;
 }
 
 // The events as text, as on the tab of a node.
@@ -74,6 +96,15 @@ function hearingSum(timed, own, events) {
     return `The host hears ${passed} of ${counted(capture.length, 'frame')}, and sends ${sent}.${without && ` Left out: ${without}.`}${strange}`;
 }
 
+// Draws events, or nothing if there are none.
+function showPicture(events, own) {
+    const box = find('capture-diagram'), label = 'the frames of the capture and of the host as arrows; the same is below as text';
+    const stations = events.length > 0 ? stationDiagram({ box, own, rows: hearingRows(events), label }) : [];
+    if (events.length === 0) box.replaceChildren();
+    find('capture-stations').textContent = events.length > 0 ? stationsText(stations) : '';
+    find('capture-does').hidden = events.length === 0;
+}
+
 async function showCapture() {
     const mine = ++hearings, module = await compiled(), options = hearingOptions();
     let events = [], said = '', fault = null;
@@ -91,10 +122,8 @@ async function showCapture() {
     const shown = events.slice(0, MOST_EVENTS), more = events.length > MOST_EVENTS ? ` The first ${MOST_EVENTS} events of ${events.length} are shown.` : '';
     find('capture-sum').textContent = said + more;
     find('capture-sum').classList.toggle('fault', capture.length > 0 && events.length === 0);
-    const picture = { name: 'capture', box: find('capture-diagram'), heads: ['the link', `host ${options.mac}`], wide: HEARING_WIDE,
-        label: 'the frames of the capture and of the host as arrows; the same is below as text', ...hearingPicture(shown) };
-    if (shown.length > 0) diagram(picture);
-    else find('capture-diagram').replaceChildren();
+    showPicture(shown, options.mac);
+    find('capture-link').replaceChildren(...summaryElements(capture));
     find('capture-lines').replaceChildren(...hearingLines(shown));
 }
 

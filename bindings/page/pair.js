@@ -45,12 +45,18 @@ function plain(frame) {
     return { ns: 'ns: is the address taken?', na: 'na: I have the address', rs: 'rs: are there routers?' }[word] ?? line;
 }
 
+// What a host says besides its frames. A frame that is not for it is no fault of the frame.
+function pairNote({ which, kind, text, heard }) {
+    const meaning = dropMeaning(text, heard) ?? text;
+    if (isNotForUs(text)) return { which, kind: 'aside', text: 'not for this host', meaning: `${text}: ${meaning}` };
+    return { which, kind, text: SHORT_NOTES[kind] ?? text, meaning };
+}
+
 // Shows the picture of a run: a row for each moment, its notes what a host says besides its frames.
 function pairDiagram({ happened, carried }) {
     const arrived = carried.filter((it) => !it.isLost), isSaid = (it) => !['tx', 'heard'].includes(it.kind);
     const moments = [...new Set([...happened.map((it) => it.at), ...arrived.map((it) => it.arrives)])].sort((a, b) => a - b);
-    const rows = moments.map((at) => ({ at, notes: happened.filter((it) => it.at === at && isSaid(it)).map((it) => ({
-        which: it.which, kind: it.kind, text: SHORT_NOTES[it.kind] ?? it.text, meaning: dropMeaning(it.text, it.heard) ?? it.text })) }));
+    const rows = moments.map((at) => ({ at, notes: happened.filter((it) => it.at === at && isSaid(it)).map(pairNote) }));
     const arrows = carried.map((it) => ({ from: it.from, row: moments.indexOf(it.sent), to: moments.indexOf(it.isLost ? it.sent : it.arrives),
         kind: it.isLost ? 'lost' : 'sent', isAnswer: arrived.some((other) => other.from !== it.from && other.arrives === it.sent),
         text: plain(it.frame), meaning: lineOf(it.frame, 'either') }));

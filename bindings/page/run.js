@@ -19,7 +19,8 @@ function meaning(digits) {
 // The element of a line of output: its moment, its text with few digits, of a frame what it says, and of a frame that is dropped why. `heard` is the frame
 // that the line is about, if it is about one, and `role` that of the node.
 function outputLine(line, heard, role = 'host') {
-    const [moment, word, ...rest] = line.split(' '), element = made('div', `said ${word}`), at = made('abbr', 'moment', moment);
+    const [moment, word, ...rest] = line.split(' '), isAside = isNotForUs(line.slice(moment.length + 1));
+    const element = made('div', `said ${isAside ? 'aside' : word}`), at = made('abbr', 'moment', moment);
     const short = word === 'tx' || word === 'up' ? cut(rest[0]) : rest.join(' ');
     at.title = SINCE_START;
     element.dataset.line = line;

@@ -111,12 +111,12 @@ async function copyLink() {
     const fragment = fragmentOf(shownTab());
     history.replaceState(null, '', fragment);
     if (!fragment.includes('?')) return say('What is shown is too much for a link.');
-    const behind = 'This page is a file of this machine, so others open their own copy of it, and put this behind the end of its address.';
+    const behind = 'It begins with #. This page is a file of this machine, so others open their own copy of it, and put this behind the end of its address.';
     try {
         await navigator.clipboard.writeText(isFile() ? fragment : location.href);
-        return say(isFile() ? `Copied: what is from # on. ${behind}` : 'Copied.');
+        return say(isFile() ? `Copied. ${behind}` : 'Copied.');
     } catch {
-        return say(isFile() ? `Copy what the address bar has from # on. ${behind}` : 'The link is in the address bar.');
+        return say(isFile() ? `Copy the end of what the address bar has. ${behind}` : 'The link is in the address bar.');
     }
 }
 
@@ -170,7 +170,7 @@ async function start() {
     }
     for (const begin of [startPair, startFrames, startRun, startCapture, startFiles]) begin();
     find('link').addEventListener('click', copyLink);
-    if (isFile()) find('link').textContent = 'Copy the link from # on';
+    if (isFile()) find('link').replaceChildren('Copy what is shown', made('span', 'wide', ', to put behind the address of another copy of this page'));
     addEventListener('input', changed);
     addEventListener('click', showMeaning);
     addEventListener('click', ({ target }) => target.closest('summary') && rowChanged());

@@ -11,6 +11,15 @@ const LOOKED_AT = { 2: ['type'], 4: ['version, traffic class, flow label'], 5: [
     9: ['option length'], 10: ['hop limit'], 11: ['checksum'], 12: ['source'], 13: ['target'], 14: ['source'], 15: ['destination'],
     16: ['flags', 'destination'], 17: ['target'], 18: ['redirected destination'], 19: ['message type'] };
 
+// What is summed up of a link, also if there is none; and how many lines of each are shown.
+const ALWAYS_SUMMED = ['Routers', 'Prefixes', 'DNS servers', 'Addresses', 'Duplicates'], MOST_SUMMED = 40;
+// What the types of ICMPv6 messages and next headers are, of packets that are no messages of Neighbor Discovery (RFC 8200, 4; RFC 4443; RFC 2710 and 3810).
+const ICMPV6_NAMES = { 1: 'an error (ICMPv6)', 2: 'an error (ICMPv6)', 3: 'an error (ICMPv6)', 4: 'an error (ICMPv6)', 128: 'a ping',
+    129: 'the answer to a ping', 130: 'a query for groups (MLD)', 131: 'a report of groups (MLD)', 132: 'a group is left (MLD)',
+    143: 'a report of groups (MLD)' };
+const NEXT_HEADERS = { 0: 'hop-by-hop options', 6: 'TCP', 17: 'UDP', 43: 'a routing header', 44: 'a fragment', 50: 'ESP', 58: 'ICMPv6',
+    59: 'no next header: an empty packet', 60: 'destination options' };
+
 const find = (id) => document.getElementById(id);
 const role = () => document.querySelector('input[name=role]:checked').value;
 let frames = [], packets = [];
@@ -110,6 +119,31 @@ function dropMeaning(line, frame, role = 'host') {
     return `the frame ${reason === '20' ? 'is a Redirect that is not from the first hop of its destination' : reasonText(reason)}`;
 }
 
+// True for the line of a frame that is valid, and dropped since it is not for this node or role (docs/FORMATS.md).
+const isNotForUs = (line) => /^drop 19 /.test(line);
+
+// What is behind the IPv6 header of a packet that is no message of Neighbor Discovery, in a few words.
+function otherName(frame) {
+    const next = frame[20], inner = next === 0 && frame[54] === 58 ? frame[54 + 8 * (1 + frame[55])] : next === 58 ? frame[54] : undefined;
+    return ICMPV6_NAMES[inner] ?? NEXT_HEADERS[next] ?? `next header ${next}`;
+}
+
+// The table of what the frames of a capture say of their link, with a heading; nothing if there are none.
+function summaryElements(packets) {
+    const known = framesForSummary(packets), table = made('table', 'link');
+    if (known.length === 0) return [];
+    for (const [heading, lines] of Object.entries(summaryLines(summaryOf(known)))) {
+        if (lines.length === 0 && !ALWAYS_SUMMED.includes(heading)) continue;
+        const row = table.insertRow(), more = lines.length - MOST_SUMMED, cell = made('td', '');
+        row.append(made('th', '', heading), cell);
+        for (const line of lines.slice(0, MOST_SUMMED)) cell.append(made('div', '', ...line.split(/(?<= )/).flatMap((it) => [...wordParts(it.trimEnd()), ' '])));
+        if (more > 0) cell.append(made('div', 'quiet', `and ${more} more`));
+        if (lines.length === 0) cell.append(made('span', 'quiet', 'none seen'));
+        if (heading === 'Duplicates' || heading === 'Not valid') cell.classList.toggle('bad', lines.length > 0);
+    }
+    return [made('h2', '', 'What these frames say of the link'), table];
+}
+
 // Shows a reason in the table below.
 function showReason(number) {
     for (const row of find('reasons').rows) row.classList.toggle('marked', row.id === `reason-${number}`);
@@ -165,7 +199,7 @@ function rowOf(frame, told, index) {
     const behind = { unread: [`: ${told.line}`], drop: [] }[told.kind] ?? explainedWords('frame', told.line).slice(1);
     const line = made('span', 'line', made('b', '', bold), ...behind), meaning = made('span', 'quiet');
     if (told.reason) meaning.append(`it ${reasonText(told.reason)}: `, sectionElement(sectionOf(told.reason, frame)), hintOf(frame, told));
-    const row = made('details', told.kind, made('summary', '', made('span', 'nr', String(index + 1)), made('span', '', line, ' ', meaning)));
+    const row = made('details', isNotForUs(told.line) ? 'aside' : told.kind, made('summary', '', made('span', 'nr', String(index + 1)), made('span', '', line, ' ', meaning)));
     row.dataset.index = index;
     row.addEventListener('toggle', () => {
         if (row.open && row.children.length === 1) row.append(openedRow(frame, told));
@@ -202,8 +236,6 @@ function reasonCounts(dropped) {
     });
 }
 
-const counted = (count, what) => `${count} ${what}${count === 1 ? '' : 's'}`;
-
 function show() {
     const rows = frames.map((frame, index) => [frame, tell(frame), index]);
     const of = (...kinds) => rows.filter(([, told]) => kinds.includes(told.kind));
@@ -215,7 +247,7 @@ function show() {
     const said = frames.length === 0 ? none : sum;
     find('sum').textContent = fault ? `This file can't be read: ${fault}.` : said;
     find('frames-near').replaceChildren(frames.length === 0 ? '' : `${find('sum').textContent} `, belowButton('results'));
-    const lists = areOneFrame(frames) ? [joinHint()] : [];
+    const lists = areOneFrame(frames) ? [joinHint()] : [...(packets.length > 0 ? summaryElements(packets) : [])];
     if (dropped.length > 0) lists.push(made('p', 'counts', ...reasonCounts(dropped)));
     if (unread.length > 0) lists.push(list('Not read', unread));
     if (dropped.length > 0) lists.push(list('Dropped', dropped));

@@ -1,7 +1,8 @@
 #!/usr/bin/env python3
-"""page [FILE [MODULE..]]: makes docs/try/index.html, or FILE, of its source in bindings/page and of the proved crates nd_tell_c and nd_c, as modules of
-WebAssembly with a 32-bit memory. If modules are named, `tell` or `node`, the others are those of docs/try/index.html. Where a tool is missing nothing
-is made, with a line 'skipped: ..'. The page names the tools that made its modules: others may make other bytes of the same code."""
+"""page [FILE [MODULE..]], or page --text: makes docs/try/index.html, or FILE, of its source in bindings/page and of the proved crates nd_tell_c and
+nd_c, as modules of WebAssembly with a 32-bit memory. If modules are named, `tell` or `node`, the others are those of docs/try/index.html. With --text
+both are those, and the page is made of its source around them, without the toolchain. Where a tool is missing nothing is made, with a line
+'skipped: ..'. The page names the tools that made its modules: others may make other bytes of the same code."""
 import base64
 import gzip
 import json
@@ -19,8 +20,8 @@ import rules  # noqa: E402
 SOURCE = f"{BINDINGS}/page"
 PAGE = f"{TOP}/docs/try/index.html"
 # The parts of the page's script. Those before view.js need no browser.
-SCRIPTS = ["tell.js", "capture.js", "fields.js", "sections.js", "node.js", "script.js", "words.js", "replay.js",
-           "view.js", "arrows.js", "pair.js", "run.js", "hear.js", "tabs.js"]
+SCRIPTS = ["tell.js", "capture.js", "fields.js", "sections.js", "node.js", "script.js", "words.js", "replay.js", "summary.js",
+           "view.js", "arrows.js", "stations.js", "pair.js", "run.js", "hear.js", "tabs.js"]
 # The modules: the crate, where Rattle's module of it is, its memory, and its functions.
 MODULES = {"tell": ("nd_tell_c", f"{OUT}/tell", 32 * build.PAGE, lambda: ["nd_tell"]), "node": ("nd_c", OUT, 16 * build.PAGE, build.functions)}
 
@@ -114,6 +115,13 @@ def parts_of(page):
     return found, re.search(r"Modules made with: (.*) -->", page)[1]
 
 
+def main_text():
+    """Makes the text of the page anew around the modules that it has."""
+    modules, by = parts_of(read(PAGE))
+    build.write(PAGE, page_of(modules, by))
+    print(f"made: the text of {os.path.basename(PAGE)}, around its modules, which were made by {by}")
+
+
 def main(path=PAGE, *names):
     kept = parts_of(read(PAGE))[0] if names else {}
     try:
@@ -127,4 +135,7 @@ def main(path=PAGE, *names):
 
 
 if __name__ == "__main__":
-    main(*sys.argv[1:])
+    if sys.argv[1:] == ["--text"]:
+        main_text()
+    else:
+        main(*sys.argv[1:])
