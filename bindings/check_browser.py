@@ -218,29 +218,31 @@ await go(500);""", "#capture")
 
 
 def check_stations_in_browser(browser, path):
-    """Drops the capture of two Linux hosts on the tab of a capture: each station has a line, and what is not for the host is grey, since no frame is wrong.
-    Of the link it says the addresses that examples/README.md names."""
+    """Drops the capture of two Linux hosts on the tab of a capture: each station has a line, and what is not for the host is grey, since no frame is
+    wrong. Of the link it says the addresses that examples/README.md names."""
     with open(f"{TOP}/examples/captures/linux.pcap", "rb") as file:
         data = file.read()
     text = browser.after(path, dropped(data, "linux.pcap", "find('said').textContent.startsWith('linux.pcap')") + """
 enter('capture-mac', '02:00:00:00:00:0b');
 enter('capture-before', '3000');
 await go(500);
-const colour = (selector) => [...new Set([...document.querySelectorAll(selector)].map((it) => getComputedStyle(it)[it.matches('text') ? 'fill' : 'stroke']))];
+const colourOf = (it) => getComputedStyle(it)[it.matches('text') ? 'fill' : 'stroke'];
+const colour = (kind) => [...new Set([...document.querySelectorAll(`#capture-diagram .${kind}.aside`)].map(colourOf))];
 document.body.style.color = getComputedStyle(document.documentElement).getPropertyValue('--quiet');
 const quiet = getComputedStyle(document.body).color;
-document.body.dataset.colours = JSON.stringify([colour('#capture-diagram .arrow.aside'), colour('#capture-diagram .note.aside'), quiet]);""", "#capture")
+document.body.dataset.colours = JSON.stringify([colour('arrow'), colour('note'), quiet]);""", "#capture")
     picture = (re.search(r"<svg.*?</svg>", part_of(text, "capture-diagram"), re.S) or [""])[0]
     link = part_of(text, "capture-link").split('id="capture-does"')[0]
     kinds = re.findall(r'class="arrow (\w+)"', picture)
     colours = json.loads(html.unescape((re.search(r'data-colours="(.*?)"', text) or ["", "[]"])[1]))
     is_grey = "aside" in kinds and "dropped" not in kinds and len(colours) == 3 and colours[0] == colours[1] == [colours[2]]
-    report_if("the page in a browser: frames that are not for the host are grey", is_grey and "drop 19" not in re.sub("<title>.*?</title>", "", picture),
-              f"{kinds} {colours}")
+    is_grey = is_grey and "drop 19" not in re.sub("<title>.*?</title>", "", picture)
+    report_if("the page in a browser: frames that are not for the host are grey", is_grey, f"{kinds} {colours}")
     stations = "Stations: A 02:00:00:00:00:0b, B 02:00:00:00:00:0a. A is the host here."
     report_if("the page in a browser: a line for each station", picture.count('class="lifeline"') == 2 and stations in text_of(text), picture[:400])
     said = re.sub(r"\s+", " ", text_of(link.replace("</div>", " ").replace("</th>", " ").replace("</td>", " ")))
-    wanted = [f"2001:db8::{last} at 02:00:00:00:00:0{last} " for last in "ab"] + ["Duplicates none seen", "Routers none seen", "DNS servers none seen"]
+    wanted = [f"2001:db8::{last} at 02:00:00:00:00:0{last} " for last in "ab"]
+    wanted += ["Duplicates none seen", "Routers none seen", "DNS servers none seen"]
     report_if("the page in a browser: what a capture says of its link", all(it in said for it in wanted), said)
 
 

@@ -233,8 +233,9 @@ def announcement(mac):
     return frames.frame(TRIED, "ff02::1", mac, bytes([136, 0, 0, 0, 0x20, 0, 0, 0]) + frames.packed(TRIED) + frames.link_layer(2, mac))
 
 
-# Frames with their moments in milliseconds, and what they say of a duplicate. RFC 4862, 5.4.3 and 5.4.4: while an address is tried, which takes RetransTimer,
-# 1,000 ms, an advertisement of it, or a trial by another node, shows a duplicate. The last two are of one node: it tries twice, and uses the address then.
+# Frames with their moments in milliseconds, and what they say of a duplicate. RFC 4862, 5.4.3 and 5.4.4: while an address is tried, which takes
+# RetransTimer, 1,000 ms, an advertisement of it, or a trial by another node, shows a duplicate. In the last two there is none: the second trial is
+# later, and one node tries twice, and uses the address then.
 DUPLICATES = [([(0, trial(A)), (50, announcement(B))], [f"{TRIED}, tried by {A}, in use at {B}"]),
               ([(0, trial(A)), (50, announcement(A))], [f"{TRIED}, tried by {A}, in use at {A}"]),
               ([(0, trial(A)), (999, trial(B))], [f"{TRIED}, tried by {A} and {B}"]),
@@ -247,8 +248,8 @@ def summary(path, data):
 
 
 def check_summaries_in_node(path):
-    """Requires that the page sums up of a capture what is on its link: that of examples/python/link.py, which offers a prefix and has an advertisement
-    forged; the frames of a link, whose options are those that tshark 4.0 reads; and duplicates."""
+    """Requires that the page sums up of a capture what is on its link: that of examples/python/link.py, which offers a prefix and has one
+    advertisement forged; the frames of a link, whose options are those that tshark 4.0 reads; and duplicates."""
     if not has_node("what a capture says of its link"):
         return
     with open(f"{TOP}/examples/captures/link.pcapng", "rb") as file:
@@ -265,8 +266,8 @@ def check_summaries_in_node(path):
                          "2001:db8:99::/48 by fe80::1, for 600 s, preference Low"],
               "DNS servers": ["2001:db8::1 without end", "2001:db8::2 without end", "2001:db8::3 without end", "2001:db8::53 for 1,800 s",
                               "2001:db8::54 for 1,800 s"],
-              "Search names": ["a.very.long.domain.name.for.the.search.list.example without end", "example.com for 1,800 s", "gone.example, withdrawn",
-                               "sub.example.net for 1,800 s"]}
+              "Search names": ["a.very.long.domain.name.for.the.search.list.example without end", "example.com for 1,800 s",
+                               "gone.example, withdrawn", "sub.example.net for 1,800 s"]}
     report_if("the page in node: routes, servers and names of frames", {name: sorted(made.get(name, [])) for name in wanted} == wanted, str(made))
     files = [(captures.pcap_of([bytes.fromhex(frame) for _, frame in rows], [at * 1000 for at, _ in rows]), said) for rows, said in DUPLICATES]
     found = [summary(path, data).get("Duplicates") for data, _ in files]
@@ -280,11 +281,13 @@ EXPLAINED = {"opt 24 40080000000c": ("24", "Route Information (RFC 4191, 2.3)"),
 
 
 def check_options_in_node(path):
-    """Requires that the page says what options of other RFCs and next headers are, and shows the fields of a Route Information option (RFC 4191, 2.3)."""
+    """Requires that the page says what options of other RFCs and next headers are, and shows the fields of a Route Information option (RFC 4191,
+    2.3)."""
     if not has_node("what numbers mean"):
         return
     said = dict(zip(EXPLAINED, results(path, "explained", [["frame", line] for line in EXPLAINED])))
-    wrong = [f"{line}: {said[line]}" for line, (number, text) in EXPLAINED.items() if not any(word == number and text in it for word, it in said[line])]
+    wrong = [f"{line}: {said[line]}" for line, (number, text) in EXPLAINED.items()
+             if not any(word == number and text in it for word, it in said[line])]
     report_if(f"the page in node: what {len(EXPLAINED)} options and next headers are", not wrong, "\n".join(wrong))
     routed = next(bytes.fromhex(frame) for frame, line in rows_of_link() if " opt 24 4008" in line)
     rows = results(path, "fieldsOf", [[list(routed)]])[0]

@@ -39,4 +39,5 @@ def check_pytest(room):
     if found is None:
         skip("the example for pytest", "pytest is not there (Debian: python3-pytest)")
         return
-    report("the module for Python: the example for pytest", run([found, "-m", "pytest", "-q", "-p", "no:cacheprovider", EXAMPLE], env=environment(room)))
+    said = run([found, "-m", "pytest", "-q", "-p", "no:cacheprovider", EXAMPLE], env=environment(room))
+    report("the module for Python: the example for pytest", said)

@@ -6,7 +6,8 @@ const ROW = 40, NOTE = 20;
 const EARLY = ['starts', 'assigned'];
 
 const markers = (name) => `<defs>
-<marker id="tip-${name}-sent" class="sent" viewBox="0 0 8 8" refX="7" refY="4" markerWidth="8" markerHeight="8" orient="auto"><path d="M0 0 8 4 0 8z"/></marker>
+<marker id="tip-${name}-sent" class="sent" viewBox="0 0 8 8" refX="7" refY="4" markerWidth="8" markerHeight="8" orient="auto">
+<path d="M0 0 8 4 0 8z"/></marker>
 <marker id="tip-${name}-lost" viewBox="0 0 8 8" refX="4" refY="4" markerWidth="10" markerHeight="10">
 <path d="M1 1 7 7M7 1 1 7" fill="none" stroke="currentColor"/></marker>
 </defs>`;

@@ -22,7 +22,8 @@ function brief(frame) {
 // What the host says of a frame that it drops: one that is not for it is no fault of the frame.
 function dropNote(text, frame) {
     const meaning = dropMeaning(text, frame);
-    return isNotForUs(text) ? { kind: 'note aside', text: 'not for this host', meaning: `${text}: ${meaning}` } : { kind: 'note drop', text, meaning };
+    if (isNotForUs(text)) return { kind: 'note aside', text: 'not for this host', meaning: `${text}: ${meaning}` };
+    return { kind: 'note drop', text, meaning };
 }
 
 // What the host says besides its frames.
@@ -37,8 +38,8 @@ function frameRow(at, kind, frame) {
     return { at, kind, from: sender(frame), to, frame, texts: [{ kind: 'label', text: brief(frame), meaning: lineOf(frame, 'either') }] };
 }
 
-// The rows of a picture of events. What the host says of a frame is in the row of the frame. A frame that is not valid is red, one that is not for this
-// host grey.
+// The rows of a picture of events. What the host says of a frame is in the row of the frame. A frame that is not valid is red, a valid one that is
+// not for this host grey.
 function hearingRows(events) {
     const rows = [];
     for (const event of events.filter((it) => it.kind !== HEARD)) {

@@ -27,10 +27,11 @@ function laneLayout(box, stations) {
 // The heads of the lines: a letter, and the Ethernet address if there is room for it. The first line is that of the host here.
 function laneHeads({ isNarrow, names, lanes, isNamed }, stations) {
     const text = (x, y, name, said, anchor = 'middle') => drawn('text', { x, y, class: name, 'text-anchor': anchor }, said);
+    const own = isNarrow ? [2, 16, 'host', 'A: this host', 'start'] : [lanes[0], 16, 'host', 'A: this host'];
     return names.flatMap((name, index) => {
         const parts = isNamed && name.length === 1 ? [stations[index].slice(0, 8), stations[index].slice(8)] : [];
-        const letter = index > 0 ? text(lanes[index], 16, 'host', name) : text(isNarrow ? 2 : lanes[0], 16, 'host', 'A: this host', isNarrow ? 'start' : 'middle');
-        return [letter, ...parts.map((part, line) => text(lanes[index], 33 + 15 * line, 'moment', part))];
+        const letter = index > 0 ? [lanes[index], 16, 'host', name] : own;
+        return [text(...letter), ...parts.map((part, line) => text(lanes[index], 33 + 15 * line, 'moment', part))];
     });
 }
 
@@ -44,7 +45,8 @@ const dot = (x, y, kind) => drawn('circle', { cx: x, cy: y, r: 3, class: `head $
 function laneArrow({ kind, to }, begin, reached, y) {
     const ends = reached.filter((it) => it !== begin), line = { x1: Math.min(begin, ...ends), y1: y, x2: Math.max(begin, ...ends), y2: y };
     const dash = to ? {} : { 'stroke-dasharray': '5 3' };
-    return [drawn('line', { ...line, class: `arrow ${kind}`, ...dash }), dot(begin, y, kind), ...ends.map((end) => arrowHead(end, y, Math.sign(end - begin), kind))];
+    const heads = ends.map((end) => arrowHead(end, y, Math.sign(end - begin), kind));
+    return [drawn('line', { ...line, class: `arrow ${kind}`, ...dash }), dot(begin, y, kind), ...heads];
 }
 
 // Where the texts of a row are, and its arrow, from a height on. In a narrow picture the first text is above the arrow, else they are next to it.
@@ -54,8 +56,8 @@ function rowPlace({ texts, from }, y, isNarrow) {
     return { middle, heights, next: Math.max(middle + 26, heights.at(-1) + 24) };
 }
 
-// Shows a picture in `box`, and returns the stations in the order of their lines, of which `own` is the first. A row has a moment, texts, and, if it is a
-// frame, its `kind`, `from` and `to`, which is null for a group.
+// Shows a picture in `box`, and returns the stations in the order of their lines, of which `own` is the first. A row has a moment, texts, and, if it
+// is a frame, its `kind`, `from` and `to`, which is null for a group.
 function stationDiagram({ box, own, rows, label }) {
     const stations = stationsOf(rows, own), layout = laneLayout(box, stations), { isNarrow, width, lanes } = layout;
     const laneOf = (station) => lanes[Math.min(stations.indexOf(station), lanes.length - 1)];

@@ -32,7 +32,8 @@ function routeOf(digits) {
 
 class LinkSummary {
     constructor() {
-        for (const name of ['routers', 'prefixes', 'routes', 'servers', 'names', 'holders', 'trials', 'duplicates', 'invalid']) this[name] = new Map();
+        const names = ['routers', 'prefixes', 'routes', 'servers', 'names', 'holders', 'trials', 'duplicates', 'invalid'];
+        for (const name of names) this[name] = new Map();
     }
     // Takes a frame, with its moment in milliseconds if it has one. A later message is right where two differ.
     take(frame, at) {

@@ -8,6 +8,7 @@ const TABS = {
     capture: { state: captureState, take: takeCapture, show: showCapture },
 };
 const FRAMES_SHOWN_FIRST = { role: EXAMPLES[0].role, text: EXAMPLES[0].digits.join('\n') };
+const BEHIND_ANOTHER = ', to put behind the address of another copy of this page';
 const taken = new Set();
 let remembering = 0;
 
@@ -111,7 +112,8 @@ async function copyLink() {
     const fragment = fragmentOf(shownTab());
     history.replaceState(null, '', fragment);
     if (!fragment.includes('?')) return say('What is shown is too much for a link.');
-    const behind = 'It begins with #. This page is a file of this machine, so others open their own copy of it, and put this behind the end of its address.';
+    const file = 'This page is a file of this machine, so others open their own copy of it, and put this behind the end of its address.';
+    const behind = `It begins with #. ${file}`;
     try {
         await navigator.clipboard.writeText(isFile() ? fragment : location.href);
         return say(isFile() ? `Copied. ${behind}` : 'Copied.');
@@ -170,7 +172,7 @@ async function start() {
     }
     for (const begin of [startPair, startFrames, startRun, startCapture, startFiles]) begin();
     find('link').addEventListener('click', copyLink);
-    if (isFile()) find('link').replaceChildren('Copy what is shown', made('span', 'wide', ', to put behind the address of another copy of this page'));
+    if (isFile()) find('link').replaceChildren('Copy what is shown', made('span', 'wide', BEHIND_ANOTHER));
     addEventListener('input', changed);
     addEventListener('click', showMeaning);
     addEventListener('click', ({ target }) => target.closest('summary') && rowChanged());

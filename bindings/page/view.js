@@ -13,7 +13,8 @@ const LOOKED_AT = { 2: ['type'], 4: ['version, traffic class, flow label'], 5: [
 
 // What is summed up of a link, also if there is none; and how many lines of each are shown.
 const ALWAYS_SUMMED = ['Routers', 'Prefixes', 'DNS servers', 'Addresses', 'Duplicates'], MOST_SUMMED = 40;
-// What the types of ICMPv6 messages and next headers are, of packets that are no messages of Neighbor Discovery (RFC 8200, 4; RFC 4443; RFC 2710 and 3810).
+// What the types of ICMPv6 messages and next headers are, of packets that are no messages of Neighbor Discovery (RFC 8200, 4; RFC 4443; RFC 2710; RFC
+// 3810).
 const ICMPV6_NAMES = { 1: 'an error (ICMPv6)', 2: 'an error (ICMPv6)', 3: 'an error (ICMPv6)', 4: 'an error (ICMPv6)', 128: 'a ping',
     129: 'the answer to a ping', 130: 'a query for groups (MLD)', 131: 'a report of groups (MLD)', 132: 'a group is left (MLD)',
     143: 'a report of groups (MLD)' };
@@ -136,7 +137,7 @@ function summaryElements(packets) {
         if (lines.length === 0 && !ALWAYS_SUMMED.includes(heading)) continue;
         const row = table.insertRow(), more = lines.length - MOST_SUMMED, cell = made('td', '');
         row.append(made('th', '', heading), cell);
-        for (const line of lines.slice(0, MOST_SUMMED)) cell.append(made('div', '', ...line.split(/(?<= )/).flatMap((it) => [...wordParts(it.trimEnd()), ' '])));
+        cell.append(...lines.slice(0, MOST_SUMMED).map((line) => made('div', '', ...line.split(' ').flatMap((it) => [...wordParts(it), ' ']))));
         if (more > 0) cell.append(made('div', 'quiet', `and ${more} more`));
         if (lines.length === 0) cell.append(made('span', 'quiet', 'none seen'));
         if (heading === 'Duplicates' || heading === 'Not valid') cell.classList.toggle('bad', lines.length > 0);
@@ -199,7 +200,8 @@ function rowOf(frame, told, index) {
     const behind = { unread: [`: ${told.line}`], drop: [] }[told.kind] ?? explainedWords('frame', told.line).slice(1);
     const line = made('span', 'line', made('b', '', bold), ...behind), meaning = made('span', 'quiet');
     if (told.reason) meaning.append(`it ${reasonText(told.reason)}: `, sectionElement(sectionOf(told.reason, frame)), hintOf(frame, told));
-    const row = made('details', isNotForUs(told.line) ? 'aside' : told.kind, made('summary', '', made('span', 'nr', String(index + 1)), made('span', '', line, ' ', meaning)));
+    const summary = made('summary', '', made('span', 'nr', String(index + 1)), made('span', '', line, ' ', meaning));
+    const row = made('details', isNotForUs(told.line) ? 'aside' : told.kind, summary);
     row.dataset.index = index;
     row.addEventListener('toggle', () => {
         if (row.open && row.children.length === 1) row.append(openedRow(frame, told));

@@ -1,5 +1,5 @@
-// node summary.mjs PAGE < FILE: what a page of docs/try sums up of the frames of a file, by the parts of its script that need no browser. What is printed
-// is JSON: the lines by their headings.
+// node summary.mjs PAGE < FILE: what a page of docs/try sums up of the frames of a file, by the parts of its script that need no browser. What is
+// printed is JSON: the lines by their headings.
 import { readFileSync } from 'node:fs';
 
 const [, script] = /<script type="module">\n(.*)\n<\/script>/s.exec(readFileSync(process.argv[2], 'utf8'));

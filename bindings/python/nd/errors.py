@@ -11,8 +11,8 @@ class Error(Exception):
 
 
 class NoMemory(Error, MemoryError):
-    """malloc has no room: the memory of nodes is the process's. Take all reports, and make the same call again: for `Node.pass_time` that ends. Another event may be refused
-    for what it adds itself, and is then left out: a frame is as if the link had lost it."""
+    """malloc has no room: the memory of nodes is the process's. Take all reports, and make the same call again: for `Node.pass_time` that ends.
+    Another event may be refused for what it adds itself, and is then left out: a frame is as if the link had lost it."""
 
 
 class Closed(Error):

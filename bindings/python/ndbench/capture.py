@@ -1,5 +1,5 @@
-"""Reads captures: pcap (draft-ietf-opsawg-pcap) and pcapng (draft-ietf-opsawg-pcapng), in both byte orders, with times of any resolution; and frames as
-lines of hexadecimal digits, which have no times."""
+"""Reads captures: pcap (draft-ietf-opsawg-pcap) and pcapng (draft-ietf-opsawg-pcapng), in both byte orders, with times of any resolution; and frames
+as lines of hexadecimal digits, which have no times."""
 from __future__ import annotations
 
 import struct

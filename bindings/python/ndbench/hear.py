@@ -1,5 +1,5 @@
-"""`nd-hear [FILE ..]`: judges frames, one a line in hexadecimal digits, of files or of standard input (`-`, or no FILE). For each it prints the line of
-`ndpctl check` (docs/FORMATS.md): the message with its fields and options, the first reason to drop the frame, or what other packet it is. The exit
+"""`nd-hear [FILE ..]`: judges frames, one a line in hexadecimal digits, of files or of standard input (`-`, or no FILE). For each it prints the line
+of `ndpctl check` (docs/FORMATS.md): the message with its fields and options, the first reason to drop the frame, or what other packet it is. The exit
 status is 0, 2 for a malformed line or a file that cannot be read, and 130 if it is interrupted. All lines before a malformed one are answered."""
 from __future__ import annotations
 

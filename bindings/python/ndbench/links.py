@@ -1,8 +1,8 @@
-"""Packets of the link types that are read, as Ethernet frames without tags: Ethernet (1), and the cooked captures of Linux (LINKTYPE_LINUX_SLL, 113, and
-LINKTYPE_LINUX_SLL2, 276), which `tcpdump -i any` writes. Tags of IEEE 802.1Q are taken off.
+"""Packets of the link types that are read, as Ethernet frames without tags: Ethernet (1), and the cooked captures of Linux (LINKTYPE_LINUX_SLL, 113,
+and LINKTYPE_LINUX_SLL2, 276), which `tcpdump -i any` writes. Tags of IEEE 802.1Q are taken off.
 
-A cooked capture has no Ethernet destination. That of a multicast packet follows from its IPv6 destination (RFC 2464, 7). That of another packet is the
-Ethernet source of the newest packet from that IPv6 address, or zeros if the capture had none."""
+A cooked capture has no Ethernet destination. That of a multicast packet follows from its IPv6 destination (RFC 2464, 7). That of another packet is
+the Ethernet source of the newest packet from that IPv6 address, or zeros if the capture had none."""
 from __future__ import annotations
 
 import struct

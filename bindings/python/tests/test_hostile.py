@@ -18,7 +18,8 @@ from .test_judge import run
 HOST = ["--mac", "34:56:78:9a:bc:de", "--before", "1500"]
 COMMANDS = (["judge"], ["judge", "--json"], ["replay", *HOST], ["compare", "--mac", "02:00:00:00:00:99"], ["picture", *HOST])
 ROUNDS = 150
-ERROR = r"(?m)^ndbench: capture: (packet \d+: |the file header: |the file is empty|it is neither pcap, nor pcapng, nor lines|[0-9a-f:]{17} sends no message)"
+ERROR = (r"(?m)^ndbench: capture: (packet \d+: |the file header: |the file is empty|it is neither pcap, nor pcapng, nor lines|"
+         r"[0-9a-f:]{17} sends no message)")
 
 
 def damaged(content: bytes, chance: random.Random) -> bytes:

@@ -99,7 +99,7 @@ class Lines(unittest.TestCase):
             made.stdin.write(pcap(spaced(example_frames("link.hex")[:1])))
             self.assertEqual(made.stdout.readline().decode(), f"1 0.000000 {example('link.txt').splitlines()[0]}\n")
             made.stdin.close()
-        said = subprocess.run([sys.executable, "-m", "ndbench", "judge", "-"], cwd=PYTHON, input=b"GIF8", capture_output=True, text=False, check=False)
+        said = subprocess.run([sys.executable, "-m", "ndbench", "judge", "-"], cwd=PYTHON, input=b"GIF8", capture_output=True, check=False)
         self.assertEqual((said.returncode, said.stderr.splitlines()[-1]),
                          (2, b"ndbench: standard input: it is neither pcap, nor pcapng, nor lines of hexadecimal digits"))
 

@@ -58,4 +58,5 @@ class Live(unittest.TestCase):
             made.send_signal(signal.SIGINT)
             status, out, err = self.ended(made)
         self.assertEqual((status, err), (1, "3 messages of the other stack, 1 difference\n"))
-        self.assertRegex(out, r"each receiver drops it \[RFC 4861, 6.1.1\]\n    other stack: packet \d+, at \d+ ms: drop 10 HopLimit\n    node: nothing\n\Z")
+        self.assertRegex(out, r"each receiver drops it \[RFC 4861, 6.1.1\]\n"
+                              r"    other stack: packet \d+, at \d+ ms: drop 10 HopLimit\n    node: nothing\n\Z")
