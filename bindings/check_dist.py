@@ -10,6 +10,7 @@ from collections import namedtuple
 from concurrent.futures import ThreadPoolExecutor
 
 import node_programs
+import stack_bound
 from check_programs import (BINDINGS, FEW_NODES, NEEDED, POOL, SMALL, STACK_SAID, TESTS, check_global, check_host, check_keeping, check_lines,
                             check_many, check_router, check_rust, check_stack, check_symbols, check_threads_of_many, check_traces)
 from checking import INCLUDE, IS_FULL, TOP, WARNINGS, has, read, report, report_if, run, skip, timed
@@ -70,6 +71,7 @@ int main(void)
 # README.md's lines for a Cortex-M4, the sentences with the bytes of flash, and the most that they may be.
 M4 = ["arm-none-eabi-gcc", "-mthumb", "-mcpu=cortex-m4", "-Os", "-ffunction-sections", "-fdata-sections"]
 M4_LINKED = ["-nostartfiles", "--specs=nosys.specs", "-Wl,--gc-sections", "-Wl,-e,main"]
+GRAPH = "-fcallgraph-info=su"  # gcc writes the calls of an object and the stack of each, for stack_bound
 FLASH = {"all functions of nd.h": (r"all functions of `nd\.h` take ([\d,]+) bytes", 160_000),
          "a host's loop": (r"a program with the loop of `nd\.h` and `pool\.c` ([\d,]+)", 140_000)}
 
@@ -258,7 +260,7 @@ def flash(room):
     with open(f"{room}/m4_loop.inc", "w", encoding="utf-8") as file:
         file.write(re.sub(r"^ \*", "", header, flags=re.M))
     loop = [f'-DLOOP="{room}/m4_loop.inc"', "-DND_POOL_BYTES=65536", f"{TESTS}/flash.c", f"{DIST}/pool.c", f"{room}/m4.o", "-o", f"{room}/m4"]
-    for words in (["-DND_OWN_MEMORY", "-c", f"{DIST}/nd_small.c", "-o", f"{room}/m4.o"], [*M4_LINKED, *loop]):
+    for words in (["-DND_OWN_MEMORY", GRAPH, "-c", f"{DIST}/nd_small.c", "-o", f"{room}/m4.o"], [*M4_LINKED, *loop]):
         said = run([*M4, "-std=c11", *WARNINGS, f"-I{DIST}", *words])
         if said.returncode:
             return said.stderr
@@ -280,6 +282,19 @@ def check_flash(room):
         is_said = not is_known or number_said(sentence) == taken
         report_if(f"dist/nd_small.c on a Cortex-M4: {what} in {taken} bytes of flash", 0 < taken <= most and is_said,
                   f"README.md has {number_said(sentence)}")
+    check_stack_on_m4(room)
+
+
+def check_stack_on_m4(room):
+    """Requires that no call of nd_small.c, which check_flash has compiled, takes more stack on a Cortex-M4 than nd.h says, with pool.c."""
+    made = f"{room}/m4_pool.o"
+    if not report("dist/pool.c for a Cortex-M4", run([*M4, "-std=c11", *WARNINGS, f"-I{DIST}", GRAPH, "-c", f"{DIST}/pool.c", "-o", made])):
+        return
+    found = stack_bound.bounds(f"{room}/m4.o", [f"{room}/m4.ci", f"{room}/m4_pool.ci"], build.functions(), "arm-none-eabi-objdump")
+    function = max(found, key=lambda name: found[name][0])
+    most, said = found[function][0], int(re.search(STACK_SAID, read(f"{INCLUDE}/nd.h"))[1].replace(",", ""))
+    report_if(f"dist/nd_small.c on a Cortex-M4: {function} takes {most} bytes of stack at most, nd_hear {found['nd_hear'][0]}", 0 < most <= said,
+              f"nd.h says {said}: {' > '.join(found[function][1])}")
 
 
 def has_for_m4():
