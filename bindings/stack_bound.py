@@ -1,8 +1,8 @@
 #!/usr/bin/env python3
-"""stack_bound [--direct] OBJECT GRAPH.. FUNCTION..: how many bytes of stack a call of each function takes at most, and the calls that take them. The graphs are
-those that gcc writes with `-fcallgraph-info=su`, whose names end in `.ci`, and the object is what it compiled. Fails if a function calls itself, calls
-by a pointer, or takes no fixed stack; with `--direct` what is called by a pointer is left out. What the C library takes is not counted: it has no
-graph. OBJDUMP names the program that reads the object, else `objdump`."""
+"""stack_bound [--direct] OBJECT GRAPH.. FUNCTION..: how many bytes of stack a call of each function takes at most, and the calls that take them. The
+graphs are those that gcc writes with `-fcallgraph-info=su`, whose names end in `.ci`, and the object is what it compiled. Fails if a function calls
+itself, calls by a pointer, or takes no fixed stack; with `--direct` what is called by a pointer is left out. What the C library takes is not counted:
+it has no graph. OBJDUMP names the program that reads the object, else `objdump`."""
 import os
 import re
 import subprocess

@@ -39,7 +39,7 @@ class Setup:
     def give_addresses(self, node: nd.Node, record: nd.Record) -> bool:
         """Gives the node its addresses by hand if `record`, which it has just reported, says that its link-local address is assigned: before, they
         would be refused. Returns true if it does."""
-        is_now = isinstance(record, nd.Assigned) and record.address.is_link_local and record.address not in self.addresses
+        is_now = isinstance(record, nd.Assigned) and record.address.is_link_local
         for address in self.addresses if is_now else ():
             node.add_address(node.last_moment(), address)
         return is_now

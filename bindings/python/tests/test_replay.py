@@ -131,6 +131,14 @@ class Text(unittest.TestCase):
                                         f"flags {'rso' if role == 'router' else 'so'} target 2001:db8::5 tlla 34:56:78:9a:bc:de")
             self.assertIn("3600000 drop 19 NotForUs", run(content, *words)[1].splitlines())
 
+    def test_link_local_addresses_by_hand(self) -> None:
+        """The node's own link-local address stays as it is, and another one is tried as each address is."""
+        words = [word for text in ("fe80::3656:78ff:fe9a:bcde", "fe80::5", "2001:db8::5") for word in ("--address", text)]
+        lines = run(pcap([(5_000_000_000, advertisement())]), "replay", *HOST, "--before", "5000", *words)[1].splitlines()
+        assigned = [line for line in lines if " assigned " in line]
+        self.assertEqual(assigned, ["1000 assigned fe80::3656:78ff:fe9a:bcde", "2000 assigned 2001:db8::5", "2000 assigned fe80::5"])
+        self.assertEqual([line for line in lines if "refused" in line or "failed" in line], [])
+
     def test_time_goes_on_after_the_last_packet(self) -> None:
         """The last packet is at 2300 ms, when fe80::2 has 1,800 s left; the other router has its 1,800 s from 1200 ms on."""
         lines = [line for line in replayed("--after", "1800000").splitlines() if "ended" in line]
