@@ -45,10 +45,16 @@ def pytest_generate_tests(metafunc):
 
 
 @pytest.fixture(scope="session")
-def lab(request):
-    """The bench, with links that solicit routers while other tests run."""
+def stack(request):
+    """The class of the stack that is tried."""
     module, name = request.config.getoption("--stack").split(":")
-    lab = Lab(getattr(importlib.import_module(module), name))
+    return getattr(importlib.import_module(module), name)
+
+
+@pytest.fixture(scope="session")
+def lab(stack):
+    """The bench, with links that solicit routers while other tests run."""
+    lab = Lab(stack)
     lab.patient = {
         "alone": lab.link(),
         "usual settings": lab.link(is_plain=False),
@@ -66,9 +72,9 @@ def lab(request):
 
 
 @pytest.fixture
-def judge(request):
+def judge(request, stack):
     """The judge of a test, which gives its verdict behind it."""
-    return Judge(request.node.name)
+    return Judge(request.node.name, stack.DEVIATIONS)
 
 
 @pytest.hookimpl(tryfirst=True)

@@ -2,7 +2,6 @@
 from collections import Counter
 from dataclasses import dataclass, field
 
-from deviations import LIST
 from link import SETTLING
 
 # How much was compared in all tests, and how often each deviation was seen.
@@ -33,7 +32,7 @@ def shown(value):
 class Judge:
     """Judges one test. In a test at random any deviation of the list may show; in another one exactly those have to that are listed for it."""
 
-    def __init__(self, test, deviations=LIST, is_random=False):
+    def __init__(self, test, deviations, is_random=False):
         self.deviations, self.is_random = deviations, is_random
         self.listed = {deviation.name for deviation in deviations if test in deviation.shown_by}
         self.compared, self.seen, self.unlisted = 0, Counter(), []

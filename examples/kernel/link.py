@@ -22,6 +22,8 @@ LONGEST_START = rfc.MAX_RTR_SOLICITATION_DELAY + rfc.RETRANS_TIMER + 4000
 # Milliseconds after the first message of a stack: in its detection, and between its first Router Solicitation and the second one.
 AMIDST = 300
 BETWEEN = rfc.RETRANS_TIMER + rfc.RTR_SOLICITATION_INTERVAL // 2
+# Milliseconds in which a stack hears a frame, and answers it.
+HEARING = 10
 # Milliseconds. So long the two may differ: what is due at one of them is due at the other.
 SETTLING = 400
 names = itertools.count()
@@ -53,9 +55,12 @@ class Lab:
         return links
 
     def wait(self, milliseconds, until=None):
-        """Lets time pass on all links. Returns true once `until` does, and false when the time is over."""
-        end = clock.now() + milliseconds
-        while (now := clock.now()) < end:
+        """Lets time pass on all links, and hears what was sent, also if no time is left. Returns true once `until` does, and false when the time is
+        over."""
+        end, is_over = clock.now() + milliseconds, False
+        while not is_over:
+            now = clock.now()
+            is_over = now >= end
             due = min([end] + [link.next_due() for link in self.links])
             readable, _, _ = select.select([link.wire for link in self.links], [], [], max(0, due - now) / 1000)
             for link in self.links:

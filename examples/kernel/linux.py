@@ -3,6 +3,7 @@ import json
 import socket
 import subprocess
 
+import deviations
 import frames
 import rfc
 from space import Space
@@ -19,6 +20,7 @@ PLAIN = {**USUAL, "ipv6/conf/all/enhanced_dad": 0, "ipv6/conf/e0/enhanced_dad": 
 
 class Linux:
     """The Linux kernel as a host with one interface, e0, whose other end is an interface of the bench."""
+    DEVIATIONS = deviations.LIST
 
     def __init__(self, bench, end, is_plain, transmits):
         """Makes the link. `bench` is the namespace of the interface `end`, `is_plain` turns off what the model leaves out, and `transmits` is

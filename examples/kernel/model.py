@@ -13,10 +13,11 @@ PREFERENCES = {nd.Preference.HIGH: "high", nd.Preference.MEDIUM: "medium", nd.Pr
 
 
 class Model:
-    """A host that starts at `start`, and whose random words are all 0: it draws the least of each range."""
+    """A host that starts at `start`, and sends `transmits` solicitations in a detection. Its random words are all 0, so that it draws the least of
+    each range, unless `draws` gives others."""
 
-    def __init__(self, start, transmits=rfc.DUP_ADDR_DETECT_TRANSMITS):
-        self.node = nd.Node(nd.Options(nd.Role.HOST, frames.MAC, start=start, draws=nd.Word(0), transmits=transmits))
+    def __init__(self, start, transmits=rfc.DUP_ADDR_DETECT_TRANSMITS, draws=nd.Word(0)):
+        self.node = nd.Node(nd.Options(nd.Role.HOST, frames.MAC, start=start, draws=draws, transmits=transmits))
         self.sent = []     # frames, with their moments
         self.records = []  # all else that it reports
 

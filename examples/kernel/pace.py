@@ -4,8 +4,8 @@ import rfc
 # A timer of Linux is late by up to an eighth of its time, the width of a slot of its wheel. RFC 4861, 7.2.2, has "approximately every RetransTimer
 # milliseconds".
 WHEEL = 1 / 8
-# Milliseconds that two clocks round off, and those that a busy machine adds.
-EARLY, LATE = 10, 100
+# Milliseconds that a busy machine adds. A message that is late makes the gap behind it shorter.
+EARLY, LATE = 50, 100
 
 
 def longest(wanted):

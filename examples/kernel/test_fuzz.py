@@ -10,10 +10,13 @@ import frames
 import pace
 import rfc
 from judge import Judge
+from link import HEARING
 
-# How many neighbours are new at a time, and for how many steps, which take less than a resolution or the least ReachableTime.
+# How many neighbours are new at a time, and for how many steps. These take less than DELAY, the least ReachableTime, and a resolution by a long
+# RetransTimer, since what ends by time is not compared here.
 NEIGHBOURS, STEPS = 4, 40
-LONGEST_STEPS = rfc.MAX_MULTICAST_SOLICIT * rfc.RETRANS_TIMER - 500
+LONGEST_STEPS = rfc.DELAY_FIRST_PROBE_TIME - 1000
+LONG_RETRANS = 10 * rfc.RETRANS_TIMER
 MACS = ("02:00:00:00:00:b1", "02:00:00:00:00:b2")
 ROUTERS = ((frames.ROUTER, frames.ROUTER_MAC), ("fe80::fd", "02:00:00:00:00:fd"))
 LIFETIMES = (0, 1, 60, 3600, rfc.TWO_HOURS - 1, rfc.TWO_HOURS, rfc.TWO_HOURS + 1, 9000, 86400, rfc.INFINITY)
@@ -56,7 +59,7 @@ def act(link, draw, neighbour, far):
 @pytest.fixture(scope="module")
 def link(lab):
     [link] = lab.settled(1)
-    link.send(frames.ra())
+    link.send(frames.ra(retranstimer=LONG_RETRANS))
     yield link
     link.close()
 
@@ -68,8 +71,8 @@ def forget(link, neighbours):
         link.forget(neighbour)
 
 
-def test_random_messages(link, seed, steps):
-    draw, judge, names, neighbours, left, begun = random.Random(seed), Judge("", is_random=True), itertools.count(), [], 0, 0
+def test_random_messages(link, stack, seed, steps):
+    draw, judge, names, neighbours, left, begun = random.Random(seed), Judge("", stack.DEVIATIONS, is_random=True), itertools.count(), [], 0, 0
     for step in range(steps):
         if left == 0 or clock.now() > begun + LONGEST_STEPS:
             forget(link, neighbours)
@@ -79,7 +82,7 @@ def test_random_messages(link, seed, steps):
         before, event = link.stack.neighbours(), {"first_hop": link.model.next_hop(clock.now(), far), "routers": link.stack.routers()}
         event["message"], event["frame"] = act(link, draw, neighbour, far)
         event.update(before=before, state=before[neighbour].state if neighbour in before else None)
-        link.wait(5)
+        link.wait(HEARING)
         for address in judge.compare_settled(link, "neighbours", only=neighbours, **event):
             link.forget(address)
     judge.verdict()
@@ -109,17 +112,17 @@ def advertise(link, draw, judge, steps):
     for _ in range(steps):
         frame, before = bytes(advertisement_of(draw)), link.stack.prefixes()
         link.send(frame)
-        yield pace.longest(rfc.RETRANS_TIMER) if draw.random() < 0.1 else 20
+        yield pace.longest(rfc.RETRANS_TIMER) if draw.random() < 0.1 else HEARING
         for table in ("addresses", "routers", "prefixes"):
             judge.compare_settled(link, table, settling=pace.LONGEST_DETECTION, frame=frame, before=before, passed=link.passed())
         make_alike(link, frame)
 
 
 @pytest.fixture(scope="module")
-def advertised(lab, seeds, steps):
+def advertised(lab, stack, seeds, steps):
     """The judges of Router Advertisements at random, for each seed, and the errors."""
     links = dict(zip(seeds, lab.settled(len(seeds))))
-    judges = {seed: Judge("", is_random=True) for seed in seeds}
+    judges = {seed: Judge("", stack.DEVIATIONS, is_random=True) for seed in seeds}
     errors = lab.run({seed: advertise(links[seed], random.Random(seed), judges[seed], steps // 4) for seed in seeds})
     for link in links.values():
         link.close()

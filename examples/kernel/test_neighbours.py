@@ -4,7 +4,9 @@ import itertools
 import pytest
 
 import frames
+import pace
 import rfc
+from link import HEARING
 
 # What an advertisement says of its target's link-layer address: nothing, the one that is known, or another one.
 MACS = {"none": None, "same": frames.PEER_MAC, "other": frames.OTHER_MAC}
@@ -12,6 +14,8 @@ ADVERTISEMENTS = [f"NA-S{solicited}-O{override}-R{router}-{mac}" for solicited i
 OTHERS = [f"{kind}-{mac}" for kind in ("NS", "RS", "RA", "Redirect") for mac in ("same", "other")]
 MESSAGES = ADVERTISEMENTS + OTHERS + ["packet"]
 STATES = ["absent", "INCOMPLETE", "STALE", "REACHABLE", "DELAY"]
+# A Retrans Timer that a router announces, in milliseconds.
+LONG_RETRANS = 10 * rfc.RETRANS_TIMER
 NEIGHBOUR = "fe80::5"
 SOLICITED = {"solicited": 1, "override": 1, "tlla": frames.PEER_MAC}
 BAD_ADVERTISEMENTS = {
@@ -62,12 +66,13 @@ def lead(link, neighbour, state):
     if state in ("STALE", "DELAY"):
         enter(link, neighbour)
     if state == "DELAY":
+        link.wait(HEARING)
         link.packet(neighbour)
 
 
 def cell(link, judge, neighbour, state, name):
     """Does what a cell of the table says, and compares the entry before and after, and what is sent to it."""
-    link.wait(5)
+    link.wait(HEARING)
     before, model = link.both("neighbour", neighbour)
     judge.compare("neighbour before", before, model, neighbour, state=state)
     assert (before.state if before else "absent") == state
@@ -76,7 +81,7 @@ def cell(link, judge, neighbour, state, name):
         link.packet(neighbour)
     else:
         link.send(message_of(name, neighbour))
-    link.wait(5)
+    link.wait(HEARING)
     judge.compare("neighbour", *link.both("neighbour", neighbour), neighbour, state=state, message=name)
     judge.compare("packets", *link.packets(neighbour), neighbour, state=state, message=name)
     link.forget(neighbour)
@@ -102,9 +107,10 @@ def test_cell(cached, judge, state, name):
 def test_advertisement_of_a_neighbour(cached, judge, name):
     """Advertisements, good and bad, of a neighbour that is INCOMPLETE (RFC 4861, 7.1.2)."""
     cached.packet(NEIGHBOUR)
+    cached.wait(HEARING)
     cached.clear()
     cached.send(BAD_ADVERTISEMENTS[name])
-    cached.wait(5)
+    cached.wait(HEARING)
     judge.compare("neighbour", *cached.both("neighbour", NEIGHBOUR), NEIGHBOUR, why=cached.model.why())
     judge.compare("packets", *cached.packets(NEIGHBOUR), NEIGHBOUR)
     cached.forget(NEIGHBOUR)
@@ -112,14 +118,14 @@ def test_advertisement_of_a_neighbour(cached, judge, name):
 
 @pytest.fixture(scope="module")
 def probed(cached):
-    """Neighbours in PROBE, one for each message: DELAY is over for all of them, and none has failed yet."""
+    """Neighbours in PROBE, one for each message. A router announces a long RetransTimer, so that none fails before all were tried."""
+    cached.send(frames.ra(retranstimer=LONG_RETRANS))
     neighbours = {name: f"fe80::{next(numbers):x}" for name in MESSAGES}
     for neighbour in neighbours.values():
         lead(cached, neighbour, "DELAY")
-    begun = cached.model.node.last_moment()
-    cached.wait(rfc.DELAY_FIRST_PROBE_TIME + 500)
-    assert cached.model.node.last_moment() - begun < rfc.DELAY_FIRST_PROBE_TIME + rfc.RETRANS_TIMER
-    return neighbours
+    cached.wait(pace.longest(rfc.DELAY_FIRST_PROBE_TIME))
+    yield neighbours
+    cached.send(frames.ra(retranstimer=rfc.RETRANS_TIMER))
 
 
 @pytest.mark.parametrize("name", MESSAGES)

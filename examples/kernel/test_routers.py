@@ -3,6 +3,7 @@ test_times."""
 import pytest
 
 import frames
+from link import HEARING
 
 SECOND, SECOND_MAC = "fe80::fd", "02:00:00:00:00:fd"
 THIRD, THIRD_MAC = "fe80::fc", "02:00:00:00:00:fc"
@@ -28,7 +29,7 @@ def second(link, **fields):
 
 def compare(link, judge, *destinations, **event):
     """Compares the list of routers, and where packets to the destinations go."""
-    link.wait(5)
+    link.wait(HEARING)
     judge.compare_rows("routers", link.both("routers"), **event)
     for destination in destinations:
         judge.compare("next hop", *link.both("next_hop", destination), destination, **event)
@@ -84,7 +85,7 @@ def test_no_router(links, judge):
     """A packet without a next hop is lost."""
     link = links["no router"]
     link.send(frames.ra(lifetime=0))
-    link.wait(5)
+    link.wait(HEARING)
     judge.compare("has a next hop", *link.packet(FAR), FAR)
 
 
@@ -93,11 +94,12 @@ def test_redirect(links, judge, name):
     link = links[name]
     if name == "of a router that is not used":
         second(link, prf=3)
+        link.wait(HEARING)
     event = {"frame": bytes(REDIRECTS[name]), "first_hop": frames.ROUTER, "routers": link.stack.routers(), "before": link.stack.neighbours()}
     link.send(REDIRECTS[name])
     compare(link, judge, FAR, ALSO_FAR, **event)
     judge.compare_rows("neighbours", link.both("neighbours"), **event)
     link.clear()
     link.packet(FAR)
-    link.wait(20)
+    link.wait(HEARING)
     judge.compare("packets", *link.packets(FAR), FAR, **event)

@@ -7,10 +7,11 @@ import frames
 import pace
 import rfc
 from judge import Judge
+from link import HEARING
 from test_routers import FAR, SECOND, SECOND_MAC, compare, second
 
 # What a router announces as its Retrans Timer and its Reachable Time, in milliseconds.
-RETRANS, BASE = 400, 2000
+RETRANS, BASE = 700, 2000
 NEIGHBOUR = "fe80::5"
 
 
@@ -57,9 +58,9 @@ def late_answer(link, judge):
     """The answer to the second solicitation releases what waits."""
     link.packet(NEIGHBOUR)
     yield pace.longest(rfc.RETRANS_TIMER)
+    assert entry(link, judge).state == "INCOMPLETE"
     answer(link)
-    yield 20
-    solicitations(link, judge)
+    yield HEARING
     judge.compare("packets", *link.packets(NEIGHBOUR), NEIGHBOUR)
     assert entry(link, judge).state == "REACHABLE"
 
@@ -68,15 +69,16 @@ def packets_wait(link, judge):
     """Five packets to a neighbour that is not resolved."""
     for content in (b"1", b"2", b"3", b"4", b"5"):
         link.packet(NEIGHBOUR, content)
-    yield 20
+    yield HEARING
     answer(link)
-    yield 20
+    yield 3 * HEARING
     judge.compare("packets that waited", *link.packets(NEIGHBOUR), NEIGHBOUR)
 
 
 def probing(link, judge):
     """STALE, a packet, DELAY, three probes, and then there is no entry."""
     enter(link)
+    yield HEARING
     link.packet(NEIGHBOUR)
     begun = clock.now()
     yield rfc.DELAY_FIRST_PROBE_TIME - 500
@@ -89,32 +91,34 @@ def probing(link, judge):
 
 
 def answered_probe(link, judge):
-    """The answer to the first probe makes the neighbour REACHABLE, and there is no second one."""
+    """The answer to a probe makes the neighbour REACHABLE, and there is no probe after it."""
     enter(link)
+    yield HEARING
     link.packet(NEIGHBOUR)
     yield pace.longest(rfc.DELAY_FIRST_PROBE_TIME)
     assert entry(link, judge).state == "PROBE"
     answer(link)
+    yield HEARING
     assert entry(link, judge).state == "REACHABLE"
+    link.clear()
     yield pace.longest(rfc.RETRANS_TIMER)
-    kernel, model = link.messages(frames.NS)
-    judge.compare("probes", len(kernel), len(model))
+    judge.compare("probes after the answer", *link.messages(frames.NS))
 
 
 def reachable_time(link, judge, is_used=True):
     """REACHABLE lasts for ReachableTime, which each draws from the range of the router's base (RFC 4861, 6.3.2 and 6.3.4)."""
     link.send(frames.ra(reachabletime=BASE))
     enter(link)
-    yield 0 if is_used else pace.longest(rfc.DELAY_FIRST_PROBE_TIME)
+    yield HEARING if is_used else pace.longest(rfc.DELAY_FIRST_PROBE_TIME)
     if is_used:
         link.packet(NEIGHBOUR)
     begun, ends = clock.now(), {}
     answer(link)
-    yield 20
+    yield HEARING
     assert entry(link, judge).state == "REACHABLE"
     least, most = rfc.reachable_range(BASE)
     while len(ends) < 2 and clock.now() < begun + 2 * most:
-        yield 20
+        yield 2 * HEARING
         for name, now in (("kernel", link.stack.neighbour(NEIGHBOUR)), ("model", link.model.neighbour(clock.now(), NEIGHBOUR))):
             if now.state != "REACHABLE":
                 ends.setdefault(name, (clock.now() - begun, now.state))
@@ -141,6 +145,7 @@ def silent_target(link, judge):
     """A Redirect ends when its target has failed (RFC 4861, 7.3.3)."""
     link.send(frames.ra())
     link.send(frames.redirect(SECOND, FAR, tlla=SECOND_MAC))
+    yield HEARING
     link.packet(FAR)
     yield pace.UNTIL_UNREACHABLE
     compare(link, judge, FAR, silent_target=SECOND)
@@ -168,10 +173,10 @@ SCENARIOS = {scenario.__name__: scenario for scenario in (
 
 
 @pytest.fixture(scope="module")
-def done(lab):
+def done(lab, stack):
     """The judges of the scenarios, and their errors, once all have been run."""
     links = dict(zip(SCENARIOS, lab.settled(len(SCENARIOS))))
-    judges = {name: Judge(f"test_in_time[{name}]") for name in SCENARIOS}
+    judges = {name: Judge(f"test_in_time[{name}]", stack.DEVIATIONS) for name in SCENARIOS}
     errors = lab.run({name: scenario(links[name], judges[name]) for name, scenario in SCENARIOS.items()})
     for link in links.values():
         link.close()
