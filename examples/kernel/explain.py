@@ -36,11 +36,14 @@ def is_solicited_no_more(found):
 
 
 def is_own_advertisement(found):
-    return found.key == frames.OWN == frames.source(found.event["frame"]) and found.kernel is None
+    frame = found.event.get("frame")
+    return frame and found.key == frames.OWN == frames.source(frame) and found.kernel is None
 
 
 def is_option_passed_over(found):
     """Of the options for the prefix the kernel takes only those whose preferred lifetime is not above the valid one; the model takes all."""
+    if "frame" not in found.event:
+        return False
     options = frames.lifetimes_on_link(found.event["frame"], found.key)
     good = [(valid, preferred) for valid, preferred in options if preferred <= valid]
     rows = [prefix_after(found.event["before"].get(found.key), taken, found.event["passed"]) for taken in (good, options)]

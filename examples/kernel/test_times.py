@@ -16,7 +16,7 @@ NEIGHBOUR = "fe80::5"
 
 
 def solicitations(link, judge):
-    """Compares the Neighbor Solicitations, but for their times, and returns who sent which."""
+    """Compares the Neighbor Solicitations, but for their times. Returns those of the kernel and those of the model, each behind a name."""
     kernel, model = link.messages(frames.NS)
     judge.compare("neighbor solicitations", [frame for _, frame in kernel], [frame for _, frame in model])
     return ("kernel", kernel), ("model", model)
