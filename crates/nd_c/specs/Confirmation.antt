@@ -4,8 +4,10 @@ use Rattle.nd_addr.specs.declared.addr.Addr.{Addr}
 use Rattle.nd_node.specs.Node.{last_of}
 use Rattle.nd_node.specs.Time.{Onward}
 use Rattle.nd_session.specs.Confirmation.{TakenAs}
+use Rattle.nd_session.specs.Advancing.{AdvancesIfReady}
 use Rattle.nd_session.specs.Event.{LedBy}
 use Rattle.nd_session.specs.Leases.{KeepsLeases}
+use Rattle.nd_session.specs.Ready.{KeepsReady}
 use Rattle.nd_session.specs.declared.confirmation.Confirmation.{Confirmation}
 use Rattle.nd_session.specs.declared.confirmation.Confirmation.TheVariants.{Past, Taken, Unneeded}
 use Rattle.nd_session.specs.declared.session.Session.{Session}
@@ -22,8 +24,9 @@ status_of_sign Unneeded = nothing
 pub record Signs (now : ℕ) (destination : Addr) (least : ℕ) (status : ℤ) (old new : Session) : Type 0 where
   pub early : now < last_of old.node → (status ≡ past) × (new ≡ old)
   pub leases : KeepsLeases old new
+  pub ready : KeepsReady old new
   pub taken : last_of old.node ≤ now
-      → ((status ≡ no_memory) × LedBy old new (Onward now))
+      → ((status ≡ no_memory) × LedBy old new (Onward now) × AdvancesIfReady now old new)
       ⊎ ((confirmation : Confirmation) × TakenAs now destination least confirmation old new × (status ≡ status_of_sign confirmation))
 
 -- A slot takes a sign.

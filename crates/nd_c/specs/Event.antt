@@ -5,8 +5,10 @@ use Rattle.nd_chronicle.specs.Event.{Event}
 use Rattle.nd_node.specs.Event.{FollowsBy}
 use Rattle.nd_node.specs.Node.{last_of}
 use Rattle.nd_node.specs.Time.{Onward}
+use Rattle.nd_session.specs.Advancing.{AdvancesIfReady}
 use Rattle.nd_session.specs.Event.{LedBy}
 use Rattle.nd_session.specs.Leases.{KeepsLeases}
+use Rattle.nd_session.specs.Ready.{KeepsReady}
 use Rattle.nd_session.specs.declared.session.Session.{Session}
 use Rattle.nd_c_types.specs.Refusal.{refused}
 use Rattle.nd_c.specs.Status.{done, nothing, no_memory, closed, invalid, past}
@@ -19,12 +21,15 @@ status_of (Refused refusal) = refused refusal
 status_of (Past last) = past
 
 -- A session receives an event. If its moment is past, nothing changes. Else what is due up to it is done, and then it adds what it adds, and the
--- status says how it was answered. When out of memory a part of what is due is done, and the event adds nothing.
+-- status says how it was answered. When out of memory a part of what is due is done, and the event adds nothing: if no report was left to take, the first
+-- thing that is due is done at least. The session is ready for the next thing then if it was.
 pub record Comes (now : ℕ) (event : Event) (status : ℤ) (old new : Session) : Type 0 where
   pub early : now < last_of old.node → (status ≡ past) × (new ≡ old)
   pub leases : KeepsLeases old new
+  pub ready : KeepsReady old new
   pub comes : last_of old.node ≤ now
-      → ((status ≡ no_memory) × LedBy old new (Onward now)) ⊎ ((answer : Answer) × (status ≡ status_of answer) × LedBy old new (FollowsBy now event answer))
+      → ((status ≡ no_memory) × LedBy old new (Onward now) × AdvancesIfReady now old new)
+      ⊎ ((answer : Answer) × (status ≡ status_of answer) × LedBy old new (FollowsBy now event answer))
 
 -- A slot receives an event, with a session in it or without one.
 pub record Answers (now : ℕ) (event : Event) (status : ℤ) (old new : Option Session) : Type 0 where

@@ -3,7 +3,9 @@ use Rattle.std.specs.Prelude.{◌≡◌, ℕ, ◌<◌, ◌≤◌, ◌^◌, ◌�
 use Rattle.nd_addr.specs.declared.addr.Addr.{Addr}
 use Rattle.nd_node.specs.Node.{last_of}
 use Rattle.nd_node.specs.Time.{Onward, Passes}
+use Rattle.nd_session.specs.Advancing.{AdvancesIfReady}
 use Rattle.nd_session.specs.Leases.{KeepsLeases}
+use Rattle.nd_session.specs.Ready.{KeepsReady}
 use Rattle.nd_session.specs.declared.session.Session.{Session}
 use Rattle.nd_c_types.specs.declared.next_hop.NextHopRow.{NextHopRow}
 use Rattle.nd_c.specs.Status.{no_memory, closed, invalid, past}
@@ -15,8 +17,10 @@ use Rattle.nd_c.specs.Rows.{HopTo}
 pub record Hops (now : ℕ) (destination : Addr) (status : ℤ) (old new : Session) (row_old row_new : NextHopRow) : Type 0 where
   pub early : now < last_of old.node → (status ≡ past) × (new ≡ old) × (row_new ≡ row_old)
   pub leases : KeepsLeases old new
+  pub ready : KeepsReady old new
   pub hop : last_of old.node ≤ now
-      → ((status ≡ no_memory) × LedBy old new (Onward now) × (row_new ≡ row_old)) ⊎ (LedBy old new (Passes now) × ((found : Option NextHopRow) × HopTo now destination new found × Writes found status row_old row_new))
+      → ((status ≡ no_memory) × LedBy old new (Onward now) × AdvancesIfReady now old new × (row_new ≡ row_old))
+      ⊎ (LedBy old new (Passes now) × ((found : Option NextHopRow) × HopTo now destination new found × Writes found status row_old row_new))
 
 -- A slot is asked.
 pub record HopAnswer (now : ℕ) (destination : Addr) (status : ℤ) (before after : Option Session) (row_old row_new : NextHopRow) : Type 0 where

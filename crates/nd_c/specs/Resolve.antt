@@ -6,8 +6,10 @@ use Rattle.nd_out.specs.declared.out.Way.{Way}
 use Rattle.nd_out.specs.declared.out.Way.TheVariants.{NoRoute, To}
 use Rattle.nd_node.specs.Node.{last_of}
 use Rattle.nd_node.specs.Time.{Onward}
+use Rattle.nd_session.specs.Advancing.{AdvancesIfReady}
 use Rattle.nd_session.specs.Event.{LedBy}
 use Rattle.nd_session.specs.Leases.{KeepsLeases}
+use Rattle.nd_session.specs.Ready.{KeepsReady}
 use Rattle.nd_session.specs.Resolve.{AnsweredBy}
 use Rattle.nd_session.specs.declared.resolve.PathAnswer.{PathAnswer}
 use Rattle.nd_session.specs.declared.resolve.PathAnswer.TheVariants.{Past, Refused, Path}
@@ -34,8 +36,9 @@ Says now destination version (Path way state until) status old new = (status ≡
 pub record Finds (now : ℕ) (destination : Addr) (status : ℤ) (old new : Session) (row_old row_new : PathRow) : Type 0 where
   pub early : now < last_of old.node → (status ≡ past) × (new ≡ old) × (row_new ≡ row_old)
   pub leases : KeepsLeases old new
+  pub ready : KeepsReady old new
   pub path : last_of old.node ≤ now
-      → ((status ≡ no_memory) × LedBy old new (Onward now) × (row_new ≡ row_old))
+      → ((status ≡ no_memory) × LedBy old new (Onward now) × AdvancesIfReady now old new × (row_new ≡ row_old))
       ⊎ ((answer : PathAnswer) × AnsweredBy now destination answer old new × Says now destination new.paths.leases answer status row_old row_new)
 
 -- A slot is asked.

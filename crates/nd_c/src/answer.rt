@@ -3,14 +3,17 @@
 ghost use Rattle.std.specs.Prelude.{◌≡◌};
 ghost use Rattle.nd_table.specs.Moment.{IsMoment};
 ghost use Rattle.nd_node.specs.Answer.{answer_of};
+ghost use Rattle.nd_session.specs.Advancing.{AdvancesOnErr};
 ghost use Rattle.nd_session.specs.Event.{Takes};
 ghost use Rattle.nd_session.specs.Leases.{KeepsLeases};
+ghost use Rattle.nd_session.specs.Ready.{KeepsReady};
 ghost use Rattle.nd_c.specs.Event.{Answers, Comes, status_of};
 ghost use Rattle.nd_c.specs.Given.{event_given};
 
-use crate::status::{CLOSED, DONE, INVALID, NO_MEMORY, NOTHING, PAST};
+use crate::call::with_session;
+use crate::status::{DONE, NO_MEMORY, NOTHING, PAST};
 use nd_addr::Addr;
-use nd_c_types::{MOMENT_LIMIT, refused};
+use nd_c_types::refused;
 use nd_node::{Answer, Event};
 use nd_session::{Session, Slot};
 use std::alloc::{AllocError, Global};
@@ -36,20 +39,12 @@ pub(crate) enum Given<'a> {
 pub(crate) fn answer(alloc: Global, node: &mut Slot, now: u64, given: Given<'_>) -> i32
     ensures { Answers now (event_given given.entry) result node.old.handle.session node.new.handle.session }
 {
-    if now >= MOMENT_LIMIT {
-        return INVALID;
-    }
-    let Some(mut session) = node.take(alloc) else {
-        return CLOSED;
-    };
-    let status = comes(&mut session, now, given);
-    node.put(session);
-    status
+    with_session!(alloc, node, now, session => comes(&mut session, now, given))
 }
 
 /// Gives an event to a session, at `now` in milliseconds, and returns the status.
 #[inline(always)]
-pub(crate) fn comes(session: &mut Session, now: u64, given: Given<'_>) -> i32
+fn comes(session: &mut Session, now: u64, given: Given<'_>) -> i32
     requires { IsMoment now }
     ensures { Comes now (event_given given.entry) result session.old session.new }
 {
@@ -66,6 +61,8 @@ fn give(session: &mut Session, now: u64, given: Given<'_>) -> Result<Answer, All
     requires { IsMoment now }
     ensures takes { Takes now (event_given given.entry) result session.old session.new }
     ensures leases { KeepsLeases session.old session.new }
+    ensures ready { KeepsReady session.old session.new }
+    ensures advances { AdvancesOnErr now result session.old session.new }
 {
     match given {
         Given::Event(event) => session.event(now, event),
@@ -80,7 +77,7 @@ fn give(session: &mut Session, now: u64, given: Given<'_>) -> Result<Answer, All
 }
 
 /// Returns the status that says how the node took an event.
-fn status_of(answer: Answer) -> i32
+pub(crate) fn status_of(answer: Answer) -> i32
     ensures { result ≡ status_of (answer_of answer) }
 {
     match answer {

@@ -4,9 +4,9 @@ ghost use Rattle.std.specs.Prelude.{◌≡◌};
 ghost use Rattle.nd_table.specs.Moment.{IsMoment};
 ghost use Rattle.nd_c.specs.Confirmation.{SignTaken, Signs, status_of_sign};
 
-use crate::status::{CLOSED, DONE, INVALID, NO_MEMORY, NOTHING, PAST};
+use crate::call::with_session;
+use crate::status::{DONE, NO_MEMORY, NOTHING, PAST};
 use nd_addr::Addr;
-use nd_c_types::MOMENT_LIMIT;
 use nd_session::{Confirmation, Session, Slot};
 use std::alloc::Global;
 
@@ -22,15 +22,7 @@ pub extern "C" fn nd_confirm_to(
 ) -> i32
     ensures { SignTaken now (record { 0 = destination.now }) least result node.old.handle.session node.new.handle.session }
 {
-    if now >= MOMENT_LIMIT {
-        return INVALID;
-    }
-    let Some(mut session) = node.take(alloc) else {
-        return CLOSED;
-    };
-    let status = sign(&mut session, now, Addr(*destination), least);
-    node.put(session);
-    status
+    with_session!(alloc, node, now, session => sign(&mut session, now, Addr(*destination), least))
 }
 
 /// Does what is due up to `now`, in milliseconds, and takes the sign.

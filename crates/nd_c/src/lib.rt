@@ -8,6 +8,7 @@
 mod all_rows;
 mod answer;
 mod bytes;
+mod call;
 mod confirmation;
 mod events;
 mod hear;

@@ -3,11 +3,12 @@
 ghost use Rattle.nd_table.specs.Moment.{IsMoment};
 ghost use Rattle.nd_c.specs.NextHop.{Hops, HopAnswer};
 
+use crate::call::with_session;
 use crate::questions::write;
 use crate::rows::hop_to;
-use crate::status::{CLOSED, INVALID, NO_MEMORY, PAST};
+use crate::status::{NO_MEMORY, PAST};
 use nd_addr::Addr;
-use nd_c_types::{MOMENT_LIMIT, NextHopRow};
+use nd_c_types::NextHopRow;
 use nd_session::{Session, Slot};
 use std::alloc::Global;
 
@@ -22,15 +23,7 @@ pub extern "C" fn nd_next_hop(
 ) -> i32
     ensures { HopAnswer now (record { 0 = destination.now }) result node.old.handle.session node.new.handle.session row.old row.new }
 {
-    if now >= MOMENT_LIMIT {
-        return INVALID;
-    }
-    let Some(mut session) = node.take(alloc) else {
-        return CLOSED;
-    };
-    let status = find_hop(&mut session, now, Addr(*destination), row);
-    node.put(session);
-    status
+    with_session!(alloc, node, now, session => find_hop(&mut session, now, Addr(*destination), row))
 }
 
 /// Does what is due up to `now`, in milliseconds, and writes the next hop.

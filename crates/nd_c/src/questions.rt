@@ -6,12 +6,13 @@ ghost use Rattle.nd_c.specs.Question.{Asked, Writes};
 ghost use Rattle.nd_c.specs.Status.{past};
 ghost use Rattle.nd_c.specs.Rows.{AddressAt, AdvertisingOf, CountsOf, NameAt, NeighbourAt, NeighbourOf, OfferAt, ParametersOf, PrefixAt, RedirectAt, RouteAt, RouterAt, ServerAt};
 
+use crate::call::with_session;
 use crate::rows;
-use crate::status::{CLOSED, DONE, INVALID, NOTHING, PAST};
+use crate::status::{DONE, NOTHING, PAST};
 use nd_addr::Addr;
 use nd_c_types::{
-    AddressRow, Advertising, CountsRow, MOMENT_LIMIT, NameRow, NeighbourRow, OfferRow,
-    ParametersRow, PrefixRow, RedirectRow, RouteRow, RouterRow, ServerRow,
+    AddressRow, Advertising, CountsRow, NameRow, NeighbourRow, OfferRow, ParametersRow, PrefixRow,
+    RedirectRow, RouteRow, RouterRow, ServerRow,
 };
 use nd_session::{Session, Slot};
 use std::alloc::Global;
@@ -51,16 +52,10 @@ pub extern "C" fn nd_neighbour_at(
 ) -> i32
     ensures { Asked now (NeighbourAt now index) result node.old.handle.session node.new.handle.session row.old row.new }
 {
-    if now >= MOMENT_LIMIT {
-        return INVALID;
-    }
-    let Some(session) = node.take(alloc) else {
-        return CLOSED;
-    };
-    let found = rows::neighbour_at(&session, now, index);
-    let status = tell(&session, now, found, row);
-    node.put(session);
-    status
+    with_session!(alloc, node, now, session => {
+        let found = rows::neighbour_at(&session, now, index);
+        tell(&session, now, found, row)
+    })
 }
 
 /// Writes a default router, in the order in which they entered the list (RFC 4861, section 5.1).
@@ -74,16 +69,10 @@ pub extern "C" fn nd_router_at(
 ) -> i32
     ensures { Asked now (RouterAt now index) result node.old.handle.session node.new.handle.session row.old row.new }
 {
-    if now >= MOMENT_LIMIT {
-        return INVALID;
-    }
-    let Some(session) = node.take(alloc) else {
-        return CLOSED;
-    };
-    let found = rows::router_at(&session, now, index);
-    let status = tell(&session, now, found, row);
-    node.put(session);
-    status
+    with_session!(alloc, node, now, session => {
+        let found = rows::router_at(&session, now, index);
+        tell(&session, now, found, row)
+    })
 }
 
 /// Writes a prefix on the link, in the order in which they entered the list (RFC 4861, section 5.1).
@@ -97,16 +86,10 @@ pub extern "C" fn nd_prefix_at(
 ) -> i32
     ensures { Asked now (PrefixAt now index) result node.old.handle.session node.new.handle.session row.old row.new }
 {
-    if now >= MOMENT_LIMIT {
-        return INVALID;
-    }
-    let Some(session) = node.take(alloc) else {
-        return CLOSED;
-    };
-    let found = rows::prefix_at(&session, now, index);
-    let status = tell(&session, now, found, row);
-    node.put(session);
-    status
+    with_session!(alloc, node, now, session => {
+        let found = rows::prefix_at(&session, now, index);
+        tell(&session, now, found, row)
+    })
 }
 
 /// Writes one of the node's own addresses, in the order of addresses (RFC 4862, section 5).
@@ -120,16 +103,10 @@ pub extern "C" fn nd_address_at(
 ) -> i32
     ensures { Asked now (AddressAt now index) result node.old.handle.session node.new.handle.session row.old row.new }
 {
-    if now >= MOMENT_LIMIT {
-        return INVALID;
-    }
-    let Some(session) = node.take(alloc) else {
-        return CLOSED;
-    };
-    let found = rows::address_at(&session, now, index);
-    let status = tell(&session, now, found, row);
-    node.put(session);
-    status
+    with_session!(alloc, node, now, session => {
+        let found = rows::address_at(&session, now, index);
+        tell(&session, now, found, row)
+    })
 }
 
 /// Writes a DNS server, in the order in which they entered the list (RFC 8106, section 6.1).
@@ -143,16 +120,10 @@ pub extern "C" fn nd_server_at(
 ) -> i32
     ensures { Asked now (ServerAt now index) result node.old.handle.session node.new.handle.session row.old row.new }
 {
-    if now >= MOMENT_LIMIT {
-        return INVALID;
-    }
-    let Some(session) = node.take(alloc) else {
-        return CLOSED;
-    };
-    let found = rows::server_at(&session, now, index);
-    let status = tell(&session, now, found, row);
-    node.put(session);
-    status
+    with_session!(alloc, node, now, session => {
+        let found = rows::server_at(&session, now, index);
+        tell(&session, now, found, row)
+    })
 }
 
 /// Writes a DNS search name, in the order in which they entered the list (RFC 8106, section 6.1).
@@ -166,16 +137,10 @@ pub extern "C" fn nd_name_at(
 ) -> i32
     ensures { Asked now (NameAt now index) result node.old.handle.session node.new.handle.session row.old row.new }
 {
-    if now >= MOMENT_LIMIT {
-        return INVALID;
-    }
-    let Some(session) = node.take(alloc) else {
-        return CLOSED;
-    };
-    let found = rows::name_at(&session, now, index);
-    let status = tell(&session, now, found, row);
-    node.put(session);
-    status
+    with_session!(alloc, node, now, session => {
+        let found = rows::name_at(&session, now, index);
+        tell(&session, now, found, row)
+    })
 }
 
 /// Writes a Redirect in force, the newest first (RFC 4861, section 8.3).
@@ -189,16 +154,10 @@ pub extern "C" fn nd_redirect_at(
 ) -> i32
     ensures { Asked now (RedirectAt index) result node.old.handle.session node.new.handle.session row.old row.new }
 {
-    if now >= MOMENT_LIMIT {
-        return INVALID;
-    }
-    let Some(session) = node.take(alloc) else {
-        return CLOSED;
-    };
-    let found = rows::redirect_at(&session, index);
-    let status = tell(&session, now, found, row);
-    node.put(session);
-    status
+    with_session!(alloc, node, now, session => {
+        let found = rows::redirect_at(&session, index);
+        tell(&session, now, found, row)
+    })
 }
 
 /// Writes an offer of a router, in the order in which each was first put.
@@ -212,16 +171,10 @@ pub extern "C" fn nd_offer_at(
 ) -> i32
     ensures { Asked now (OfferAt index) result node.old.handle.session node.new.handle.session row.old row.new }
 {
-    if now >= MOMENT_LIMIT {
-        return INVALID;
-    }
-    let Some(session) = node.take(alloc) else {
-        return CLOSED;
-    };
-    let found = rows::offer_at(&session, index);
-    let status = tell(&session, now, found, row);
-    node.put(session);
-    status
+    with_session!(alloc, node, now, session => {
+        let found = rows::offer_at(&session, index);
+        tell(&session, now, found, row)
+    })
 }
 
 /// Writes a static route of a router, in the order in which each was first put.
@@ -235,16 +188,10 @@ pub extern "C" fn nd_route_at(
 ) -> i32
     ensures { Asked now (RouteAt index) result node.old.handle.session node.new.handle.session row.old row.new }
 {
-    if now >= MOMENT_LIMIT {
-        return INVALID;
-    }
-    let Some(session) = node.take(alloc) else {
-        return CLOSED;
-    };
-    let found = rows::route_at(&session, index);
-    let status = tell(&session, now, found, row);
-    node.put(session);
-    status
+    with_session!(alloc, node, now, session => {
+        let found = rows::route_at(&session, index);
+        tell(&session, now, found, row)
+    })
 }
 
 /// Writes the neighbour of an address.
@@ -258,16 +205,10 @@ pub extern "C" fn nd_neighbour_of(
 ) -> i32
     ensures { Asked now (NeighbourOf now (record { 0 = address.now })) result node.old.handle.session node.new.handle.session row.old row.new }
 {
-    if now >= MOMENT_LIMIT {
-        return INVALID;
-    }
-    let Some(session) = node.take(alloc) else {
-        return CLOSED;
-    };
-    let found = rows::neighbour_of(&session, now, Addr(*address));
-    let status = tell(&session, now, found, row);
-    node.put(session);
-    status
+    with_session!(alloc, node, now, session => {
+        let found = rows::neighbour_of(&session, now, Addr(*address));
+        tell(&session, now, found, row)
+    })
 }
 
 /// Writes the parameters of the link (RFC 4861, section 6.3.2).
@@ -280,16 +221,10 @@ pub extern "C" fn nd_parameters_of(
 ) -> i32
     ensures { Asked now (ParametersOf) result node.old.handle.session node.new.handle.session row.old row.new }
 {
-    if now >= MOMENT_LIMIT {
-        return INVALID;
-    }
-    let Some(session) = node.take(alloc) else {
-        return CLOSED;
-    };
-    let found = rows::parameters_of(&session);
-    let status = tell(&session, now, found, row);
-    node.put(session);
-    status
+    with_session!(alloc, node, now, session => {
+        let found = rows::parameters_of(&session);
+        tell(&session, now, found, row)
+    })
 }
 
 /// Writes what a router advertises (RFC 4861, section 6.2.1).
@@ -302,16 +237,10 @@ pub extern "C" fn nd_advertising_of(
 ) -> i32
     ensures { Asked now (AdvertisingOf) result node.old.handle.session node.new.handle.session row.old row.new }
 {
-    if now >= MOMENT_LIMIT {
-        return INVALID;
-    }
-    let Some(session) = node.take(alloc) else {
-        return CLOSED;
-    };
-    let found = rows::advertising_of(&session);
-    let status = tell(&session, now, found, row);
-    node.put(session);
-    status
+    with_session!(alloc, node, now, session => {
+        let found = rows::advertising_of(&session);
+        tell(&session, now, found, row)
+    })
 }
 
 /// Writes the number of entries of each table.
@@ -319,14 +248,8 @@ pub extern "C" fn nd_advertising_of(
 pub extern "C" fn nd_counts_of(alloc: Global, node: &mut Slot, now: u64, row: &mut CountsRow) -> i32
     ensures { Asked now (CountsOf) result node.old.handle.session node.new.handle.session row.old row.new }
 {
-    if now >= MOMENT_LIMIT {
-        return INVALID;
-    }
-    let Some(session) = node.take(alloc) else {
-        return CLOSED;
-    };
-    let found = rows::counts_of(&session);
-    let status = tell(&session, now, found, row);
-    node.put(session);
-    status
+    with_session!(alloc, node, now, session => {
+        let found = rows::counts_of(&session);
+        tell(&session, now, found, row)
+    })
 }

@@ -4,9 +4,10 @@ ghost use Rattle.std.specs.Prelude.{◌≡◌};
 ghost use Rattle.nd_table.specs.Moment.{IsMoment};
 ghost use Rattle.nd_c.specs.Resolve.{Finds, PathAnswers, Says, status_of_way};
 
-use crate::status::{CLOSED, DONE, INVALID, NO_MEMORY, NOTHING, PAST, WAITING};
+use crate::call::with_session;
+use crate::status::{DONE, NO_MEMORY, NOTHING, PAST, WAITING};
 use nd_addr::Addr;
-use nd_c_types::{MOMENT_LIMIT, PathRow, refused};
+use nd_c_types::{PathRow, refused};
 use nd_out::Way;
 use nd_session::{PathAnswer, Session, Slot};
 use std::alloc::Global;
@@ -23,15 +24,7 @@ pub extern "C" fn nd_resolve(
 ) -> i32
     ensures { PathAnswers now (record { 0 = destination.now }) result node.old.handle.session node.new.handle.session path.old path.new }
 {
-    if now >= MOMENT_LIMIT {
-        return INVALID;
-    }
-    let Some(mut session) = node.take(alloc) else {
-        return CLOSED;
-    };
-    let status = find_path(&mut session, now, Addr(*destination), path);
-    node.put(session);
-    status
+    with_session!(alloc, node, now, session => find_path(&mut session, now, Addr(*destination), path))
 }
 
 /// Does what is due up to `now`, in milliseconds, asks, and writes the path.

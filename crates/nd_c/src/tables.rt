@@ -5,10 +5,10 @@ ghost use Rattle.nd_c.specs.AllRows.{AskedAll};
 ghost use Rattle.nd_c.specs.Rows.{AddressAt, NameAt, NeighbourAt, OfferAt, PrefixAt, RedirectAt, RouteAt, RouterAt, ServerAt};
 
 use crate::all_rows;
-use crate::status::{CLOSED, INVALID};
+use crate::call::with_session;
 use nd_c_types::{
-    AddressRow, MOMENT_LIMIT, NameRow, NeighbourRow, OfferRow, PrefixRow, RedirectRow, RouteRow,
-    RouterRow, ServerRow,
+    AddressRow, NameRow, NeighbourRow, OfferRow, PrefixRow, RedirectRow, RouteRow, RouterRow,
+    ServerRow,
 };
 use nd_session::Slot;
 use std::alloc::Global;
@@ -24,15 +24,7 @@ pub extern "C" fn nd_neighbours(
 ) -> i32
     ensures { AskedAll now (NeighbourAt now) result node.old.handle.session node.new.handle.session count.old count.new rows.old rows.new }
 {
-    if now >= MOMENT_LIMIT {
-        return INVALID;
-    }
-    let Some(session) = node.take(alloc) else {
-        return CLOSED;
-    };
-    let status = all_rows::neighbours(&session, now, rows, count);
-    node.put(session);
-    status
+    with_session!(alloc, node, now, session => all_rows::neighbours(&session, now, rows, count))
 }
 
 /// Writes the default routers, in the order in which they entered the list (RFC 4861, section 5.1).
@@ -46,15 +38,7 @@ pub extern "C" fn nd_routers(
 ) -> i32
     ensures { AskedAll now (RouterAt now) result node.old.handle.session node.new.handle.session count.old count.new rows.old rows.new }
 {
-    if now >= MOMENT_LIMIT {
-        return INVALID;
-    }
-    let Some(session) = node.take(alloc) else {
-        return CLOSED;
-    };
-    let status = all_rows::routers(&session, now, rows, count);
-    node.put(session);
-    status
+    with_session!(alloc, node, now, session => all_rows::routers(&session, now, rows, count))
 }
 
 /// Writes the prefixes on the link, in the order in which they entered the list (RFC 4861, section 5.1).
@@ -68,15 +52,7 @@ pub extern "C" fn nd_prefixes(
 ) -> i32
     ensures { AskedAll now (PrefixAt now) result node.old.handle.session node.new.handle.session count.old count.new rows.old rows.new }
 {
-    if now >= MOMENT_LIMIT {
-        return INVALID;
-    }
-    let Some(session) = node.take(alloc) else {
-        return CLOSED;
-    };
-    let status = all_rows::prefixes(&session, now, rows, count);
-    node.put(session);
-    status
+    with_session!(alloc, node, now, session => all_rows::prefixes(&session, now, rows, count))
 }
 
 /// Writes the node's own addresses, in the order of addresses (RFC 4862, section 5).
@@ -90,15 +66,7 @@ pub extern "C" fn nd_addresses(
 ) -> i32
     ensures { AskedAll now (AddressAt now) result node.old.handle.session node.new.handle.session count.old count.new rows.old rows.new }
 {
-    if now >= MOMENT_LIMIT {
-        return INVALID;
-    }
-    let Some(session) = node.take(alloc) else {
-        return CLOSED;
-    };
-    let status = all_rows::addresses(&session, now, rows, count);
-    node.put(session);
-    status
+    with_session!(alloc, node, now, session => all_rows::addresses(&session, now, rows, count))
 }
 
 /// Writes the DNS servers, in the order in which they entered the list (RFC 8106, section 6.1).
@@ -112,15 +80,7 @@ pub extern "C" fn nd_servers(
 ) -> i32
     ensures { AskedAll now (ServerAt now) result node.old.handle.session node.new.handle.session count.old count.new rows.old rows.new }
 {
-    if now >= MOMENT_LIMIT {
-        return INVALID;
-    }
-    let Some(session) = node.take(alloc) else {
-        return CLOSED;
-    };
-    let status = all_rows::servers(&session, now, rows, count);
-    node.put(session);
-    status
+    with_session!(alloc, node, now, session => all_rows::servers(&session, now, rows, count))
 }
 
 /// Writes the DNS search names, in the order in which they entered the list (RFC 8106, section 6.1).
@@ -134,15 +94,7 @@ pub extern "C" fn nd_names(
 ) -> i32
     ensures { AskedAll now (NameAt now) result node.old.handle.session node.new.handle.session count.old count.new rows.old rows.new }
 {
-    if now >= MOMENT_LIMIT {
-        return INVALID;
-    }
-    let Some(session) = node.take(alloc) else {
-        return CLOSED;
-    };
-    let status = all_rows::names(&session, now, rows, count);
-    node.put(session);
-    status
+    with_session!(alloc, node, now, session => all_rows::names(&session, now, rows, count))
 }
 
 /// Writes the Redirects in force, the newest first (RFC 4861, section 8.3).
@@ -156,15 +108,7 @@ pub extern "C" fn nd_redirects(
 ) -> i32
     ensures { AskedAll now (RedirectAt) result node.old.handle.session node.new.handle.session count.old count.new rows.old rows.new }
 {
-    if now >= MOMENT_LIMIT {
-        return INVALID;
-    }
-    let Some(session) = node.take(alloc) else {
-        return CLOSED;
-    };
-    let status = all_rows::redirects(&session, now, rows, count);
-    node.put(session);
-    status
+    with_session!(alloc, node, now, session => all_rows::redirects(&session, now, rows, count))
 }
 
 /// Writes the offers of a router, in the order in which each was first put.
@@ -178,15 +122,7 @@ pub extern "C" fn nd_offers(
 ) -> i32
     ensures { AskedAll now (OfferAt) result node.old.handle.session node.new.handle.session count.old count.new rows.old rows.new }
 {
-    if now >= MOMENT_LIMIT {
-        return INVALID;
-    }
-    let Some(session) = node.take(alloc) else {
-        return CLOSED;
-    };
-    let status = all_rows::offers(&session, now, rows, count);
-    node.put(session);
-    status
+    with_session!(alloc, node, now, session => all_rows::offers(&session, now, rows, count))
 }
 
 /// Writes the static routes of a router, in the order in which each was first put.
@@ -200,13 +136,5 @@ pub extern "C" fn nd_routes(
 ) -> i32
     ensures { AskedAll now (RouteAt) result node.old.handle.session node.new.handle.session count.old count.new rows.old rows.new }
 {
-    if now >= MOMENT_LIMIT {
-        return INVALID;
-    }
-    let Some(session) = node.take(alloc) else {
-        return CLOSED;
-    };
-    let status = all_rows::routes(&session, now, rows, count);
-    node.put(session);
-    status
+    with_session!(alloc, node, now, session => all_rows::routes(&session, now, rows, count))
 }

@@ -3,7 +3,7 @@
 
 use nd_addr::{Mac, Role};
 use nd_node::{Event, Limits, Node};
-use nd_out::{Out, write_outs};
+use nd_out::{Reports, write_outs};
 use nd_slaac::Transmits;
 use rand_core::SeedableRng;
 use rand_pcg::Pcg32;
@@ -21,7 +21,7 @@ const ADVERTISEMENT: &str =
 fn report(
     alloc: Global,
     host: &Node<Pcg32, Global>,
-    outs: &[(u64, Out<Global>)],
+    outs: &mut Reports<Global>,
 ) -> Result<String<Global>, AllocError> {
     let mut text = String::new(alloc);
     write_outs(&mut text, outs)?;
@@ -46,10 +46,10 @@ fn live(alloc: Global, frame: &[u8]) -> Result<String<Global>, AllocError> {
         return Err(AllocError);
     };
     // All that is due up to a moment, in milliseconds, is done before its event: here the detection for the link-local address.
-    let mut outs = Vec::new(alloc);
+    let mut outs = Reports::new(alloc)?;
     host.receive(3_000, frame, &mut outs)?;
     host.event(6_000, &Event::Passes, &mut outs)?;
-    report(alloc, &host, &outs)
+    report(alloc, &host, &mut outs)
 }
 
 fn main(rt: HostRuntime) -> anyhow::Result<()> {

@@ -2,7 +2,7 @@
 use Rattle.std.specs.Prelude.{◌<◌, ◌^◌, ℕ, List, map}
 use Rattle.std.specs.List.{AllByRecursion}
 use Rattle.rand_core.specs.Stream.{Stream}
-use Rattle.nd_node.specs.Event.{event_of}
+use Rattle.nd_node.specs.Event.{request_of}
 use Rattle.nd_link_log.specs.Event as links
 use Rattle.nd_link.specs.declared.event.LinkEvent.{LinkEvent}
 use Rattle.nd_link.specs.declared.event.LinkEvent.TheVariants.{Passes, Starts, Comes, Delivers}
@@ -10,7 +10,7 @@ use Rattle.nd_link.specs.declared.event.LinkEvent.TheVariants.{Passes, Starts, C
 abbrev pub link_event : {R A : Type 0} → (R → Stream) → LinkEvent R A → links.Event
 link_event stream Passes = links.Passes
 link_event stream (Starts role mac transmits generator) = links.Starts role mac transmits (stream generator)
-link_event stream (Comes node event) = links.Comes node (event_of event)
+link_event stream (Comes node event) = links.Comes node (request_of event)
 link_event stream (Delivers node frame) = links.Delivers node frame
 
 -- the same of events with their moments

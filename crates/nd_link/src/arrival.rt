@@ -2,7 +2,7 @@
 
 ghost use Rattle.std.specs.Prelude.{◌≡◌, ◌≢◌, ◌<◌, ◌≤◌, ℕ, IsOk, OnErr, OnOk, Option, vec_capacity, vec_len};
 ghost use Rattle.nd_table.specs.Moment.{IsMoment};
-ghost use Rattle.nd_node.specs.Event.{event_of};
+ghost use Rattle.nd_node.specs.Event.{request_of};
 ghost use Rattle.nd_link_log.specs.Log.{Log};
 ghost use Rattle.nd_link.specs.Arrival.{Arrives, IsRefused, reached};
 ghost use Rattle.nd_link.specs.Due.{AreSettled};
@@ -16,7 +16,8 @@ use crate::passing::pass_others;
 use crate::refusal::Refusal;
 use crate::told::{Told, tell, tell_refused};
 use nd_addr::{Mac, Role};
-use nd_node::{Event, Node};
+use nd_node::{Node, Request};
+use nd_out::Reports;
 use rand_core::Rng;
 use std::alloc::{AllocError, Allocator};
 
@@ -62,22 +63,23 @@ impl<W, R: Rng + Drop, A: Allocator + Copy> Link<W, R, A> {
         &mut self,
         now: u64,
         place: usize,
-        event: &Event<A>,
+        event: &Request<A>,
         told: &mut Vec<Told<A>, A>,
     ) -> Result<(), AllocError>
         requires moment { IsMoment now }
         requires settled { AreSettled now self.old.nodes.items }
         requires in_time { self.old.last ≤ now }
         requires there { place < vec_len self.old.nodes }
-        ensures leads { OnOk result ((carried : Option ℕ) → Leads R.stream self.old self.new told.old.items told.new.items (Arrives now place (event_of event.now) carried)) }
+        ensures leads { OnOk result ((carried : Option ℕ) → Leads R.stream self.old self.new told.old.items told.new.items (Arrives now place (request_of event.now) carried)) }
         ensures told { OnErr result (told.new.items ≡ told.old.items) }
         ensures wire { self.new.wire ≡ self.old.wire }
         ensures spent { self.new.spent ≡ self.old.spent }
     {
         pass_others(&mut self.nodes, now, place);
-        let mut outs = Vec::new(self.alloc);
+        let mut outs = Reports::new(self.alloc)?;
         let node = &mut self.nodes[place];
-        node.add(now, event, &mut outs)?;
+        node.add_request(now, event, &mut outs)?;
+        let outs = outs.into_list()?;
         keep_frames(&mut self.frames, self.alloc, place, &outs)?;
         tell(told, place, outs)?;
         self.last = now;

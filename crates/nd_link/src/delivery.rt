@@ -2,7 +2,7 @@
 
 ghost use Rattle.std.specs.Prelude.{◌≡◌, ◌≢◌, ◌∷◌, ◌<◌, ◌≤◌, Err, IfNone, IfOk, IfSome, IsErrOf, IsOk, OnErr, OnOk, vec_capacity, vec_len};
 ghost use Rattle.nd_table.specs.Moment.{IsMoment};
-ghost use Rattle.nd_node.specs.Event.{event_of};
+ghost use Rattle.nd_node.specs.Event.{request_of};
 ghost use Rattle.nd_lines.specs.Counts.{one_more};
 ghost use Rattle.nd_wire.specs.Wire.{IsFaithfulTo};
 ghost use Rattle.nd_link_log.specs.Log as links;
@@ -20,7 +20,7 @@ use crate::link::Link;
 use crate::refusal::Refusal;
 use crate::sent_frame::SentFrame;
 use crate::told::Told;
-use nd_node::Event;
+use nd_node::{Event, Request};
 use nd_wire::Wire;
 use rand_core::Rng;
 use std::alloc::{AllocError, Allocator};
@@ -31,15 +31,15 @@ impl<W, R: Rng + Drop, A: Allocator + Copy> Link<W, R, A> {
         &mut self,
         now: u64,
         node: u64,
-        event: &Event<A>,
+        event: &Request<A>,
         told: &mut Vec<Told<A>, A>,
     ) -> Result<(), AllocError>
         requires moment { IsMoment now }
         requires settled { AreSettled now self.old.nodes.items }
         requires in_time { self.old.last ≤ now }
-        ensures leads { OnOk result (Leads R.stream self.old self.new told.old.items told.new.items (Happens now (Comes node (event_of event.now)))) }
+        ensures leads { OnOk result (Leads R.stream self.old self.new told.old.items told.new.items (Happens now (Comes node (request_of event.now)))) }
         ensures told { OnErr result (told.new.items ≡ told.old.items) }
-        ensures refused { (why : links.Refusal) (log : Log) → Stands R.stream self.old log → Happens now (Comes node (event_of event.now)) log (Refuses now why ∷ reached now log) → vec_len told.old < vec_capacity told.old → IsOk result }
+        ensures refused { (why : links.Refusal) (log : Log) → Stands R.stream self.old log → Happens now (Comes node (request_of event.now)) log (Refuses now why ∷ reached now log) → vec_len told.old < vec_capacity told.old → IsOk result }
         ensures wire { self.new.wire ≡ self.old.wire }
         ensures spent { self.new.spent ≡ self.old.spent }
     {
@@ -74,7 +74,8 @@ impl<W: Wire, R: Rng + Drop, A: Allocator + Copy> Link<W, R, A> {
         match way(node, number, self.nodes.len(), &self.frames) {
             Ok((place, sent)) => {
                 let frame = self.carried(place, sent)?;
-                Ok(self.arrive(now, place, &Event::Receives(frame), told)?)
+                let heard = Request::Event(Event::Receives(frame));
+                Ok(self.arrive(now, place, &heard, told)?)
             }
             Err(why) => Ok(self.refuse(now, why, told)?),
         }

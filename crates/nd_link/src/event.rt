@@ -21,7 +21,7 @@ use crate::link::Link;
 use crate::refusal::Refusal;
 use crate::told::{Told, tell_refused};
 use nd_addr::{Mac, Role};
-use nd_node::Event;
+use nd_node::{Event, Request};
 use nd_slaac::Transmits;
 use nd_wire::Wire;
 use rand_core::Rng;
@@ -35,8 +35,8 @@ pub enum LinkEvent<R, A: Allocator> {
     /// Another node starts, with the usual limits: its role, its link-layer address, the number of solicitations that it sends for each of its
     /// addresses, and the generator of its random words.
     Starts(Role, Mac, Transmits, R),
-    /// A node receives an event: the number of the node, and the event.
-    Comes(u64, Event<A>),
+    /// A node receives an event, or one of its tables is shown: the number of the node, and what is asked of it.
+    Comes(u64, Request<A>),
     /// A frame is carried to a node: the number of the node, and that of the frame.
     Delivers(u64, u64),
 }
@@ -51,8 +51,8 @@ fn known<R: Rng + Drop, A: Allocator>(event: &LinkEvent<R, A>)
             mac.as_bytes();
             transmits.number();
         }
-        LinkEvent::Comes(_, Event::Receives(frame)) => known_frame(frame),
-        LinkEvent::Comes(_, Event::Sets(own)) => {
+        LinkEvent::Comes(_, Request::Event(Event::Receives(frame))) => known_frame(frame),
+        LinkEvent::Comes(_, Request::Event(Event::Sets(own))) => {
             own.addr();
         }
         LinkEvent::Passes | LinkEvent::Comes(..) | LinkEvent::Delivers(..) => {}

@@ -9,6 +9,7 @@ use crate::due::first_due;
 use crate::frames::keep_frames;
 use crate::link::Link;
 use crate::told::{Told, tell};
+use nd_out::Reports;
 use rand_core::Rng;
 use std::alloc::{AllocError, Allocator};
 
@@ -48,9 +49,10 @@ impl<W, R: Rng + Drop, A: Allocator + Copy> Link<W, R, A> {
         ensures wire { self.new.wire ≡ self.old.wire }
         ensures spent { self.new.spent ≡ self.old.spent }
     {
-        let mut outs = Vec::new(self.alloc);
+        let mut outs = Reports::new(self.alloc)?;
         let node = &mut self.nodes[place];
         node.turn(due, &mut outs)?;
+        let outs = outs.into_list()?;
         keep_frames(&mut self.frames, self.alloc, place, &outs)?;
         tell(told, place, outs)?;
         self.last = due;

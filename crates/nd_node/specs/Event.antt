@@ -9,10 +9,12 @@ use Rattle.nd_chronicle.specs.Answer.{Answer, answer_to}
 use Rattle.nd_chronicle.specs.History.{Follows, Runs}
 use Rattle.nd_node.specs.declared.clearing.Clearable.{Clearable}
 use Rattle.nd_node.specs.declared.clearing.Clearable.TheVariants as clearables
-use Rattle.nd_node.specs.declared.event.Table.{Table}
-use Rattle.nd_node.specs.declared.event.Table.TheVariants.{Neighbours, Routers, Prefixes, Addresses, Dns, Redirects, Params, Advertise, Routes}
+use Rattle.nd_node.specs.declared.shown.Table.{Table}
+use Rattle.nd_node.specs.declared.shown.Table.TheVariants.{Neighbours, Routers, Prefixes, Addresses, Dns, Redirects, Params, Advertise, Routes}
 use Rattle.nd_node.specs.declared.event.Event.{Event}
-use Rattle.nd_node.specs.declared.event.Event.TheVariants.{Passes, Receives, Sends, Resolves, Confirms, Forgets, Clears, Shows, Advertises, Offers, PutsRoute, Stops, Sets, Withdraws}
+use Rattle.nd_node.specs.declared.event.Event.TheVariants.{Passes, Receives, Sends, Resolves, Confirms, Forgets, Clears, Advertises, Offers, PutsRoute, Stops, Sets, Withdraws}
+use Rattle.nd_node.specs.declared.request.Request.{Request}
+use Rattle.nd_node.specs.declared.request.Request.TheVariants as requests
 use Rattle.nd_node.specs.Time.{Onward}
 
 abbrev pub table_of : Table → shown.Table
@@ -41,13 +43,17 @@ event_of (Resolves destination) = events.Resolves destination
 event_of (Confirms neighbour) = events.Confirms neighbour
 event_of (Forgets neighbour) = events.Forgets neighbour
 event_of (Clears table) = events.Clears (clearable_of table)
-event_of (Shows table) = events.Shows (table_of table)
 event_of (Advertises config) = events.Advertises config
 event_of (Offers offer) = events.Offers offer
 event_of (PutsRoute route) = events.Routes route.prefix route.route
 event_of Stops = events.Stops
 event_of (Sets own) = events.Sets own
 event_of (Withdraws addr) = events.Withdraws addr
+
+-- the event that is asked for, or that the rows of a table are shown
+abbrev pub request_of : {A : Type 0} → Request A → events.Event
+request_of (requests.Event event) = event_of event
+request_of (requests.Shows table) = events.Shows (table_of table)
 
 -- the same of events with their moments
 abbrev pub events_of : {A : Type 0} → List (ℕ × Event A) → List (ℕ × events.Event)

@@ -1,6 +1,6 @@
 //! Configures what a router advertises (RFC 4861, section 6.2).
 
-ghost use Rattle.std.specs.Prelude.{◌≡◌, ◌<◌, OnErr, ◌≤◌, IsOk, vec_capacity, vec_len, IfOk};
+ghost use Rattle.std.specs.Prelude.{◌≡◌, ◌<◌, OnErr, ◌≤◌, IsOk, IfOk};
 ghost use Rattle.nd_table.specs.Moment.{IsMoment};
 ghost use Rattle.nd_chronicle.specs.Event as events;
 ghost use Rattle.nd_chronicle.specs.Event.{EventAdds};
@@ -15,7 +15,7 @@ use crate::answer::Answer;
 use crate::node::Node;
 use nd_addr::Role;
 use nd_advertiser::{Config, Offer};
-use nd_out::{Limit, Out, Refusal};
+use nd_out::{Limit, Refusal, Reports};
 use nd_steps::{link_local, tell_advertisement};
 use rand_core::Rng;
 use std::alloc::{AllocError, Allocator};
@@ -29,14 +29,14 @@ impl<R: Rng + Drop, A: Allocator + Clone> Node<R, A> {
         &mut self,
         now: u64,
         config: Config,
-        outs: &mut Vec<(u64, Out<A>), A>,
+        outs: &mut Reports<A>,
     ) -> Result<Answer, AllocError>
         requires moment { IsMoment now }
         requires settled { now < next_of self.old }
         ensures adds { IfOk result (λ answer. AddsEvent R.stream self.old self.new outs.old.items outs.new.items now (events.Advertises config) (answer_of answer)) }
         ensures stays { OnErr result (Stays R.stream self.old self.new) }
         ensures told { OnErr result (outs.new.items ≡ outs.old.items) }
-        ensures refused { (start : Start) (c : Chronicle) → Stands R.stream start self.old c → last_moment start.at c ≤ now → AddsRefusal now c (EventAdds start now (events.Advertises config)) → vec_len outs.old < vec_capacity outs.old → IsOk result }
+        ensures refused { (start : Start) (c : Chronicle) → Stands R.stream start self.old c → last_moment start.at c ≤ now → AddsRefusal now c (EventAdds start now (events.Advertises config)) → 0 < outs.old.free → IsOk result }
     {
         match self.role {
             Role::Host => return self.refuse(now, Refusal::WrongRole, outs),
@@ -53,13 +53,13 @@ impl<R: Rng + Drop, A: Allocator + Clone> Node<R, A> {
         &mut self,
         now: u64,
         offer: Offer,
-        outs: &mut Vec<(u64, Out<A>), A>,
+        outs: &mut Reports<A>,
     ) -> Result<Answer, AllocError>
         requires settled { now < next_of self.old }
         ensures adds { IfOk result (λ answer. AddsEvent R.stream self.old self.new outs.old.items outs.new.items now (events.Offers offer) (answer_of answer)) }
         ensures stays { OnErr result (Stays R.stream self.old self.new) }
         ensures told { OnErr result (outs.new.items ≡ outs.old.items) }
-        ensures refused { (start : Start) (c : Chronicle) → Stands R.stream start self.old c → last_moment start.at c ≤ now → AddsRefusal now c (EventAdds start now (events.Offers offer)) → vec_len outs.old < vec_capacity outs.old → IsOk result }
+        ensures refused { (start : Start) (c : Chronicle) → Stands R.stream start self.old c → last_moment start.at c ≤ now → AddsRefusal now c (EventAdds start now (events.Offers offer)) → 0 < outs.old.free → IsOk result }
     {
         match self.role {
             Role::Host => return self.refuse(now, Refusal::WrongRole, outs),
@@ -76,17 +76,13 @@ impl<R: Rng + Drop, A: Allocator + Clone> Node<R, A> {
 
     /// Ceases advertising (RFC 4861, section 6.2.5): a router that has sent an advertisement since it began sends a last one, with a router
     /// lifetime of 0. A host refuses it. Returns an error if out of memory; nothing has changed then.
-    pub(crate) fn cease(
-        &mut self,
-        now: u64,
-        outs: &mut Vec<(u64, Out<A>), A>,
-    ) -> Result<Answer, AllocError>
+    pub(crate) fn cease(&mut self, now: u64, outs: &mut Reports<A>) -> Result<Answer, AllocError>
         requires moment { IsMoment now }
         requires settled { now < next_of self.old }
         ensures adds { IfOk result (λ answer. AddsEvent R.stream self.old self.new outs.old.items outs.new.items now events.Stops (answer_of answer)) }
         ensures stays { OnErr result (Stays R.stream self.old self.new) }
         ensures told { OnErr result (outs.new.items ≡ outs.old.items) }
-        ensures refused { (start : Start) (c : Chronicle) → Stands R.stream start self.old c → last_moment start.at c ≤ now → AddsRefusal now c (EventAdds start now events.Stops) → vec_len outs.old < vec_capacity outs.old → IsOk result }
+        ensures refused { (start : Start) (c : Chronicle) → Stands R.stream start self.old c → last_moment start.at c ≤ now → AddsRefusal now c (EventAdds start now events.Stops) → 0 < outs.old.free → IsOk result }
     {
         match self.role {
             Role::Host => return self.refuse(now, Refusal::WrongRole, outs),

@@ -1,6 +1,6 @@
 //! Addresses that are given by hand, and withdrawn (RFC 4862, section 5.4).
 
-ghost use Rattle.std.specs.Prelude.{◌≡◌, ◌<◌, IfOk, IsOk, OnErr, vec_capacity, vec_len};
+ghost use Rattle.std.specs.Prelude.{◌≡◌, ◌<◌, IfOk, IsOk, OnErr};
 ghost use Rattle.nd_table.specs.Moment.{IsMoment};
 ghost use Rattle.nd_chronicle.specs.Event as events;
 ghost use Rattle.nd_node.specs.Answer.{answer_of};
@@ -9,7 +9,7 @@ ghost use Rattle.nd_node.specs.EventKept.{AddsEvent};
 use crate::answer::Answer;
 use crate::node::Node;
 use nd_addr::Addr;
-use nd_out::{Limit, Out, Refusal};
+use nd_out::{Limit, Out, Refusal, Reports};
 use nd_slaac::OwnAddress;
 use rand_core::Rng;
 use std::alloc::{AllocError, Allocator};
@@ -23,7 +23,7 @@ impl<R: Rng + Drop, A: Allocator + Clone> Node<R, A> {
         &mut self,
         now: u64,
         own: &OwnAddress,
-        outs: &mut Vec<(u64, Out<A>), A>,
+        outs: &mut Reports<A>,
     ) -> Result<Answer, AllocError>
         requires moment { IsMoment now }
         requires settled { now < next_of self.old }
@@ -32,7 +32,7 @@ impl<R: Rng + Drop, A: Allocator + Clone> Node<R, A> {
         ensures told { OnErr result (outs.new.items ≡ outs.old.items) }
 
         // If the list has room for a refusal it succeeds, even if no memory is left.
-        ensures ready { vec_len outs.old < vec_capacity outs.old → IsOk result }
+        ensures ready { 0 < outs.old.free → IsOk result }
     {
         nd_slaac::laws::none_overdue();
         if let Some(refusal) = self.refusal_unless_up() {
@@ -55,7 +55,7 @@ impl<R: Rng + Drop, A: Allocator + Clone> Node<R, A> {
         &mut self,
         now: u64,
         addr: Addr,
-        outs: &mut Vec<(u64, Out<A>), A>,
+        outs: &mut Reports<A>,
     ) -> Result<Answer, AllocError>
         requires moment { IsMoment now }
         requires settled { now < next_of self.old }
@@ -64,7 +64,7 @@ impl<R: Rng + Drop, A: Allocator + Clone> Node<R, A> {
         ensures told { OnErr result (outs.new.items ≡ outs.old.items) }
 
         // If the list has room for the report it succeeds, even if no memory is left.
-        ensures ready { vec_len outs.old < vec_capacity outs.old → IsOk result }
+        ensures ready { 0 < outs.old.free → IsOk result }
     {
         nd_slaac::laws::none_overdue();
         outs.reserve(1)?;

@@ -9,7 +9,7 @@ ghost use Rattle.nd_node.specs.Answer.{answer_of};
 
 use crate::answer::Answer;
 use crate::node::Node;
-use nd_out::Out;
+use nd_out::Reports;
 use nd_steps::{tell_packets, tell_routers};
 use rand_core::Rng;
 use std::alloc::{AllocError, Allocator};
@@ -34,11 +34,7 @@ impl<R: Rng + Drop, A: Allocator + Clone> Node<R, A> {
 
     /// Removes all neighbours. The packets that wait for them are lost, in the order of the neighbours' addresses, the oldest first. Returns an
     /// error if out of memory; nothing has changed then.
-    fn clear_neighbours(
-        &mut self,
-        now: u64,
-        outs: &mut Vec<(u64, Out<A>), A>,
-    ) -> Result<Answer, AllocError>
+    fn clear_neighbours(&mut self, now: u64, outs: &mut Reports<A>) -> Result<Answer, AllocError>
         requires settled { now < next_of self.old }
         ensures adds { IfOk result (λ answer. AddsEvent R.stream self.old self.new outs.old.items outs.new.items now (events.Clears events.ClearNeighbours) (answer_of answer)) }
         ensures keeps { OnErr result (self.new ≡ self.old) }
@@ -55,11 +51,7 @@ impl<R: Rng + Drop, A: Allocator + Clone> Node<R, A> {
 
     /// Removes all routers from the list, in its order, and ends all redirects with them (RFC 4861, section 6.3.5). Returns an error if out of
     /// memory; nothing has changed then.
-    fn clear_routers(
-        &mut self,
-        now: u64,
-        outs: &mut Vec<(u64, Out<A>), A>,
-    ) -> Result<Answer, AllocError>
+    fn clear_routers(&mut self, now: u64, outs: &mut Reports<A>) -> Result<Answer, AllocError>
         requires settled { now < next_of self.old }
         ensures adds { IfOk result (λ answer. AddsEvent R.stream self.old self.new outs.old.items outs.new.items now (events.Clears events.ClearRouters) (answer_of answer)) }
         ensures keeps { OnErr result (self.new ≡ self.old) }
@@ -79,7 +71,7 @@ impl<R: Rng + Drop, A: Allocator + Clone> Node<R, A> {
         &mut self,
         now: u64,
         table: Clearable,
-        outs: &mut Vec<(u64, Out<A>), A>,
+        outs: &mut Reports<A>,
     ) -> Result<Answer, AllocError>
         requires settled { now < next_of self.old }
         ensures adds { IfOk result (λ answer. AddsEvent R.stream self.old self.new outs.old.items outs.new.items now (events.Clears (clearable_of table)) (answer_of answer)) }

@@ -1,12 +1,12 @@
 //! The clock of a node: the moment up to which time has passed, in milliseconds. It does not run by itself: each turn advances it, and each event
 //! that is not too late. Once the node has started, only `advance_to` writes it.
 
-ghost use Rattle.std.specs.Prelude.{◌≡◌, ◌++◌, [], ◌∷◌, ◌<◌, ◌≤◌, MatchBool, IsOk, OnOk, OnErr, vec_len, vec_capacity};
+ghost use Rattle.std.specs.Prelude.{◌≡◌, ◌++◌, [], ◌∷◌, ◌<◌, ◌≤◌, MatchBool, IsOk, OnOk, OnErr};
 ghost use Rattle.nd_chronicle.specs.Happening.{Chronicle, Passed, last_moment};
 ghost use Rattle.nd_chronicle.specs.Start.{Start};
 
 use crate::node::Node;
-use nd_out::Out;
+use nd_out::{Out, Reports};
 use rand_core::Rng;
 use std::alloc::{AllocError, Allocator};
 
@@ -46,7 +46,7 @@ impl<R: Rng + Drop, A: Allocator + Clone> Node<R, A> {
         &mut self,
         now: u64,
         out: Out<A>,
-        outs: &mut Vec<(u64, Out<A>), A>,
+        outs: &mut Reports<A>,
     ) -> Result<(), AllocError>
         ensures clock { OnOk result (self.new ≡ record self.old { last = now }) }
         ensures items { OnOk result (outs.new.items ≡ outs.old.items ++ (now, out) ∷ []) }
@@ -54,7 +54,7 @@ impl<R: Rng + Drop, A: Allocator + Clone> Node<R, A> {
         ensures told { OnErr result (outs.new.items ≡ outs.old.items) }
 
         // If the list has room for the report it succeeds, even if no memory is left.
-        ensures ready { vec_len outs.old < vec_capacity outs.old → IsOk result }
+        ensures ready { 0 < outs.old.free → IsOk result }
     {
         outs.push((now, out))?;
         self.advance_to(now);

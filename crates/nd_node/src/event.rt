@@ -1,6 +1,6 @@
 //! Events: what a node receives from outside, and what it does then.
 
-ghost use Rattle.std.specs.Prelude.{◌≡◌, ◌-◌, ◌<◌, ◌≤◌, Some, IsOk, OnOk, OnErr, vec_len, vec_capacity, IfOk};
+ghost use Rattle.std.specs.Prelude.{◌≡◌, ◌-◌, ◌<◌, ◌≤◌, Some, IsOk, OnOk, OnErr, IfOk};
 ghost use Rattle.nd_table.specs.Moment.{IsMoment};
 ghost use Rattle.nd_chronicle.specs.Event as events;
 ghost use Rattle.nd_chronicle.specs.Event.{EventAdds, refusal_of_packet};
@@ -19,34 +19,11 @@ use crate::node::Node;
 use nd_addr::Addr;
 use nd_advertiser::{Config, Offer};
 use nd_forwarding::KeptRoute;
-use nd_out::{Out, Refusal};
+use nd_out::{Out, Reports};
 use nd_slaac::OwnAddress;
 use nd_steps::OutgoingPacket;
 use rand_core::Rng;
 use std::alloc::{AllocError, Allocator};
-
-/// The tables that can be shown.
-#[derive(Clone, Copy, Debug, PartialEq, Eq)]
-pub enum Table {
-    /// The neighbours (RFC 4861, section 5.1).
-    Neighbours,
-    /// The default routers (RFC 4861, section 5.1).
-    Routers,
-    /// The prefixes on the link (RFC 4861, section 5.1).
-    Prefixes,
-    /// The node's own addresses (RFC 4862, section 5).
-    Addresses,
-    /// The DNS servers and search names (RFC 8106, section 6.1).
-    Dns,
-    /// The kept redirects (RFC 4861, section 8.3).
-    Redirects,
-    /// The parameters of the link (RFC 4861, section 6.3.2).
-    Params,
-    /// What a router advertises. A host shows nothing.
-    Advertise,
-    /// The static routes of a router. A host shows nothing.
-    Routes,
-}
 
 /// What a node receives from outside.
 #[derive(Drop)]
@@ -65,8 +42,6 @@ pub enum Event<A: Allocator> {
     Forgets(Addr),
     /// A command clears a table.
     Clears(Clearable),
-    /// A command shows a table.
-    Shows(Table),
     /// A command configures a router to advertise (RFC 4861, section 6.2.1). A host refuses it, and the three that follow.
     Advertises(Config),
     /// A command adds a prefix to those that a router advertises (RFC 4861, section 6.2.1).
@@ -93,18 +68,18 @@ impl<R: Rng + Drop, A: Allocator + Clone> Node<R, A> {
         &mut self,
         now: u64,
         event: &Event<A>,
-        outs: &mut Vec<(u64, Out<A>), A>,
+        outs: &mut Reports<A>,
     ) -> Result<Answer, AllocError>
         requires { IsMoment now }
         ensures follows { IfOk result (λ answer. Leads R.stream self.old self.new outs.old.items outs.new.items (FollowsBy now (event_of event.now) (answer_of answer))) }
         ensures onward { OnErr result (Leads R.stream self.old self.new outs.old.items outs.new.items (Onward now)) }
 
         // If nothing is due up to `now` and the event asks for no memory, or if the event is too late, it succeeds even if no memory is left.
-        ensures quiet { (start : Start) (c : Chronicle) → Stands R.stream start self.old c → last_moment start.at c ≤ now → now < next_of self.old → AsksForNone start c self.old now (vec_capacity outs.old - vec_len outs.old) (event_of event.now) → IsOk result }
-        ensures late { now < self.old.last → vec_len outs.old < vec_capacity outs.old → IsOk result }
+        ensures quiet { (start : Start) (c : Chronicle) → Stands R.stream start self.old c → last_moment start.at c ≤ now → now < next_of self.old → AsksForNone start c self.old now outs.old.free (event_of event.now) → IsOk result }
+        ensures late { now < self.old.last → 0 < outs.old.free → IsOk result }
 
         // If nothing is due up to `now` and the event is refused, the refusal is reported even if no memory is left.
-        ensures refused { (start : Start) (c : Chronicle) → Stands R.stream start self.old c → last_moment start.at c ≤ now → now < next_of self.old → AddsRefusal now c (EventAdds start now (event_of event.now)) → vec_len outs.old < vec_capacity outs.old → IsOk result }
+        ensures refused { (start : Start) (c : Chronicle) → Stands R.stream start self.old c → last_moment start.at c ≤ now → now < next_of self.old → AddsRefusal now c (EventAdds start now (event_of event.now)) → 0 < outs.old.free → IsOk result }
     {
         if self.is_past(now) {
             return self.refuse_past(now, outs);
@@ -121,16 +96,16 @@ impl<R: Rng + Drop, A: Allocator + Clone> Node<R, A> {
         &mut self,
         now: u64,
         frame: &[u8],
-        outs: &mut Vec<(u64, Out<A>), A>,
+        outs: &mut Reports<A>,
     ) -> Result<Answer, AllocError>
         requires { IsMoment now }
         ensures follows { IfOk result (λ answer. Leads R.stream self.old self.new outs.old.items outs.new.items (FollowsBy now (events.Receives frame.now) (answer_of answer))) }
         ensures onward { OnErr result (Leads R.stream self.old self.new outs.old.items outs.new.items (Onward now)) }
 
         // As `event`: it succeeds even if no memory is left, if nothing is due and the frame asks for none or is refused, or if it is too late.
-        ensures quiet { (start : Start) (c : Chronicle) → Stands R.stream start self.old c → last_moment start.at c ≤ now → now < next_of self.old → AsksForNone start c self.old now (vec_capacity outs.old - vec_len outs.old) (events.Receives frame.now) → IsOk result }
-        ensures late { now < self.old.last → vec_len outs.old < vec_capacity outs.old → IsOk result }
-        ensures refused { (start : Start) (c : Chronicle) → Stands R.stream start self.old c → last_moment start.at c ≤ now → now < next_of self.old → AddsRefusal now c (EventAdds start now (events.Receives frame.now)) → vec_len outs.old < vec_capacity outs.old → IsOk result }
+        ensures quiet { (start : Start) (c : Chronicle) → Stands R.stream start self.old c → last_moment start.at c ≤ now → now < next_of self.old → AsksForNone start c self.old now outs.old.free (events.Receives frame.now) → IsOk result }
+        ensures late { now < self.old.last → 0 < outs.old.free → IsOk result }
+        ensures refused { (start : Start) (c : Chronicle) → Stands R.stream start self.old c → last_moment start.at c ≤ now → now < next_of self.old → AddsRefusal now c (EventAdds start now (events.Receives frame.now)) → 0 < outs.old.free → IsOk result }
     {
         if self.is_past(now) {
             return self.refuse_past(now, outs);
@@ -150,7 +125,7 @@ impl<R: Rng + Drop, A: Allocator + Clone> Node<R, A> {
         destination: Addr,
         next_header: u8,
         payload: &[u8],
-        outs: &mut Vec<(u64, Out<A>), A>,
+        outs: &mut Reports<A>,
     ) -> Result<Answer, AllocError>
         requires { IsMoment now }
         ensures follows { IfOk result (λ answer. Leads R.stream self.old self.new outs.old.items outs.new.items (FollowsBy now (events.Sends source destination next_header payload.now) (answer_of answer))) }
@@ -158,8 +133,8 @@ impl<R: Rng + Drop, A: Allocator + Clone> Node<R, A> {
 
         // As `event`, if it is too late. If nothing is due up to `now` and the packet is refused before its next hop is determined, the refusal is
         // reported even if no memory is left, however long the payload is.
-        ensures late { now < self.old.last → vec_len outs.old < vec_capacity outs.old → IsOk result }
-        ensures refused { (refusal : Why) (start : Start) (c : Chronicle) → Stands R.stream start self.old c → last_moment start.at c ≤ now → now < next_of self.old → refusal_of_packet start now source payload.now c ≡ Some refusal → vec_len outs.old < vec_capacity outs.old → IsOk result }
+        ensures late { now < self.old.last → 0 < outs.old.free → IsOk result }
+        ensures refused { (refusal : Why) (start : Start) (c : Chronicle) → Stands R.stream start self.old c → last_moment start.at c ≤ now → now < next_of self.old → refusal_of_packet start now source payload.now c ≡ Some refusal → 0 < outs.old.free → IsOk result }
     {
         if self.is_past(now) {
             return self.refuse_past(now, outs);
@@ -175,7 +150,7 @@ impl<R: Rng + Drop, A: Allocator + Clone> Node<R, A> {
     pub fn run(
         &mut self,
         events: &[(u64, Event<A>)],
-        outs: &mut Vec<(u64, Out<A>), A>,
+        outs: &mut Reports<A>,
     ) -> Result<(), AllocError>
         requires { AreEarly events.now }
         ensures runs { OnOk result (Leads R.stream self.old self.new outs.old.items outs.new.items (RunsBy (events_of events.now))) }
@@ -189,16 +164,16 @@ impl<R: Rng + Drop, A: Allocator + Clone> Node<R, A> {
 
     /// Reports an event that is earlier than the node's last moment, and changes nothing else. Returns an error if out of memory; nothing is
     /// reported then.
-    fn refuse_past(
+    pub(crate) fn refuse_past(
         &mut self,
         now: u64,
-        outs: &mut Vec<(u64, Out<A>), A>,
+        outs: &mut Reports<A>,
     ) -> Result<Answer, AllocError>
         requires { now < self.old.last }
         ensures past { IfOk result (λ answer. (event : events.Event) → Leads R.stream self.old self.new outs.old.items outs.new.items (FollowsBy now event (answer_of answer))) }
         ensures same { self.new ≡ self.old }
         ensures told { OnErr result (outs.new.items ≡ outs.old.items) }
-        ensures ready { vec_len outs.old < vec_capacity outs.old → IsOk result }
+        ensures ready { 0 < outs.old.free → IsOk result }
     {
         outs.push((now, Out::Past(self.last)))?;
         Ok(Answer::Past(self.last))
@@ -212,7 +187,7 @@ impl<R: Rng + Drop, A: Allocator + Clone> Node<R, A> {
         &mut self,
         now: u64,
         event: &Event<A>,
-        outs: &mut Vec<(u64, Out<A>), A>,
+        outs: &mut Reports<A>,
     ) -> Result<Answer, AllocError>
         requires moment { IsMoment now }
         requires settled { now < next_of self.old }
@@ -220,9 +195,9 @@ impl<R: Rng + Drop, A: Allocator + Clone> Node<R, A> {
         ensures past { now < self.old.last → IfOk result (λ answer. Leads R.stream self.old self.new outs.old.items outs.new.items (FollowsBy now (event_of event.now) (answer_of answer))) }
         ensures stays { OnErr result (Stays R.stream self.old self.new) }
         ensures told { OnErr result (outs.new.items ≡ outs.old.items) }
-        ensures quiet { (start : Start) (c : Chronicle) → Stands R.stream start self.old c → last_moment start.at c ≤ now → AsksForNone start c self.old now (vec_capacity outs.old - vec_len outs.old) (event_of event.now) → IsOk result }
-        ensures late { now < self.old.last → vec_len outs.old < vec_capacity outs.old → IsOk result }
-        ensures refused { (start : Start) (c : Chronicle) → Stands R.stream start self.old c → last_moment start.at c ≤ now → AddsRefusal now c (EventAdds start now (event_of event.now)) → vec_len outs.old < vec_capacity outs.old → IsOk result }
+        ensures quiet { (start : Start) (c : Chronicle) → Stands R.stream start self.old c → last_moment start.at c ≤ now → AsksForNone start c self.old now outs.old.free (event_of event.now) → IsOk result }
+        ensures late { now < self.old.last → 0 < outs.old.free → IsOk result }
+        ensures refused { (start : Start) (c : Chronicle) → Stands R.stream start self.old c → last_moment start.at c ≤ now → AddsRefusal now c (EventAdds start now (event_of event.now)) → 0 < outs.old.free → IsOk result }
     {
         if self.is_past(now) {
             return self.refuse_past(now, outs);
@@ -241,11 +216,6 @@ impl<R: Rng + Drop, A: Allocator + Clone> Node<R, A> {
             }
             Event::Forgets(neighbour) => self.forget(now, *neighbour, outs),
             Event::Clears(table) => self.clear(now, *table, outs),
-            Event::Shows(table) => {
-                let rows = self.rows(outs.allocator(), now, *table)?;
-                self.report(now, Out::Shown(rows), outs)?;
-                Ok(Answer::Done)
-            }
             Event::Advertises(config) => self.advertise(now, *config, outs),
             Event::Offers(offer) => self.offer(now, *offer, outs),
             Event::PutsRoute(kept) => self.put_route(now, *kept, outs),

@@ -1,6 +1,6 @@
 //! A packet in transit, which a router sends on (RFC 8200, section 3; RFC 4861, section 8.2).
 
-ghost use Rattle.std.specs.Prelude.{◌≡◌, ◌<◌, ◌≤◌, ℕ, List, None, IsOk, OnErr, OnOk, Some, length, vec_capacity, vec_len, IfOk};
+ghost use Rattle.std.specs.Prelude.{◌≡◌, ◌<◌, ◌≤◌, ℕ, List, None, IsOk, OnErr, OnOk, Some, length, IfOk};
 ghost use Rattle.nd_addr.specs.Ip6.{PacketParts, packet_parts};
 ghost use Rattle.nd_addr.specs.Number.{number_of};
 ghost use Rattle.nd_table.specs.Moment.{IsMoment};
@@ -20,7 +20,7 @@ use crate::answer::Answer;
 use crate::node::Node;
 use nd_addr::{Addr, Ip6, Ip6Ref};
 use nd_forwarding::Fate;
-use nd_out::{Limit, Loss, Out, Refusal};
+use nd_out::{Limit, Loss, Refusal, Reports};
 use nd_slaac::Counted;
 use nd_steps::{
     better_hop_frame, frame_as_it_came, frame_sent_on, link_local, packet_in, ready_for_two,
@@ -39,7 +39,7 @@ impl<R: Rng + Drop, A: Allocator + Clone> Node<R, A> {
         now: u64,
         frame: &[u8],
         packet: &Ip6Ref<'_>,
-        outs: &mut Vec<(u64, Out<A>), A>,
+        outs: &mut Reports<A>,
     ) -> Result<Answer, AllocError>
         requires moment { IsMoment now }
         requires settled { now < next_of self.old }
@@ -47,7 +47,7 @@ impl<R: Rng + Drop, A: Allocator + Clone> Node<R, A> {
         ensures adds { IfOk result (λ answer. AddsForwarded R.stream self.old self.new outs.old.items outs.new.items now (packet_parts packet.now) (packet_bytes frame.now) (answer_of answer)) }
         ensures keeps { OnErr result (Keeps self.old self.new) }
         ensures told { OnErr result (outs.new.items ≡ outs.old.items) }
-        ensures refused { (came : List ℕ) (start : Start) (c : Chronicle) → Stands R.stream start self.old c → AddsRefusal now c (ForwardAdds start now (packet_parts packet.now) came) → vec_len outs.old < vec_capacity outs.old → IsOk result }
+        ensures refused { (came : List ℕ) (start : Start) (c : Chronicle) → Stands R.stream start self.old c → AddsRefusal now c (ForwardAdds start now (packet_parts packet.now) came) → 0 < outs.old.free → IsOk result }
     {
         let header = &packet.header;
         let own = self.addresses.counts(Counted::Own, header.destination);
@@ -67,7 +67,7 @@ impl<R: Rng + Drop, A: Allocator + Clone> Node<R, A> {
         now: u64,
         why: Loss,
         packet: &Ip6Ref<'_>,
-        outs: &mut Vec<(u64, Out<A>), A>,
+        outs: &mut Reports<A>,
     ) -> Result<Answer, AllocError>
         requires settled { now < next_of self.old }
         requires short { length packet.now.payload.now ≤ 65535 }
@@ -103,7 +103,7 @@ impl<R: Rng + Drop, A: Allocator + Clone> Node<R, A> {
         own: bool,
         packet: &Ip6Ref<'_>,
         bytes: &[u8],
-        outs: &mut Vec<(u64, Out<A>), A>,
+        outs: &mut Reports<A>,
     ) -> Result<Answer, AllocError>
         requires moment { IsMoment now }
         requires settled { now < next_of self.old }
@@ -111,7 +111,7 @@ impl<R: Rng + Drop, A: Allocator + Clone> Node<R, A> {
         ensures adds { IfOk result (λ answer. AddsOnward R.stream self.old self.new outs.old.items outs.new.items now (number_of hop.0) own (packet_parts packet.now) bytes.now (answer_of answer)) }
         ensures keeps { OnErr result (Keeps self.old self.new) }
         ensures told { OnErr result (outs.new.items ≡ outs.old.items) }
-        ensures refused { (came : List ℕ) (start : Start) (c : Chronicle) → Stands R.stream start self.old c → is_own c packet.now.header.destination.0 ≡ own → AddsRefusal now c (SendsOn start now (redirect_to start now (packet_parts packet.now) c) (packet_parts packet.now) came (number_of hop.0)) → vec_len outs.old < vec_capacity outs.old → IsOk result }
+        ensures refused { (came : List ℕ) (start : Start) (c : Chronicle) → Stands R.stream start self.old c → is_own c packet.now.header.destination.0 ≡ own → AddsRefusal now c (SendsOn start now (redirect_to start now (packet_parts packet.now) c) (packet_parts packet.now) came (number_of hop.0)) → 0 < outs.old.free → IsOk result }
     {
         match self.redirect_target(now, &packet.header, own) {
             None => {
@@ -136,7 +136,7 @@ impl<R: Rng + Drop, A: Allocator + Clone> Node<R, A> {
         target: Addr,
         packet: &Ip6Ref<'_>,
         bytes: &[u8],
-        outs: &mut Vec<(u64, Out<A>), A>,
+        outs: &mut Reports<A>,
     ) -> Result<Answer, AllocError>
         requires moment { IsMoment now }
         requires settled { now < next_of self.old }
@@ -144,7 +144,7 @@ impl<R: Rng + Drop, A: Allocator + Clone> Node<R, A> {
         ensures adds { IfOk result (λ answer. AddsSentOn R.stream self.old self.new outs.old.items outs.new.items now (number_of hop.0) (Some target) (packet_parts packet.now) bytes.now (answer_of answer)) }
         ensures keeps { OnErr result (Keeps self.old self.new) }
         ensures told { OnErr result (outs.new.items ≡ outs.old.items) }
-        ensures refused { (came : List ℕ) (start : Start) (c : Chronicle) → Stands R.stream start self.old c → AddsRefusal now c (SendsOn start now (Some target) (packet_parts packet.now) came (number_of hop.0)) → vec_len outs.old < vec_capacity outs.old → IsOk result }
+        ensures refused { (came : List ℕ) (start : Start) (c : Chronicle) → Stands R.stream start self.old c → AddsRefusal now c (SendsOn start now (Some target) (packet_parts packet.now) came (number_of hop.0)) → 0 < outs.old.free → IsOk result }
     {
         let source = packet.header.source;
         if !self.neighbours.room(now, source, Some(hop)) {

@@ -1,6 +1,6 @@
 //! Receives a frame.
 
-ghost use Rattle.std.specs.Prelude.{◌≡◌, ◌∷◌, ◌-◌, ◌<◌, ◌≤◌, ℕ, List, IsOk, OnErr, OnOk, false, vec_len, vec_capacity, IfOk};
+ghost use Rattle.std.specs.Prelude.{◌≡◌, ◌∷◌, ◌-◌, ◌<◌, ◌≤◌, ℕ, List, IsOk, OnErr, OnOk, false, IfOk};
 ghost use Rattle.nd_addr.specs.Ip6.{packet_parts};
 ghost use Rattle.nd_decode.specs.Pieces.{options_left};
 ghost use Rattle.nd_decode.specs.declared.body.Body.TheVariants as bodies;
@@ -23,7 +23,7 @@ ghost use Rattle.nd_node.specs.Answer.{answer_of};
 use crate::answer::Answer;
 use crate::node::Node;
 use nd_addr::{Ip6Ref, Why};
-use nd_out::Out;
+use nd_out::{Out, Reports};
 use nd_steps::packet_in;
 use nd_validity::{Heard, Hearing, hear};
 use rand_core::Rng;
@@ -48,7 +48,7 @@ impl<R: Rng + Drop, A: Allocator + Clone> Node<R, A> {
         now: u64,
         frame: &[u8],
         packet: Ip6Ref<'_>,
-        outs: &mut Vec<(u64, Out<A>), A>,
+        outs: &mut Reports<A>,
     ) -> Result<Reception, AllocError>
         requires moment { IsMoment now }
         requires settled { now < next_of self.old }
@@ -58,8 +58,8 @@ impl<R: Rng + Drop, A: Allocator + Clone> Node<R, A> {
         ensures idle { (verdict : Verdict) (start : Start) (c : Chronicle) → Stands R.stream start self.old c → last_moment start.at c ≤ now → Judges start ((now, Passed) ∷ c) now frame.now (other (packet_parts packet.entry)) verdict → LeavesTables verdict → IfOk result (λ reception. reception.changes_tables ≡ false) }
         ensures stays { OnErr result (Stays R.stream self.old self.new) }
         ensures told { OnErr result (outs.new.items ≡ outs.old.items) }
-        ensures refused { (verdict : Verdict) (start : Start) (c : Chronicle) → Stands R.stream start self.old c → last_moment start.at c ≤ now → Judges start ((now, Passed) ∷ c) now frame.now (other (packet_parts packet.entry)) verdict → AddsRefusal now c (VerdictAdds start now frame.now verdict) → vec_len outs.old < vec_capacity outs.old → IsOk result }
-        ensures quiet { (why : Why) (start : Start) (c : Chronicle) → Stands R.stream start self.old c → last_moment start.at c ≤ now → Judges start ((now, Passed) ∷ c) now frame.now (other (packet_parts packet.entry)) (drops why) → vec_len outs.old < vec_capacity outs.old → IsOk result }
+        ensures refused { (verdict : Verdict) (start : Start) (c : Chronicle) → Stands R.stream start self.old c → last_moment start.at c ≤ now → Judges start ((now, Passed) ∷ c) now frame.now (other (packet_parts packet.entry)) verdict → AddsRefusal now c (VerdictAdds start now frame.now verdict) → 0 < outs.old.free → IsOk result }
+        ensures quiet { (why : Why) (start : Start) (c : Chronicle) → Stands R.stream start self.old c → last_moment start.at c ≤ now → Judges start ((now, Passed) ∷ c) now frame.now (other (packet_parts packet.entry)) (drops why) → 0 < outs.old.free → IsOk result }
     {
         if !self.is_packet_for_us(packet.header.destination) {
             if self.is_in_transit(frame, &packet.header) {
@@ -85,7 +85,7 @@ impl<R: Rng + Drop, A: Allocator + Clone> Node<R, A> {
         &mut self,
         now: u64,
         why: Why,
-        outs: &mut Vec<(u64, Out<A>), A>,
+        outs: &mut Reports<A>,
     ) -> Result<Reception, AllocError>
         requires settled { now < next_of self.old }
         ensures adds { OnOk result (AddsAlone R.stream self.old self.new outs.old.items outs.new.items now (Dropped why)) }
@@ -93,7 +93,7 @@ impl<R: Rng + Drop, A: Allocator + Clone> Node<R, A> {
         ensures clock { OnOk result (self.new ≡ record self.old { last = now }) }
         ensures keeps { OnErr result (self.new ≡ self.old) }
         ensures told { OnErr result (outs.new.items ≡ outs.old.items) }
-        ensures quiet { vec_len outs.old < vec_capacity outs.old → IsOk result }
+        ensures quiet { 0 < outs.old.free → IsOk result }
     {
         let answer = self.drop_frame(now, why, outs)?;
         Ok(Reception {
@@ -108,7 +108,7 @@ impl<R: Rng + Drop, A: Allocator + Clone> Node<R, A> {
         &mut self,
         now: u64,
         heard: &Heard<'_>,
-        outs: &mut Vec<(u64, Out<A>), A>,
+        outs: &mut Reports<A>,
     ) -> Result<Reception, AllocError>
         requires moment { IsMoment now }
         requires settled { now < next_of self.old }
@@ -117,9 +117,9 @@ impl<R: Rng + Drop, A: Allocator + Clone> Node<R, A> {
         ensures idle { (frame : List ℕ) (verdict : Verdict) (start : Start) (c : Chronicle) → Stands R.stream start self.old c → last_moment start.at c ≤ now → Judges start ((now, Passed) ∷ c) now frame (valid heard.now.source heard.now.destination (parts_read self.old heard.now.message)) verdict → LeavesTables verdict → IfOk result (λ reception. reception.changes_tables ≡ false) }
         ensures stays { OnErr result (Stays R.stream self.old self.new) }
         ensures told { OnErr result (outs.new.items ≡ outs.old.items) }
-        ensures refused { (frame : List ℕ) (verdict : Verdict) (start : Start) (c : Chronicle) → Stands R.stream start self.old c → last_moment start.at c ≤ now → Judges start ((now, Passed) ∷ c) now frame (valid heard.now.source heard.now.destination (parts_read self.old heard.now.message)) verdict → AddsRefusal now c (VerdictAdds start now frame verdict) → vec_len outs.old < vec_capacity outs.old → IsOk result }
-        ensures quiet { (ra : RouterAdvertisement) → heard.now.message.body ≡ bodies.Ra ra → AddsNoName self.old now heard.now.source (options_left heard.now.message.options) (vec_capacity outs.old - vec_len outs.old) → IsOk result }
-        ensures dropped { (frame : List ℕ) (why : Why) (start : Start) (c : Chronicle) → Stands R.stream start self.old c → last_moment start.at c ≤ now → Judges start ((now, Passed) ∷ c) now frame (valid heard.now.source heard.now.destination (parts_read self.old heard.now.message)) (drops why) → vec_len outs.old < vec_capacity outs.old → IsOk result }
+        ensures refused { (frame : List ℕ) (verdict : Verdict) (start : Start) (c : Chronicle) → Stands R.stream start self.old c → last_moment start.at c ≤ now → Judges start ((now, Passed) ∷ c) now frame (valid heard.now.source heard.now.destination (parts_read self.old heard.now.message)) verdict → AddsRefusal now c (VerdictAdds start now frame verdict) → 0 < outs.old.free → IsOk result }
+        ensures quiet { (ra : RouterAdvertisement) → heard.now.message.body ≡ bodies.Ra ra → AddsNoName self.old now heard.now.source (options_left heard.now.message.options) outs.old.free → IsOk result }
+        ensures dropped { (frame : List ℕ) (why : Why) (start : Start) (c : Chronicle) → Stands R.stream start self.old c → last_moment start.at c ≤ now → Judges start ((now, Passed) ∷ c) now frame (valid heard.now.source heard.now.destination (parts_read self.old heard.now.message)) (drops why) → 0 < outs.old.free → IsOk result }
     {
         if !self.is_for_us(heard.source, heard.destination, &heard.message.body) {
             return self.drop_unheard(now, Why::NotForUs, outs);
@@ -141,7 +141,7 @@ impl<R: Rng + Drop, A: Allocator + Clone> Node<R, A> {
         &mut self,
         now: u64,
         frame: &[u8],
-        outs: &mut Vec<(u64, Out<A>), A>,
+        outs: &mut Reports<A>,
     ) -> Result<Reception, AllocError>
         requires moment { IsMoment now }
         requires settled { now < next_of self.old }
@@ -150,8 +150,8 @@ impl<R: Rng + Drop, A: Allocator + Clone> Node<R, A> {
         ensures idle { (verdict : Verdict) (start : Start) (c : Chronicle) → Stands R.stream start self.old c → last_moment start.at c ≤ now → IsHeard start ((now, Passed) ∷ c) now frame.now verdict → LeavesTables verdict → IfOk result (λ reception. reception.changes_tables ≡ false) }
         ensures stays { OnErr result (Stays R.stream self.old self.new) }
         ensures told { OnErr result (outs.new.items ≡ outs.old.items) }
-        ensures refused { (start : Start) (c : Chronicle) → Stands R.stream start self.old c → last_moment start.at c ≤ now → AddsRefusal now c (EventAdds start now (events.Receives frame.now)) → vec_len outs.old < vec_capacity outs.old → IsOk result }
-        ensures quiet { (start : Start) (c : Chronicle) → Stands R.stream start self.old c → last_moment start.at c ≤ now → AsksForNone start c self.old now (vec_capacity outs.old - vec_len outs.old) (events.Receives frame.now) → IsOk result }
+        ensures refused { (start : Start) (c : Chronicle) → Stands R.stream start self.old c → last_moment start.at c ≤ now → AddsRefusal now c (EventAdds start now (events.Receives frame.now)) → 0 < outs.old.free → IsOk result }
+        ensures quiet { (start : Start) (c : Chronicle) → Stands R.stream start self.old c → last_moment start.at c ≤ now → AsksForNone start c self.old now outs.old.free (events.Receives frame.now) → IsOk result }
     {
         match hear(frame, self.role) {
             Hearing::Drop(why) => self.drop_unheard(now, why, outs),
@@ -167,15 +167,15 @@ impl<R: Rng + Drop, A: Allocator + Clone> Node<R, A> {
         &mut self,
         now: u64,
         frame: &[u8],
-        outs: &mut Vec<(u64, Out<A>), A>,
+        outs: &mut Reports<A>,
     ) -> Result<Answer, AllocError>
         requires moment { IsMoment now }
         requires settled { now < next_of self.old }
         ensures adds { IfOk result (λ answer. AddsEvent R.stream self.old self.new outs.old.items outs.new.items now (events.Receives frame.now) (answer_of answer)) }
         ensures stays { OnErr result (Stays R.stream self.old self.new) }
         ensures told { OnErr result (outs.new.items ≡ outs.old.items) }
-        ensures refused { (start : Start) (c : Chronicle) → Stands R.stream start self.old c → last_moment start.at c ≤ now → AddsRefusal now c (EventAdds start now (events.Receives frame.now)) → vec_len outs.old < vec_capacity outs.old → IsOk result }
-        ensures quiet { (start : Start) (c : Chronicle) → Stands R.stream start self.old c → last_moment start.at c ≤ now → AsksForNone start c self.old now (vec_capacity outs.old - vec_len outs.old) (events.Receives frame.now) → IsOk result }
+        ensures refused { (start : Start) (c : Chronicle) → Stands R.stream start self.old c → last_moment start.at c ≤ now → AddsRefusal now c (EventAdds start now (events.Receives frame.now)) → 0 < outs.old.free → IsOk result }
+        ensures quiet { (start : Start) (c : Chronicle) → Stands R.stream start self.old c → last_moment start.at c ≤ now → AsksForNone start c self.old now outs.old.free (events.Receives frame.now) → IsOk result }
     {
         let reception = self.hear_frame(now, frame, outs)?;
         Ok(reception.answer)

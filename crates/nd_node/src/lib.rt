@@ -20,7 +20,7 @@
 //!
 //! - `Node::new` starts a node: its link-local address is tentative, and duplicate address detection is due (RFC 4862, sections 5.3 and 5.4).
 //!   `with_policies` gives it policies for a link that isn't trusted.
-//! - `event` does all that is due up to a moment, then what the event asks for. It appends what the node sends and reports to a list of `Out`, each
+//! - `event` does all that is due up to a moment, then what the event asks for. It appends what the node sends and reports to `Reports`, each
 //!   with its moment, and returns how the node took the event (`Answer`). `receive` does so for a frame and `send` for a packet that the caller
 //!   keeps, `run` for a list of events. A refused event adds its reason alone (`Out::Refused`).
 //! - `settle` and `turn` do what is due without an event. `add` adds an event where nothing is due, for callers whose nodes take turns.
@@ -28,7 +28,8 @@
 //!   up to which time has passed.
 //! - `neighbours`, `default_routers`, `prefixes`, `addresses`, `servers`, `search_names`, `redirects`, `parameters`, `advertising`, `offers` and
 //!   `routes` return what the node knows, row by row. `neighbour`, `next_hop_to`, `path` and `confirmed_by` look one thing up; `counts` and `waiting_at` return
-//!   numbers of entries and of waiting packets. The event `Shows` returns the rows of a table as text, and so does `rows`.
+//!   numbers of entries and of waiting packets. `rows` returns the rows of a table as text, and a `Request` has them
+//!   reported.
 //!
 //! # What may fail
 //! Only memory. `Node::new` returns the generator then, with no word drawn. After an error of `event` a part of what is due may have been done and
@@ -77,6 +78,7 @@ mod reachability_confirmation;
 mod redirect;
 mod refusal;
 mod removal;
+mod request;
 mod resolve;
 mod room;
 mod router_advertisement;
@@ -90,13 +92,15 @@ mod version;
 pub use answer::Answer;
 pub use clearing::Clearable;
 pub use counts::Counts;
-pub use event::{Event, Table};
+pub use event::Event;
 pub use frame::Reception;
 pub use limits::{Limits, USUAL_NEIGHBOURS, USUAL_ROUTERS};
 pub use nd_steps::{OutgoingPacket, Turned};
 pub use node::Node;
 pub use path::{Path, TimedPath};
 pub use policies::Policies;
+pub use request::Request;
 pub use resolve::Resolution;
+pub use shown::Table;
 pub use time::Turn;
 pub use version::{VERSION, VERSION_NUMBER};

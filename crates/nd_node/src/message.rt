@@ -1,6 +1,6 @@
 //! Handles a valid message for this node.
 
-ghost use Rattle.std.specs.Prelude.{◌≡◌, ◌+◌, ◌++◌, [], ◌∷◌, ◌-◌, ◌<◌, ◌≤◌, ℕ, List, IsOk, OnOk, OnErr, vec_len, vec_capacity, IfOk};
+ghost use Rattle.std.specs.Prelude.{◌≡◌, ◌+◌, ◌++◌, [], ◌∷◌, ◌-◌, ◌<◌, ◌≤◌, ℕ, List, IsOk, OnOk, OnErr, IfOk};
 ghost use Rattle.nd_decode.specs.Pieces.{options_left};
 ghost use Rattle.nd_decode.specs.declared.body.Body.TheVariants as bodies;
 ghost use Rattle.nd_decode.specs.declared.router_advertisement.RouterAdvertisement.{RouterAdvertisement};
@@ -20,7 +20,7 @@ use crate::answer::Answer;
 use crate::node::Node;
 use nd_addr::Why;
 use nd_decode::Body;
-use nd_out::Out;
+use nd_out::{Out, Reports};
 use nd_validity::Heard;
 use rand_core::Rng;
 use std::alloc::{AllocError, Allocator};
@@ -30,15 +30,10 @@ use std::alloc::{AllocError, Allocator};
 pub(crate) const MOST_ROWS: usize = 4;
 
 /// Reports a valid message for this node, at `now` in milliseconds, into room that was made before.
-pub(crate) fn push_heard<A: Allocator>(
-    outs: &mut Vec<(u64, Out<A>), A>,
-    now: u64,
-    heard: &Heard<'_>,
-)
-    requires { vec_len outs.old < vec_capacity outs.old }
+pub(crate) fn push_heard<A: Allocator>(outs: &mut Reports<A>, now: u64, heard: &Heard<'_>)
+    requires { 0 < outs.old.free }
     ensures items { outs.new.items ≡ outs.old.items ++ (now, reports.Heard heard.now.source heard.now.destination heard.now.message.body) ∷ [] }
-    ensures len { vec_len outs.new ≡ vec_len outs.old + 1 }
-    ensures capacity { vec_capacity outs.new ≡ vec_capacity outs.old }
+    ensures len { outs.new.free + 1 ≡ outs.old.free }
 {
     let report = Out::Heard {
         source: heard.source,
@@ -53,17 +48,11 @@ impl<R: Rng + Drop, A: Allocator + Clone> Node<R, A> {
 
     /// Reports a valid message for this node, at `now` in milliseconds, into room that was made before, and advances the clock: the message can no
     /// longer fail. The caller applies what it says.
-    pub(crate) fn report_heard(
-        &mut self,
-        now: u64,
-        heard: &Heard<'_>,
-        outs: &mut Vec<(u64, Out<A>), A>,
-    )
-        requires { vec_len outs.old < vec_capacity outs.old }
+    pub(crate) fn report_heard(&mut self, now: u64, heard: &Heard<'_>, outs: &mut Reports<A>)
+        requires { 0 < outs.old.free }
         ensures clock { self.new ≡ record self.old { last = now } }
         ensures items { outs.new.items ≡ outs.old.items ++ (now, reports.Heard heard.now.source heard.now.destination heard.now.message.body) ∷ [] }
-        ensures len { vec_len outs.new ≡ vec_len outs.old + 1 }
-        ensures capacity { vec_capacity outs.new ≡ vec_capacity outs.old }
+        ensures len { outs.new.free + 1 ≡ outs.old.free }
     {
         self.advance_to(now);
         push_heard(outs, now, heard);
@@ -75,7 +64,7 @@ impl<R: Rng + Drop, A: Allocator + Clone> Node<R, A> {
         &mut self,
         now: u64,
         why: Why,
-        outs: &mut Vec<(u64, Out<A>), A>,
+        outs: &mut Reports<A>,
     ) -> Result<Answer, AllocError>
         requires settled { now < next_of self.old }
         ensures adds { OnOk result (AddsAlone R.stream self.old self.new outs.old.items outs.new.items now (Dropped why)) }
@@ -85,7 +74,7 @@ impl<R: Rng + Drop, A: Allocator + Clone> Node<R, A> {
         ensures told { OnErr result (outs.new.items ≡ outs.old.items) }
 
         // If the list has room for the report it succeeds, even if no memory is left.
-        ensures quiet { vec_len outs.old < vec_capacity outs.old → IsOk result }
+        ensures quiet { 0 < outs.old.free → IsOk result }
     {
         self.report(now, Out::Dropped(why), outs)?;
         Ok(Answer::Done)
@@ -98,15 +87,15 @@ impl<R: Rng + Drop, A: Allocator + Clone> Node<R, A> {
         &mut self,
         now: u64,
         heard: &Heard<'_>,
-        outs: &mut Vec<(u64, Out<A>), A>,
+        outs: &mut Reports<A>,
     ) -> Result<Answer, AllocError>
         requires moment { IsMoment now }
         requires settled { now < next_of self.old }
         ensures adds { IfOk result (λ answer. AddsMessage R.stream self.old self.new outs.old.items outs.new.items now heard.now.source heard.now.destination (parts_read self.old heard.now.message) (answer_of answer)) }
         ensures stays { OnErr result (Stays R.stream self.old self.new) }
         ensures told { OnErr result (outs.new.items ≡ outs.old.items) }
-        ensures refused { (frame : List ℕ) (verdict : Verdict) (start : Start) (c : Chronicle) → Stands R.stream start self.old c → last_moment start.at c ≤ now → Judges start ((now, Passed) ∷ c) now frame (valid heard.now.source heard.now.destination (parts_read self.old heard.now.message)) verdict → AddsRefusal now c (VerdictAdds start now frame verdict) → vec_len outs.old < vec_capacity outs.old → IsOk result }
-        ensures quiet { (ra : RouterAdvertisement) → heard.now.message.body ≡ bodies.Ra ra → AddsNoName self.old now heard.now.source (options_left heard.now.message.options) (vec_capacity outs.old - vec_len outs.old) → IsOk result }
+        ensures refused { (frame : List ℕ) (verdict : Verdict) (start : Start) (c : Chronicle) → Stands R.stream start self.old c → last_moment start.at c ≤ now → Judges start ((now, Passed) ∷ c) now frame (valid heard.now.source heard.now.destination (parts_read self.old heard.now.message)) verdict → AddsRefusal now c (VerdictAdds start now frame verdict) → 0 < outs.old.free → IsOk result }
+        ensures quiet { (ra : RouterAdvertisement) → heard.now.message.body ≡ bodies.Ra ra → AddsNoName self.old now heard.now.source (options_left heard.now.message.options) outs.old.free → IsOk result }
     {
         match &heard.message.body {
             Body::Rs => self.hear_router_solicitation(now, heard, outs),

@@ -1,6 +1,6 @@
 //! Handles a Neighbor Advertisement (RFC 4861, section 7.2.5; RFC 4862, section 5.4.4).
 
-ghost use Rattle.std.specs.Prelude.{◌≡◌, ◌∷◌, ◌<◌, ◌≤◌, Some, IsOk, OnErr, vec_capacity, vec_len, IfOk};
+ghost use Rattle.std.specs.Prelude.{◌≡◌, ◌∷◌, ◌<◌, ◌≤◌, Some, IsOk, OnErr, IfOk};
 ghost use Rattle.nd_decode.specs.declared.body.Body.TheVariants as bodies;
 ghost use Rattle.nd_table.specs.Moment.{IsMoment};
 ghost use Rattle.nd_chronicle.specs.Full.{Fills};
@@ -13,7 +13,7 @@ use crate::answer::Answer;
 use crate::message::MOST_ROWS;
 use crate::node::Node;
 use nd_decode::NeighborAdvertisement;
-use nd_out::Out;
+use nd_out::Reports;
 use nd_packet::MAX_WAITING;
 use nd_steps::{end_router, hear_holder, hear_of_neighbour, news_of, times_in_force};
 use nd_validity::Heard;
@@ -32,7 +32,7 @@ impl<R: Rng + Drop, A: Allocator + Clone> Node<R, A> {
         now: u64,
         heard: &Heard<'_>,
         na: &NeighborAdvertisement,
-        outs: &mut Vec<(u64, Out<A>), A>,
+        outs: &mut Reports<A>,
     ) -> Result<Answer, AllocError>
         requires moment { IsMoment now }
         requires settled { now < next_of self.old }
@@ -40,7 +40,7 @@ impl<R: Rng + Drop, A: Allocator + Clone> Node<R, A> {
         ensures adds { IfOk result (λ answer. AddsMessage R.stream self.old self.new outs.old.items outs.new.items now heard.now.source heard.now.destination (record { body = bodies.Na na.now; options = options_read self.old heard.now.message.options }) (answer_of answer)) }
         ensures keeps { OnErr result (self.new ≡ self.old) }
         ensures told { OnErr result (outs.new.items ≡ outs.old.items) }
-        ensures full { (limit : Table) (start : Start) (c : Chronicle) → Stands R.stream start self.old c → last_moment start.at c ≤ now → Fills start ((now, Passed) ∷ c) now heard.now.source (record { body = bodies.Na na.now; options = options_read self.old heard.now.message.options }) (bodies.Na na.now) (Some limit) → vec_len outs.old < vec_capacity outs.old → IsOk result }
+        ensures full { (limit : Table) (start : Start) (c : Chronicle) → Stands R.stream start self.old c → last_moment start.at c ≤ now → Fills start ((now, Passed) ∷ c) now heard.now.source (record { body = bodies.Na na.now; options = options_read self.old heard.now.message.options }) (bodies.Na na.now) (Some limit) → 0 < outs.old.free → IsOk result }
     {
         nd_neighbour::laws::none_overdue();
         nd_neighbour::laws::one_is_pushed_out();

@@ -1,6 +1,6 @@
 //! Handles a Neighbor Solicitation (RFC 4861, sections 7.2.3 and 7.2.4; RFC 4862, section 5.4.3).
 
-ghost use Rattle.std.specs.Prelude.{◌≡◌, ◌∷◌, ◌++◌, ◌+◌, ◌<◌, ◌≤◌, List, map, None, Some, IfOk, IsOk, OnOk, OnErr, bytes_eq, false, if◌then◌else◌, true, is_some, vec_len, vec_capacity};
+ghost use Rattle.std.specs.Prelude.{◌≡◌, ◌∷◌, ◌++◌, ◌+◌, ◌<◌, ◌≤◌, List, map, None, Some, IfOk, IsOk, OnOk, OnErr, bytes_eq, false, if◌then◌else◌, true, is_some};
 ghost use Rattle.nd_addr.specs.Frame.{addressed};
 ghost use Rattle.nd_addr.specs.Kind.{unspecified_address};
 ghost use Rattle.nd_addr.specs.Number.{number_of};
@@ -34,7 +34,7 @@ use nd_addr::{Addr, Mac, Role};
 use nd_compose::FrameRoom;
 use nd_decode::NeighborSolicitation;
 use nd_neighbour::{Cache, News};
-use nd_out::{Limit, Out, Refusal};
+use nd_out::{Limit, Out, Refusal, Reports};
 use nd_packet::{MAX_WAITING, Packet};
 use nd_steps::{
     answer_address, has_place, hear_conflict, hear_giver, most_told_of_way, news_of, note_way,
@@ -64,7 +64,7 @@ impl<R: Rng + Drop, A: Allocator + Clone> Node<R, A> {
         now: u64,
         heard: &Heard<'_>,
         ns: &NeighborSolicitation,
-        outs: &mut Vec<(u64, Out<A>), A>,
+        outs: &mut Reports<A>,
     ) -> Result<Answer, AllocError>
         requires moment { IsMoment now }
         requires settled { now < next_of self.old }
@@ -72,7 +72,7 @@ impl<R: Rng + Drop, A: Allocator + Clone> Node<R, A> {
         ensures adds { IfOk result (λ answer. AddsMessage R.stream self.old self.new outs.old.items outs.new.items now heard.now.source heard.now.destination (record { body = bodies.Ns ns.now; options = options_read self.old heard.now.message.options }) (answer_of answer)) }
         ensures keeps { OnErr result (Keeps self.old self.new) }
         ensures told { OnErr result (outs.new.items ≡ outs.old.items) }
-        ensures full { (limit : Table) (start : Start) (c : Chronicle) → Stands R.stream start self.old c → last_moment start.at c ≤ now → Fills start ((now, Passed) ∷ c) now heard.now.source (record { body = bodies.Ns ns.now; options = options_read self.old heard.now.message.options }) (bodies.Ns ns.now) (Some limit) → self.old.policies.parts ≡ false → vec_len outs.old < vec_capacity outs.old → IsOk result }
+        ensures full { (limit : Table) (start : Start) (c : Chronicle) → Stands R.stream start self.old c → last_moment start.at c ≤ now → Fills start ((now, Passed) ∷ c) now heard.now.source (record { body = bodies.Ns ns.now; options = options_read self.old heard.now.message.options }) (bodies.Ns ns.now) (Some limit) → self.old.policies.parts ≡ false → 0 < outs.old.free → IsOk result }
     {
         if heard.source.is_unspecified() {
             return self.hear_detection(now, heard, ns, outs);
@@ -88,7 +88,7 @@ impl<R: Rng + Drop, A: Allocator + Clone> Node<R, A> {
         now: u64,
         heard: &Heard<'_>,
         ns: &NeighborSolicitation,
-        outs: &mut Vec<(u64, Out<A>), A>,
+        outs: &mut Reports<A>,
     ) -> Result<Answer, AllocError>
         requires moment { IsMoment now }
         requires settled { now < next_of self.old }
@@ -97,7 +97,7 @@ impl<R: Rng + Drop, A: Allocator + Clone> Node<R, A> {
         ensures adds { IfOk result (λ answer. (options : List Said) → AddsMessage R.stream self.old self.new outs.old.items outs.new.items now heard.now.source heard.now.destination (record { body = bodies.Ns ns.now; options = options }) (answer_of answer)) }
         ensures keeps { OnErr result (Keeps self.old self.new) }
         ensures told { OnErr result (outs.new.items ≡ outs.old.items) }
-        ensures full { (options : List Said) (limit : Table) (start : Start) (c : Chronicle) → Stands R.stream start self.old c → last_moment start.at c ≤ now → Fills start ((now, Passed) ∷ c) now heard.now.source (record { body = bodies.Ns ns.now; options = options }) (bodies.Ns ns.now) (Some limit) → self.old.policies.parts ≡ false → vec_len outs.old < vec_capacity outs.old → IsOk result }
+        ensures full { (options : List Said) (limit : Table) (start : Start) (c : Chronicle) → Stands R.stream start self.old c → last_moment start.at c ≤ now → Fills start ((now, Passed) ∷ c) now heard.now.source (record { body = bodies.Ns ns.now; options = options }) (bodies.Ns ns.now) (Some limit) → self.old.policies.parts ≡ false → 0 < outs.old.free → IsOk result }
     {
         nd_slaac::laws::none_overdue();
         let room = FrameRoom::new(outs.allocator().clone()?)?;
@@ -123,7 +123,7 @@ impl<R: Rng + Drop, A: Allocator + Clone> Node<R, A> {
         now: u64,
         heard: &Heard<'_>,
         ns: &NeighborSolicitation,
-        outs: &mut Vec<(u64, Out<A>), A>,
+        outs: &mut Reports<A>,
     ) -> Result<Answer, AllocError>
         requires moment { IsMoment now }
         requires settled { now < next_of self.old }
@@ -132,7 +132,7 @@ impl<R: Rng + Drop, A: Allocator + Clone> Node<R, A> {
         ensures adds { IfOk result (λ answer. AddsMessage R.stream self.old self.new outs.old.items outs.new.items now heard.now.source heard.now.destination (record { body = bodies.Ns ns.now; options = options_read self.old heard.now.message.options }) (answer_of answer)) }
         ensures keeps { OnErr result (Keeps self.old self.new) }
         ensures told { OnErr result (outs.new.items ≡ outs.old.items) }
-        ensures full { (limit : Table) (start : Start) (c : Chronicle) → Stands R.stream start self.old c → last_moment start.at c ≤ now → Fills start ((now, Passed) ∷ c) now heard.now.source (record { body = bodies.Ns ns.now; options = options_read self.old heard.now.message.options }) (bodies.Ns ns.now) (Some limit) → self.old.policies.parts ≡ false → vec_len outs.old < vec_capacity outs.old → IsOk result }
+        ensures full { (limit : Table) (start : Start) (c : Chronicle) → Stands R.stream start self.old c → last_moment start.at c ≤ now → Fills start ((now, Passed) ∷ c) now heard.now.source (record { body = bodies.Ns ns.now; options = options_read self.old heard.now.message.options }) (bodies.Ns ns.now) (Some limit) → self.old.policies.parts ≡ false → 0 < outs.old.free → IsOk result }
     {
         nd_neighbour::laws::none_overdue();
         nd_neighbour::laws::one_is_pushed_out();
@@ -179,7 +179,7 @@ impl<R: Rng + Drop, A: Allocator + Clone> Node<R, A> {
         now: u64,
         heard: &Heard<'_>,
         ns: &NeighborSolicitation,
-        outs: &mut Vec<(u64, Out<A>), A>,
+        outs: &mut Reports<A>,
     ) -> Result<Answer, AllocError>
         requires moment { IsMoment now }
         requires settled { now < next_of self.old }
@@ -226,11 +226,10 @@ fn answer_to<A: Allocator>(
 }
 
 /// Reports at `now`, in milliseconds, the frame of an answer, if there is one. It takes no memory: the caller has made room.
-fn tell_answer<A: Allocator>(outs: &mut Vec<(u64, Out<A>), A>, now: u64, answer: Option<Packet<A>>)
-    requires { vec_len outs.old < vec_capacity outs.old }
+fn tell_answer<A: Allocator>(outs: &mut Reports<A>, now: u64, answer: Option<Packet<A>>)
+    requires { 0 < outs.old.free }
     ensures told { happenings outs.new.items ≡ happenings outs.old.items ++ at_moment now (map (λ frame. Sent frame) (option_to_list answer)) }
-    ensures len { vec_len outs.new ≤ vec_len outs.old + 1 }
-    ensures capacity { vec_capacity outs.new ≡ vec_capacity outs.old }
+    ensures len { outs.old.free ≤ outs.new.free + 1 }
 {
     if let Some(frame) = answer {
         outs.push_reserved((now, Out::Frame(frame)));
@@ -266,9 +265,9 @@ fn make_room<A: Allocator + Clone>(
     asker: Addr,
     news: Option<News>,
     speakers: bool,
-    outs: &mut Vec<(u64, Out<A>), A>,
+    outs: &mut Reports<A>,
 ) -> Result<AnswerRoom<A>, AllocError>
-    ensures places { OnOk result (vec_len outs.new + max_waiting + 3 + (if speakers then max_waiting + 1 else 0) ≤ vec_capacity outs.new) }
+    ensures places { OnOk result (max_waiting + 3 + (if speakers then max_waiting + 1 else 0) ≤ outs.new.free) }
     ensures ring { OnOk result (news ≡ None → entry_in (number_of asker.0) neighbours.old.entries ≡ None → 0 < neighbours.new.rings) }
     ensures solicitation { IfOk result (λ room. news ≡ None → entry_in (number_of asker.0) neighbours.old.entries ≡ None → is_some room.solicitation ≡ true) }
     ensures entries { neighbours.new.entries ≡ neighbours.old.entries }

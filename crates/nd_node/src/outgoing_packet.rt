@@ -1,6 +1,6 @@
 //! Sends a packet of the upper layer (RFC 4861, section 5.2).
 
-ghost use Rattle.std.specs.Prelude.{◌≡◌, ◌<◌, ◌≤◌, length, ℕ, List, None, IsOk, OnErr, OnOk, false, true, option_map, Some, vec_capacity, vec_len, IfOk};
+ghost use Rattle.std.specs.Prelude.{◌≡◌, ◌<◌, ◌≤◌, length, ℕ, List, None, IsOk, OnErr, OnOk, false, true, option_map, Some, IfOk};
 ghost use Rattle.nd_addr.specs.Number.{number_of};
 ghost use Rattle.nd_table.specs.Moment.{IsMoment};
 ghost use Rattle.nd_chronicle.specs.Event as events;
@@ -26,7 +26,7 @@ use crate::node::Node;
 use nd_addr::{Addr, Mac};
 use nd_compose::OPEN_MAC;
 use nd_nexthop::Hop;
-use nd_out::{Limit, Loss, Out, Refusal};
+use nd_out::{Limit, Loss, Out, Refusal, Reports};
 use nd_packet::Packet;
 use nd_slaac::Counted;
 use nd_steps::{OutgoingPacket, is_too_long, ready_for};
@@ -64,7 +64,7 @@ impl<R: Rng + Drop, A: Allocator + Clone> Node<R, A> {
         now: u64,
         why: Loss,
         packet: Packet<A>,
-        outs: &mut Vec<(u64, Out<A>), A>,
+        outs: &mut Reports<A>,
     ) -> Result<(), AllocError>
         requires settled { now < next_of self.old }
         ensures adds { OnOk result (AddsAlone R.stream self.old self.new outs.old.items outs.new.items now (Lost (loss_of why) packet)) }
@@ -79,7 +79,7 @@ impl<R: Rng + Drop, A: Allocator + Clone> Node<R, A> {
         &mut self,
         now: u64,
         packet: Packet<A>,
-        outs: &mut Vec<(u64, Out<A>), A>,
+        outs: &mut Reports<A>,
     ) -> Result<Answer, AllocError>
         requires settled { now < next_of self.old }
         ensures adds { OnOk result (AddsAlone R.stream self.old self.new outs.old.items outs.new.items now (Sent packet)) }
@@ -96,14 +96,14 @@ impl<R: Rng + Drop, A: Allocator + Clone> Node<R, A> {
         &mut self,
         now: u64,
         to: Addr,
-        outs: &mut Vec<(u64, Out<A>), A>,
+        outs: &mut Reports<A>,
     ) -> Result<Answer, AllocError>
         requires settled { now < next_of self.old }
         requires full { has_room self.old.neighbours.limit now (number_of to.0) None self.old.neighbours.entries ≡ false }
         ensures adds { IfOk result (λ answer. (packet : List ℕ) → AddsToNeighbour R.stream self.old self.new outs.old.items outs.new.items now (number_of to.0) packet (answer_of answer)) }
         ensures keeps { OnErr result (Keeps self.old self.new) }
         ensures told { OnErr result (outs.new.items ≡ outs.old.items) }
-        ensures ready { vec_len outs.old < vec_capacity outs.old → IsOk result }
+        ensures ready { 0 < outs.old.free → IsOk result }
     {
         nd_neighbour::laws::full_by_history();
         self.refuse(now, Refusal::Full(Limit::Neighbours), outs)
@@ -116,7 +116,7 @@ impl<R: Rng + Drop, A: Allocator + Clone> Node<R, A> {
         now: u64,
         to: Addr,
         packet: Packet<A>,
-        outs: &mut Vec<(u64, Out<A>), A>,
+        outs: &mut Reports<A>,
     ) -> Result<Answer, AllocError>
         requires moment { IsMoment now }
         requires settled { now < next_of self.old }
@@ -141,7 +141,7 @@ impl<R: Rng + Drop, A: Allocator + Clone> Node<R, A> {
         now: u64,
         to: Addr,
         outgoing: &OutgoingPacket<A>,
-        outs: &mut Vec<(u64, Out<A>), A>,
+        outs: &mut Reports<A>,
     ) -> Result<Answer, AllocError>
         requires moment { IsMoment now }
         requires settled { now < next_of self.old }
@@ -149,7 +149,7 @@ impl<R: Rng + Drop, A: Allocator + Clone> Node<R, A> {
         ensures adds { IfOk result (λ answer. AddsToNeighbour R.stream self.old self.new outs.old.items outs.new.items now (number_of to.0) (frame_of open_mac self.old.mac self.old.params.hop_limit outgoing.now) (answer_of answer)) }
         ensures keeps { OnErr result (Keeps self.old self.new) }
         ensures told { OnErr result (outs.new.items ≡ outs.old.items) }
-        ensures refused { (packet : List ℕ) (start : Start) (c : Chronicle) → Stands R.stream start self.old c → AddsRefusal now c (GoesIfPlaced start now (number_of to.0) packet) → vec_len outs.old < vec_capacity outs.old → IsOk result }
+        ensures refused { (packet : List ℕ) (start : Start) (c : Chronicle) → Stands R.stream start self.old c → AddsRefusal now c (GoesIfPlaced start now (number_of to.0) packet) → 0 < outs.old.free → IsOk result }
     {
         nd_neighbour::laws::room_is_place();
         nd_neighbour::laws::full_by_history();
@@ -168,7 +168,7 @@ impl<R: Rng + Drop, A: Allocator + Clone> Node<R, A> {
         &mut self,
         now: u64,
         outgoing: &OutgoingPacket<A>,
-        outs: &mut Vec<(u64, Out<A>), A>,
+        outs: &mut Reports<A>,
     ) -> Result<Answer, AllocError>
         requires moment { IsMoment now }
         requires settled { now < next_of self.old }
@@ -176,7 +176,7 @@ impl<R: Rng + Drop, A: Allocator + Clone> Node<R, A> {
         ensures adds { IfOk result (λ answer. AddsPacket R.stream self.old self.new outs.old.items outs.new.items now direct outgoing.now (answer_of answer)) }
         ensures keeps { OnErr result (Keeps self.old self.new) }
         ensures told { OnErr result (outs.new.items ≡ outs.old.items) }
-        ensures refused { (start : Start) (c : Chronicle) → Stands R.stream start self.old c → AddsRefusal now c (PacketAdds start now direct outgoing.now.source outgoing.now.destination outgoing.now.next_header outgoing.now.payload.items) → vec_len outs.old < vec_capacity outs.old → IsOk result }
+        ensures refused { (start : Start) (c : Chronicle) → Stands R.stream start self.old c → AddsRefusal now c (PacketAdds start now direct outgoing.now.source outgoing.now.destination outgoing.now.next_header outgoing.now.payload.items) → 0 < outs.old.free → IsOk result }
     {
         let destination = outgoing.destination;
         if destination.is_multicast() {
@@ -196,7 +196,7 @@ impl<R: Rng + Drop, A: Allocator + Clone> Node<R, A> {
         now: u64,
         hop: Hop,
         outgoing: &OutgoingPacket<A>,
-        outs: &mut Vec<(u64, Out<A>), A>,
+        outs: &mut Reports<A>,
     ) -> Result<Answer, AllocError>
         requires moment { IsMoment now }
         requires settled { now < next_of self.old }
@@ -204,7 +204,7 @@ impl<R: Rng + Drop, A: Allocator + Clone> Node<R, A> {
         ensures adds { IfOk result (λ answer. AddsPacket R.stream self.old self.new outs.old.items outs.new.items now (hop_of hop) outgoing.now (answer_of answer)) }
         ensures keeps { OnErr result (Keeps self.old self.new) }
         ensures told { OnErr result (outs.new.items ≡ outs.old.items) }
-        ensures refused { (start : Start) (c : Chronicle) → Stands R.stream start self.old c → AddsRefusal now c (PacketAdds start now (hop_of hop) outgoing.now.source outgoing.now.destination outgoing.now.next_header outgoing.now.payload.items) → vec_len outs.old < vec_capacity outs.old → IsOk result }
+        ensures refused { (start : Start) (c : Chronicle) → Stands R.stream start self.old c → AddsRefusal now c (PacketAdds start now (hop_of hop) outgoing.now.source outgoing.now.destination outgoing.now.next_header outgoing.now.payload.items) → 0 < outs.old.free → IsOk result }
     {
         match hop {
             Hop::Direct => self.send_directly(now, outgoing, outs),
@@ -224,7 +224,7 @@ impl<R: Rng + Drop, A: Allocator + Clone> Node<R, A> {
         &mut self,
         now: u64,
         outgoing: &OutgoingPacket<A>,
-        outs: &mut Vec<(u64, Out<A>), A>,
+        outs: &mut Reports<A>,
     ) -> Result<Answer, AllocError>
         requires moment { IsMoment now }
         requires settled { now < next_of self.old }
@@ -233,7 +233,7 @@ impl<R: Rng + Drop, A: Allocator + Clone> Node<R, A> {
         ensures adds { IfOk result (λ answer. AddsEvent R.stream self.old self.new outs.old.items outs.new.items now (events.Sends outgoing.now.source outgoing.now.destination outgoing.now.next_header outgoing.now.payload.items) (answer_of answer)) }
         ensures stays { OnErr result (Stays R.stream self.old self.new) }
         ensures told { OnErr result (outs.new.items ≡ outs.old.items) }
-        ensures refused { (start : Start) (c : Chronicle) → Stands R.stream start self.old c → last_moment start.at c ≤ now → AddsRefusal now c (EventAdds start now (events.Sends outgoing.now.source outgoing.now.destination outgoing.now.next_header outgoing.now.payload.items)) → vec_len outs.old < vec_capacity outs.old → IsOk result }
+        ensures refused { (start : Start) (c : Chronicle) → Stands R.stream start self.old c → last_moment start.at c ≤ now → AddsRefusal now c (EventAdds start now (events.Sends outgoing.now.source outgoing.now.destination outgoing.now.next_header outgoing.now.payload.items)) → 0 < outs.old.free → IsOk result }
     {
         let hop = self.hop_of_packet(now, outgoing.destination);
         self.send_by_hop(now, hop, outgoing, outs)
@@ -245,14 +245,14 @@ impl<R: Rng + Drop, A: Allocator + Clone> Node<R, A> {
         &mut self,
         now: u64,
         outgoing: &OutgoingPacket<A>,
-        outs: &mut Vec<(u64, Out<A>), A>,
+        outs: &mut Reports<A>,
     ) -> Result<Answer, AllocError>
         requires moment { IsMoment now }
         requires settled { now < next_of self.old }
         ensures adds { IfOk result (λ answer. AddsEvent R.stream self.old self.new outs.old.items outs.new.items now (events.Sends outgoing.now.source outgoing.now.destination outgoing.now.next_header outgoing.now.payload.items) (answer_of answer)) }
         ensures stays { OnErr result (Stays R.stream self.old self.new) }
         ensures told { OnErr result (outs.new.items ≡ outs.old.items) }
-        ensures refused { (start : Start) (c : Chronicle) → Stands R.stream start self.old c → last_moment start.at c ≤ now → AddsRefusal now c (EventAdds start now (events.Sends outgoing.now.source outgoing.now.destination outgoing.now.next_header outgoing.now.payload.items)) → vec_len outs.old < vec_capacity outs.old → IsOk result }
+        ensures refused { (start : Start) (c : Chronicle) → Stands R.stream start self.old c → last_moment start.at c ≤ now → AddsRefusal now c (EventAdds start now (events.Sends outgoing.now.source outgoing.now.destination outgoing.now.next_header outgoing.now.payload.items)) → 0 < outs.old.free → IsOk result }
     {
         match self.refusal_of(outgoing.source, &outgoing.payload) {
             Some(refusal) => self.refuse(now, refusal, outs),
@@ -269,14 +269,14 @@ impl<R: Rng + Drop, A: Allocator + Clone> Node<R, A> {
         destination: Addr,
         next_header: u8,
         payload: &[u8],
-        outs: &mut Vec<(u64, Out<A>), A>,
+        outs: &mut Reports<A>,
     ) -> Result<Answer, AllocError>
         requires moment { IsMoment now }
         requires settled { now < next_of self.old }
         ensures adds { IfOk result (λ answer. AddsEvent R.stream self.old self.new outs.old.items outs.new.items now (events.Sends source destination next_header payload.now) (answer_of answer)) }
         ensures stays { OnErr result (Stays R.stream self.old self.new) }
         ensures told { OnErr result (outs.new.items ≡ outs.old.items) }
-        ensures refused { (refusal : Why) (start : Start) (c : Chronicle) → Stands R.stream start self.old c → refusal_of_packet start now source payload.now c ≡ Some refusal → vec_len outs.old < vec_capacity outs.old → IsOk result }
+        ensures refused { (refusal : Why) (start : Start) (c : Chronicle) → Stands R.stream start self.old c → refusal_of_packet start now source payload.now c ≡ Some refusal → 0 < outs.old.free → IsOk result }
     {
         if let Some(refusal) = self.refusal_of(source, payload) {
             return self.refuse(now, refusal, outs);

@@ -1,6 +1,6 @@
 //! Sends a packet to a neighbour (RFC 4861, sections 7.2.2 and 7.3.3). The definition is in `specs/Packet.antt`.
 
-ghost use Rattle.std.specs.Prelude.{◌≡◌, ℕ, ◌+◌, ◌-◌, ◌<◌, ◌≤◌, None, if◌then◌else◌, is_some, true, vec_len, vec_capacity};
+ghost use Rattle.std.specs.Prelude.{◌≡◌, ℕ, ◌+◌, ◌-◌, ◌<◌, ◌≤◌, None, if◌then◌else◌, is_some, true};
 ghost use Rattle.std.specs.Option.{option_map};
 ghost use Rattle.nd_addr.specs.Number.{mac_at, number_of};
 ghost use Rattle.nd_chronicle.specs.Start.{Start};
@@ -15,7 +15,7 @@ ghost use Rattle.nd_node.specs.Time.{Leads};
 use crate::node::Node;
 use nd_addr::{Addr, Mac};
 use nd_compose::FrameRoom;
-use nd_out::Out;
+use nd_out::{Out, Reports};
 use nd_packet::Packet;
 use nd_steps::{known_mac, link_local, note_use, tell_use, times_in_force};
 use rand_core::Rng;
@@ -33,14 +33,14 @@ impl<R: Rng + Drop, A: Allocator + Clone> Node<R, A> {
         to: Addr,
         packet: Packet<A>,
         solicitation: Option<FrameRoom<A>>,
-        outs: &mut Vec<(u64, Out<A>), A>,
+        outs: &mut Reports<A>,
     )
         requires moment { IsMoment now }
         requires last { self.old.last ≡ now }
         requires place { has_room self.old.neighbours.limit now (number_of to.0) None self.old.neighbours.entries ≡ true }
         requires ring { entry_in (number_of to.0) self.old.neighbours.entries ≡ None → 0 < self.old.neighbours.rings }
         requires solicitation { entry_in (number_of to.0) self.old.neighbours.entries ≡ None → is_some solicitation ≡ true }
-        requires room { vec_len outs.old < vec_capacity outs.old }
+        requires room { 0 < outs.old.free }
         ensures leads { Leads R.stream self.old self.new outs.old.items outs.new.items (ReplyGoes now (number_of to.0) packet) }
     {
         match self.sent_alone_to(to) {
@@ -68,22 +68,21 @@ impl<R: Rng + Drop, A: Allocator + Clone> Node<R, A> {
         to: Addr,
         packet: Packet<A>,
         solicitation: Option<FrameRoom<A>>,
-        outs: &mut Vec<(u64, Out<A>), A>,
+        outs: &mut Reports<A>,
     )
         requires moment { IsMoment now }
         requires last { self.old.last ≡ now }
         requires place { has_room self.old.neighbours.limit now (number_of to.0) None self.old.neighbours.entries ≡ true }
         requires ring { entry_in (number_of to.0) self.old.neighbours.entries ≡ None → 0 < self.old.neighbours.rings }
         requires solicitation { entry_in (number_of to.0) self.old.neighbours.entries ≡ None → is_some solicitation ≡ true }
-        requires room { vec_len outs.old < vec_capacity outs.old }
+        requires room { 0 < outs.old.free }
         ensures leads { Leads R.stream self.old self.new outs.old.items outs.new.items (PacketGoes now (number_of to.0) packet) }
 
         // The room that a second packet after this one needs.
         ensures leaves { LeavesRoom self.old.neighbours.limit now (number_of to.0) self.old.neighbours.entries self.new.neighbours.entries }
         ensures limit { self.new.neighbours.limit ≡ self.old.neighbours.limit }
         ensures rings { self.new.neighbours.rings ≡ (if is_some (entry_in (number_of to.0) self.old.neighbours.entries) then self.old.neighbours.rings else self.old.neighbours.rings - 1) }
-        ensures places { vec_len outs.new ≤ vec_len outs.old + 1 }
-        ensures capacity { vec_capacity outs.new ≡ vec_capacity outs.old }
+        ensures places { outs.old.free ≤ outs.new.free + 1 }
         ensures last { self.new.last ≡ self.old.last }
     {
         nd_neighbour::laws::none_overdue();

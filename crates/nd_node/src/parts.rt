@@ -1,7 +1,7 @@
 //! A message is taken in part, where a table has no room for all of it: with the policy `parts` (RFC 8106, section 5.3.1). The definitions are in
 //! `specs/Parts.antt`, and in that of nd_chronicle.
 
-ghost use Rattle.std.specs.Prelude.{◌≡◌, ◌+◌, ◌++◌, ◌≤◌, map, vec_capacity, vec_len};
+ghost use Rattle.std.specs.Prelude.{◌≡◌, ◌+◌, ◌++◌, ◌≤◌, map};
 ghost use Rattle.nd_chronicle.specs.Happening.{Ignored};
 ghost use Rattle.nd_decode.specs.Pieces.{options_left};
 ghost use Rattle.nd_node.specs.Parts.{ignored_by, rooms_of};
@@ -10,7 +10,7 @@ ghost use Rattle.nd_steps.specs.Outputs.{at_moment, happenings};
 use crate::node::Node;
 use nd_addr::Addr;
 use nd_decode::{Options, RouterAdvertisement};
-use nd_out::{Limit, Out};
+use nd_out::{Limit, Reports};
 use nd_steps::tell_ignored;
 use rand_core::Rng;
 use std::alloc::Allocator;
@@ -56,8 +56,8 @@ impl<R: Rng + Drop, A: Allocator + Clone> Node<R, A> {
 
 /// Reports at `now`, in milliseconds, each limit of which a part of a Router Advertisement was passed over, in the order of the limits. It takes no memory: the
 /// caller has made room.
-pub(crate) fn tell_rooms<A: Allocator>(outs: &mut Vec<(u64, Out<A>), A>, now: u64, rooms: Rooms)
-    requires { vec_len outs.old + 6 ≤ vec_capacity outs.old }
+pub(crate) fn tell_rooms<A: Allocator>(outs: &mut Reports<A>, now: u64, rooms: Rooms)
+    requires { 6 ≤ outs.old.free }
     ensures { happenings outs.new.items ≡ happenings outs.old.items ++ at_moment now (map (λ l. Ignored l) (ignored_by rooms)) }
 {
     tell_ignored(outs, now, rooms.neighbours, Limit::Neighbours);

@@ -1,6 +1,6 @@
 //! Why a node refuses what needs its link-local address, and the report of a refusal.
 
-ghost use Rattle.std.specs.Prelude.{◌≡◌, ◌<◌, IsOk, OnErr, OnOk, vec_capacity, vec_len, IfOk};
+ghost use Rattle.std.specs.Prelude.{◌≡◌, ◌<◌, IsOk, OnErr, OnOk, IfOk};
 ghost use Rattle.std.specs.Option.{option_map};
 ghost use Rattle.nd_chronicle.specs.Happening.{Chronicle, Refused};
 ghost use Rattle.nd_chronicle.specs.OwnAddress.{refusal_unless_up};
@@ -10,7 +10,7 @@ ghost use Rattle.nd_out.specs.Out.{refusal_of};
 
 use crate::answer::Answer;
 use crate::node::Node;
-use nd_out::{Out, Refusal};
+use nd_out::{Out, Refusal, Reports};
 use rand_core::Rng;
 use std::alloc::{AllocError, Allocator};
 
@@ -38,7 +38,7 @@ impl<R: Rng + Drop, A: Allocator + Clone> Node<R, A> {
         &mut self,
         now: u64,
         refusal: Refusal,
-        outs: &mut Vec<(u64, Out<A>), A>,
+        outs: &mut Reports<A>,
     ) -> Result<Answer, AllocError>
         requires settled { now < next_of self.old }
         ensures adds { OnOk result (AddsAlone R.stream self.old self.new outs.old.items outs.new.items now (Refused (refusal_of refusal))) }
@@ -47,7 +47,7 @@ impl<R: Rng + Drop, A: Allocator + Clone> Node<R, A> {
         ensures told { OnErr result (outs.new.items ≡ outs.old.items) }
 
         // If the list has room for the report it succeeds, even if no memory is left.
-        ensures ready { vec_len outs.old < vec_capacity outs.old → IsOk result }
+        ensures ready { 0 < outs.old.free → IsOk result }
     {
         self.report(now, Out::Refused(refusal), outs)?;
         Ok(Answer::Refused(refusal))

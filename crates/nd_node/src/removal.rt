@@ -1,6 +1,6 @@
 //! Removes a neighbour, by a command.
 
-ghost use Rattle.std.specs.Prelude.{◌≡◌, ◌-◌, ◌<◌, ◌≤◌, IsOk, OnErr, length, vec_capacity, vec_len, IfOk};
+ghost use Rattle.std.specs.Prelude.{◌≡◌, ◌-◌, ◌<◌, ◌≤◌, IsOk, OnErr, length, IfOk};
 ghost use Rattle.nd_addr.specs.Number.{number_of};
 ghost use Rattle.nd_chronicle.specs.Event as events;
 ghost use Rattle.nd_neighbour.specs.Removal.{waiting_at};
@@ -11,7 +11,7 @@ ghost use Rattle.nd_node.specs.Answer.{answer_of};
 use crate::answer::Answer;
 use crate::node::Node;
 use nd_addr::Addr;
-use nd_out::{Loss, Out};
+use nd_out::{Loss, Reports};
 use nd_steps::tell_lost;
 use rand_core::Rng;
 use std::alloc::{AllocError, Allocator};
@@ -25,7 +25,7 @@ impl<R: Rng + Drop, A: Allocator + Clone> Node<R, A> {
         &mut self,
         now: u64,
         neighbour: Addr,
-        outs: &mut Vec<(u64, Out<A>), A>,
+        outs: &mut Reports<A>,
     ) -> Result<Answer, AllocError>
         requires settled { now < next_of self.old }
         ensures adds { IfOk result (λ answer. AddsEvent R.stream self.old self.new outs.old.items outs.new.items now (events.Forgets neighbour) (answer_of answer)) }
@@ -33,7 +33,7 @@ impl<R: Rng + Drop, A: Allocator + Clone> Node<R, A> {
         ensures told { OnErr result (outs.new.items ≡ outs.old.items) }
 
         // If the list has room for the waiting packets it succeeds, even if no memory is left.
-        ensures quiet { length (waiting_at (entry_in (number_of neighbour.0) self.old.neighbours.entries)) ≤ vec_capacity outs.old - vec_len outs.old → IsOk result }
+        ensures quiet { length (waiting_at (entry_in (number_of neighbour.0) self.old.neighbours.entries)) ≤ outs.old.free → IsOk result }
     {
         nd_neighbour::laws::none_overdue();
         let waiting = self.neighbours.waiting_at(neighbour);

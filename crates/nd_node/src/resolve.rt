@@ -2,7 +2,7 @@
 //! `specs/Resolve.antt`.
 
 ghost use Rattle.std.specs.Option.{option_map};
-ghost use Rattle.std.specs.Prelude.{◌≡◌, ℕ, ◌+◌, ◌++◌, [], ◌∷◌, ◌<◌, ◌≤◌, IfOk, IfSome, IsOk, None, OnErr, OnOk, Some, is_some, true, vec_capacity, vec_len};
+ghost use Rattle.std.specs.Prelude.{◌≡◌, ℕ, ◌+◌, ◌++◌, [], ◌∷◌, ◌<◌, ◌≤◌, IfOk, IfSome, IsOk, None, OnErr, OnOk, Some, is_some, true};
 ghost use Rattle.nd_addr.specs.Number.{number_of};
 ghost use Rattle.nd_table.specs.Moment.{IsMoment};
 ghost use Rattle.nd_neighbour.specs.LeaseKept.{mac_at};
@@ -35,7 +35,7 @@ use nd_addr::{Addr, Mac};
 use nd_compose::FrameRoom;
 use nd_neighbour::Want;
 use nd_nexthop::Hop;
-use nd_out::{Limit, Out, Refusal, Way};
+use nd_out::{Limit, Out, Refusal, Reports, Way};
 use nd_steps::{link_local, note_wish, ready_for_wish, tell_wish, times_in_force};
 use rand_core::Rng;
 use std::alloc::{AllocError, Allocator};
@@ -71,16 +71,16 @@ impl<R: Rng + Drop, A: Allocator + Clone> Node<R, A> {
         now: u64,
         to: Addr,
         solicitation: Option<FrameRoom<A>>,
-        outs: &mut Vec<(u64, Out<A>), A>,
+        outs: &mut Reports<A>,
     ) -> Option<Mac>
         requires moment { IsMoment now }
         requires last { self.old.last ≡ now }
         requires place { has_room self.old.neighbours.limit now (number_of to.0) None self.old.neighbours.entries ≡ true }
         requires ring { entry_in (number_of to.0) self.old.neighbours.entries ≡ None → 0 < self.old.neighbours.rings }
         requires solicitation { entry_in (number_of to.0) self.old.neighbours.entries ≡ None → is_some solicitation ≡ true }
-        requires room { vec_len outs.old + rows_of_wish solicitation ≤ vec_capacity outs.old }
+        requires room { rows_of_wish solicitation ≤ outs.old.free }
         ensures leads { (destination : Addr) → Leads R.stream self.old self.new outs.old.items (outs.new.items ++ (now, reports.Path destination (ways.To to result)) ∷ []) (WishTold now destination (number_of to.0)) }
-        ensures left { vec_len outs.new < vec_capacity outs.new }
+        ensures left { 0 < outs.new.free }
         ensures ways { IfSome result (λ mac. LeavesWays self.old self.new × (mac_at (entry_in (number_of to.0) self.new.neighbours.entries) ≡ Some (number_of mac.0))) }
     {
         nd_neighbour::laws::none_overdue();
@@ -104,16 +104,16 @@ impl<R: Rng + Drop, A: Allocator + Clone> Node<R, A> {
         &mut self,
         now: u64,
         to: Addr,
-        outs: &mut Vec<(u64, Out<A>), A>,
+        outs: &mut Reports<A>,
     ) -> Result<Resolution, AllocError>
         requires moment { IsMoment now }
         requires settled { now < next_of self.old }
         ensures adds { IfOk result (λ resolution. (destination : Addr) → AddsWish R.stream self.old self.new outs.old.items (with_answer outs.new.items now destination resolution) now destination (number_of to.0) (answer_by resolution)) }
-        ensures left { OnOk result (vec_len outs.new < vec_capacity outs.new) }
+        ensures left { OnOk result (0 < outs.new.free) }
         ensures keeps { OnErr result (Keeps self.old self.new) }
         ensures told { OnErr result (outs.new.items ≡ outs.old.items) }
-        ensures quiet { is_some (entry_in (number_of to.0) self.old.neighbours.entries) ≡ true → vec_len outs.old < vec_capacity outs.old → IsOk result }
-        ensures refused { (destination : Addr) (start : Start) (c : Chronicle) → Stands R.stream start self.old c → AddsRefusal now c (WantsIfPlaced start now destination (number_of to.0)) → vec_len outs.old < vec_capacity outs.old → IsOk result }
+        ensures quiet { is_some (entry_in (number_of to.0) self.old.neighbours.entries) ≡ true → 0 < outs.old.free → IsOk result }
+        ensures refused { (destination : Addr) (start : Start) (c : Chronicle) → Stands R.stream start self.old c → AddsRefusal now c (WantsIfPlaced start now destination (number_of to.0)) → 0 < outs.old.free → IsOk result }
         ensures way { IfOk result (LeadsTo to self.old self.new) }
     {
         nd_neighbour::laws::room_is_place();
@@ -136,16 +136,16 @@ impl<R: Rng + Drop, A: Allocator + Clone> Node<R, A> {
         &mut self,
         now: u64,
         resolution: Resolution,
-        outs: &mut Vec<(u64, Out<A>), A>,
+        outs: &mut Reports<A>,
     ) -> Result<Resolution, AllocError>
         requires settled { now < next_of self.old }
         ensures adds { IfOk result (λ answer. (destination : Addr) → AddsAlone R.stream self.old self.new outs.old.items (with_answer outs.new.items now destination answer) now (answer_row destination answer)) }
         ensures answer { IfOk result (λ answer. answer ≡ resolution) }
         ensures clock { OnOk result (self.new ≡ record self.old { last = now }) }
-        ensures left { OnOk result (vec_len outs.new < vec_capacity outs.new) }
+        ensures left { OnOk result (0 < outs.new.free) }
         ensures keeps { OnErr result (Keeps self.old self.new) }
         ensures told { outs.new.items ≡ outs.old.items }
-        ensures ready { vec_len outs.old < vec_capacity outs.old → IsOk result }
+        ensures ready { 0 < outs.old.free → IsOk result }
     {
         outs.reserve(1)?;
         self.advance_to(now);
@@ -158,16 +158,16 @@ impl<R: Rng + Drop, A: Allocator + Clone> Node<R, A> {
         &mut self,
         now: u64,
         destination: Addr,
-        outs: &mut Vec<(u64, Out<A>), A>,
+        outs: &mut Reports<A>,
     ) -> Result<Resolution, AllocError>
         requires moment { IsMoment now }
         requires settled { now < next_of self.old }
         ensures adds { IfOk result (λ resolution. AddsPath R.stream self.old self.new outs.old.items (with_answer outs.new.items now destination resolution) now direct destination (answer_by resolution)) }
-        ensures left { OnOk result (vec_len outs.new < vec_capacity outs.new) }
+        ensures left { OnOk result (0 < outs.new.free) }
         ensures keeps { OnErr result (Keeps self.old self.new) }
         ensures told { OnErr result (outs.new.items ≡ outs.old.items) }
-        ensures quiet { NeedsNoEntry direct destination self.old.neighbours.entries → vec_len outs.old < vec_capacity outs.old → IsOk result }
-        ensures refused { (start : Start) (c : Chronicle) → Stands R.stream start self.old c → AddsRefusal now c (PathAdds start now direct destination) → vec_len outs.old < vec_capacity outs.old → IsOk result }
+        ensures quiet { NeedsNoEntry direct destination self.old.neighbours.entries → 0 < outs.old.free → IsOk result }
+        ensures refused { (start : Start) (c : Chronicle) → Stands R.stream start self.old c → AddsRefusal now c (PathAdds start now direct destination) → 0 < outs.old.free → IsOk result }
         ensures way { hop_kept self.old.role self.old now destination ≡ direct → IfOk result (IsWay self.new now destination) }
     {
         if destination.is_multicast() {
@@ -185,16 +185,16 @@ impl<R: Rng + Drop, A: Allocator + Clone> Node<R, A> {
         now: u64,
         hop: Hop,
         destination: Addr,
-        outs: &mut Vec<(u64, Out<A>), A>,
+        outs: &mut Reports<A>,
     ) -> Result<Resolution, AllocError>
         requires moment { IsMoment now }
         requires settled { now < next_of self.old }
         ensures adds { IfOk result (λ resolution. AddsPath R.stream self.old self.new outs.old.items (with_answer outs.new.items now destination resolution) now (hop_of hop) destination (answer_by resolution)) }
-        ensures left { OnOk result (vec_len outs.new < vec_capacity outs.new) }
+        ensures left { OnOk result (0 < outs.new.free) }
         ensures keeps { OnErr result (Keeps self.old self.new) }
         ensures told { OnErr result (outs.new.items ≡ outs.old.items) }
-        ensures quiet { NeedsNoEntry (hop_of hop) destination self.old.neighbours.entries → vec_len outs.old < vec_capacity outs.old → IsOk result }
-        ensures refused { (start : Start) (c : Chronicle) → Stands R.stream start self.old c → AddsRefusal now c (PathAdds start now (hop_of hop) destination) → vec_len outs.old < vec_capacity outs.old → IsOk result }
+        ensures quiet { NeedsNoEntry (hop_of hop) destination self.old.neighbours.entries → 0 < outs.old.free → IsOk result }
+        ensures refused { (start : Start) (c : Chronicle) → Stands R.stream start self.old c → AddsRefusal now c (PathAdds start now (hop_of hop) destination) → 0 < outs.old.free → IsOk result }
         ensures way { hop_kept self.old.role self.old now destination ≡ hop_of hop → IfOk result (IsWay self.new now destination) }
     {
         match hop {
@@ -211,16 +211,16 @@ impl<R: Rng + Drop, A: Allocator + Clone> Node<R, A> {
         &mut self,
         now: u64,
         destination: Addr,
-        outs: &mut Vec<(u64, Out<A>), A>,
+        outs: &mut Reports<A>,
     ) -> Result<Resolution, AllocError>
         requires moment { IsMoment now }
         requires settled { now < next_of self.old }
         ensures adds { IfOk result (λ resolution. AddsEvent R.stream self.old self.new outs.old.items (with_answer outs.new.items now destination resolution) now (events.Resolves destination) (answer_by resolution)) }
-        ensures left { OnOk result (vec_len outs.new < vec_capacity outs.new) }
+        ensures left { OnOk result (0 < outs.new.free) }
         ensures stays { OnErr result (Stays R.stream self.old self.new) }
         ensures told { OnErr result (outs.new.items ≡ outs.old.items) }
-        ensures quiet { (places : ℕ) (start : Start) (c : Chronicle) → Stands R.stream start self.old c → last_moment start.at c ≤ now → IsAnsweredAtOnce start c self.old now destination places → vec_len outs.old < vec_capacity outs.old → IsOk result }
-        ensures refused { (start : Start) (c : Chronicle) → Stands R.stream start self.old c → last_moment start.at c ≤ now → AddsRefusal now c (EventAdds start now (events.Resolves destination)) → vec_len outs.old < vec_capacity outs.old → IsOk result }
+        ensures quiet { (places : ℕ) (start : Start) (c : Chronicle) → Stands R.stream start self.old c → last_moment start.at c ≤ now → IsAnsweredAtOnce start c self.old now destination places → 0 < outs.old.free → IsOk result }
+        ensures refused { (start : Start) (c : Chronicle) → Stands R.stream start self.old c → last_moment start.at c ≤ now → AddsRefusal now c (EventAdds start now (events.Resolves destination)) → 0 < outs.old.free → IsOk result }
         ensures way { (start : Start) (c : Chronicle) → Stands R.stream start self.old c → last_moment start.at c ≤ now → IfOk result (IsWay self.new now destination) }
     {
         if let Some(refusal) = self.refusal_unless_up() {
@@ -235,15 +235,15 @@ impl<R: Rng + Drop, A: Allocator + Clone> Node<R, A> {
         &mut self,
         now: u64,
         destination: Addr,
-        outs: &mut Vec<(u64, Out<A>), A>,
+        outs: &mut Reports<A>,
     ) -> Result<Answer, AllocError>
         requires moment { IsMoment now }
         requires settled { now < next_of self.old }
         ensures adds { IfOk result (λ answer. AddsEvent R.stream self.old self.new outs.old.items outs.new.items now (events.Resolves destination) (answer_of answer)) }
         ensures stays { OnErr result (Stays R.stream self.old self.new) }
         ensures told { OnErr result (outs.new.items ≡ outs.old.items) }
-        ensures quiet { (places : ℕ) (start : Start) (c : Chronicle) → Stands R.stream start self.old c → last_moment start.at c ≤ now → IsAnsweredAtOnce start c self.old now destination places → vec_len outs.old < vec_capacity outs.old → IsOk result }
-        ensures refused { (start : Start) (c : Chronicle) → Stands R.stream start self.old c → last_moment start.at c ≤ now → AddsRefusal now c (EventAdds start now (events.Resolves destination)) → vec_len outs.old < vec_capacity outs.old → IsOk result }
+        ensures quiet { (places : ℕ) (start : Start) (c : Chronicle) → Stands R.stream start self.old c → last_moment start.at c ≤ now → IsAnsweredAtOnce start c self.old now destination places → 0 < outs.old.free → IsOk result }
+        ensures refused { (start : Start) (c : Chronicle) → Stands R.stream start self.old c → last_moment start.at c ≤ now → AddsRefusal now c (EventAdds start now (events.Resolves destination)) → 0 < outs.old.free → IsOk result }
     {
         match self.answer_path(now, destination, outs)? {
             Resolution::Path(way) => {

@@ -1,6 +1,6 @@
 //! Handles a Router Advertisement (RFC 4861, section 6.3.4; RFC 4862, section 5.5.3; RFC 8106, section 6.1).
 
-ghost use Rattle.std.specs.Prelude.{◌≡◌, [], ◌∷◌, List, ◌≤◌, ◌<◌, ◌+◌, ◌-◌, if◌then◌else◌, false, true, Some, IsOk, OnErr, OnOk, vec_len, vec_capacity, IfOk};
+ghost use Rattle.std.specs.Prelude.{◌≡◌, [], ◌∷◌, List, ◌≤◌, ◌<◌, ◌+◌, ◌-◌, if◌then◌else◌, false, true, Some, IsOk, OnErr, OnOk, IfOk};
 ghost use Rattle.std.specs.Option.{option_map};
 ghost use Rattle.nd_decode.specs.Pieces.{options_left};
 ghost use Rattle.nd_decode.specs.declared.body.Body.TheVariants as bodies;
@@ -34,7 +34,7 @@ use crate::parts::{MOST_IGNORED, tell_rooms};
 use nd_decode::RouterAdvertisement;
 use nd_dns::{AnnouncedNames, NewNames};
 use nd_neighbour::{News, Times};
-use nd_out::{Out, Refusal};
+use nd_out::{Refusal, Reports};
 use nd_steps::{
     has_place, hear_dns, hear_giver, hear_parameters, hear_prefix_options, hear_prefixes,
     hear_router, keep_until_a_prefix_ends, most_told_of_way, news_in_place, news_of, tell_left,
@@ -62,7 +62,7 @@ impl<R: Rng + Drop, A: Allocator + Clone> Node<R, A> {
         announced: AnnouncedNames<'_>,
         names: NewNames<A>,
         listed: bool,
-        outs: &mut Vec<(u64, Out<A>), A>,
+        outs: &mut Reports<A>,
     )
         requires moment { IsMoment now }
         requires settled { now < next_of self.old }
@@ -70,14 +70,13 @@ impl<R: Rng + Drop, A: Allocator + Clone> Node<R, A> {
         requires place { HasPlaceOrWay self.old.policies.speakers self.old.neighbours.limit now news self.old.neighbours.entries }
         requires announced { names_to_come announced ≡ names_told (options_left heard.now.message.options) }
         requires names { names ≡ new_names now (options_left heard.now.message.options) self.old.dns }
-        requires space { vec_len outs.old + (if self.old.policies.speakers then max_waiting + 1 else 0) + told_for news self.old.neighbours.entries + 1 ≤ vec_capacity outs.old }
+        requires space { (if self.old.policies.speakers then max_waiting + 1 else 0) + told_for news self.old.neighbours.entries + 1 ≤ outs.old.free }
         ensures takes { (taken : List Said) → IsTaken self.old now (options_left heard.now.message.options) taken
             → ((times : Times) → option_map (said_by times) news ≡ said_of_neighbour heard.now.source (bodies.Ra ra.now) taken times.reachable)
             → TakesAdvertisement R.stream self.old self.new outs.old.items outs.new.items now heard.now.source heard.now.destination ra.now taken listed }
 
         // The room that was made for other rows is left.
-        ensures len { vec_len outs.new ≤ vec_len outs.old + (if self.old.policies.speakers then max_waiting + 1 else 0) + told_for news self.old.neighbours.entries + 1 }
-        ensures capacity { vec_capacity outs.new ≡ vec_capacity outs.old }
+        ensures len { outs.old.free ≤ outs.new.free + (if self.old.policies.speakers then max_waiting + 1 else 0) + told_for news self.old.neighbours.entries + 1 }
     {
         nd_neighbour::laws::one_is_pushed_out();
         nd_neighbour::laws::an_end_ends_once();
@@ -153,7 +152,7 @@ impl<R: Rng + Drop, A: Allocator + Clone> Node<R, A> {
         now: u64,
         heard: &Heard<'_>,
         ra: &RouterAdvertisement,
-        outs: &mut Vec<(u64, Out<A>), A>,
+        outs: &mut Reports<A>,
     ) -> Result<Answer, AllocError>
         requires moment { IsMoment now }
         requires settled { now < next_of self.old }
@@ -161,10 +160,10 @@ impl<R: Rng + Drop, A: Allocator + Clone> Node<R, A> {
         ensures adds { IfOk result (λ answer. AddsMessage R.stream self.old self.new outs.old.items outs.new.items now heard.now.source heard.now.destination (record { body = bodies.Ra ra.now; options = options_read self.old heard.now.message.options }) (answer_of answer)) }
         ensures keeps { OnErr result (self.new ≡ self.old) }
         ensures told { OnErr result (outs.new.items ≡ outs.old.items) }
-        ensures full { (limit : Table) (start : Start) (c : Chronicle) → Stands R.stream start self.old c → last_moment start.at c ≤ now → Fills start ((now, Passed) ∷ c) now heard.now.source (record { body = bodies.Ra ra.now; options = options_read self.old heard.now.message.options }) (bodies.Ra ra.now) (Some limit) → self.old.policies.parts ≡ false → vec_len outs.old < vec_capacity outs.old → IsOk result }
+        ensures full { (limit : Table) (start : Start) (c : Chronicle) → Stands R.stream start self.old c → last_moment start.at c ≤ now → Fills start ((now, Passed) ∷ c) now heard.now.source (record { body = bodies.Ra ra.now; options = options_read self.old heard.now.message.options }) (bodies.Ra ra.now) (Some limit) → self.old.policies.parts ≡ false → 0 < outs.old.free → IsOk result }
 
         // If it adds no search name it succeeds, even if no memory is left.
-        ensures quiet { AddsNoName self.old now heard.now.source (options_left heard.now.message.options) (vec_capacity outs.old - vec_len outs.old) → IsOk result }
+        ensures quiet { AddsNoName self.old now heard.now.source (options_left heard.now.message.options) outs.old.free → IsOk result }
     {
         let options = heard.message.options;
         let news = news_of(heard.source, &heard.message.body, options, self.own_mac());
@@ -198,7 +197,7 @@ impl<R: Rng + Drop, A: Allocator + Clone> Node<R, A> {
         ra: &RouterAdvertisement,
         news: Option<News>,
         place: bool,
-        outs: &mut Vec<(u64, Out<A>), A>,
+        outs: &mut Reports<A>,
     ) -> Result<Answer, AllocError>
         requires moment { IsMoment now }
         requires settled { now < next_of self.old }
@@ -213,7 +212,7 @@ impl<R: Rng + Drop, A: Allocator + Clone> Node<R, A> {
         ensures told { OnErr result (outs.new.items ≡ outs.old.items) }
 
         // If it adds no search name it succeeds, even if no memory is left.
-        ensures quiet { self.old.policies.parts ≡ true → AddsNoName self.old now heard.now.source (options_left heard.now.message.options) (vec_capacity outs.old - vec_len outs.old) → IsOk result }
+        ensures quiet { self.old.policies.parts ≡ true → AddsNoName self.old now heard.now.source (options_left heard.now.message.options) outs.old.free → IsOk result }
     {
         let options = heard.message.options;
         let rooms = self.rooms(now, heard.source, ra, options, place);

@@ -3,7 +3,6 @@
 ghost use Rattle.std.specs.Prelude.{◌≤◌, IfOk, map, string_bytes};
 ghost use Rattle.nd_node.specs.Event.{table_of};
 
-use crate::event::Table;
 use crate::node::Node;
 use nd_out::{
     address_rows, advertise_rows, dns_rows, neighbour_rows, parameter_row, prefix_rows,
@@ -11,6 +10,29 @@ use nd_out::{
 };
 use rand_core::Rng;
 use std::alloc::{AllocError, Allocator};
+
+/// The tables that can be shown.
+#[derive(Clone, Copy, Debug, PartialEq, Eq)]
+pub enum Table {
+    /// The neighbours (RFC 4861, section 5.1).
+    Neighbours,
+    /// The default routers (RFC 4861, section 5.1).
+    Routers,
+    /// The prefixes on the link (RFC 4861, section 5.1).
+    Prefixes,
+    /// The node's own addresses (RFC 4862, section 5).
+    Addresses,
+    /// The DNS servers and search names (RFC 8106, section 6.1).
+    Dns,
+    /// The kept redirects (RFC 4861, section 8.3).
+    Redirects,
+    /// The parameters of the link (RFC 4861, section 6.3.2).
+    Params,
+    /// What a router advertises. A host shows nothing.
+    Advertise,
+    /// The static routes of a router. A host shows nothing.
+    Routes,
+}
 
 impl<R: Rng + Drop, A: Allocator + Clone> Node<R, A> {
     ghost use Rattle.nd_chronicle.specs.Start.{Start};

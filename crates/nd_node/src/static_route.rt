@@ -1,6 +1,6 @@
 //! A static route of a router (RFC 4861, section 5.2).
 
-ghost use Rattle.std.specs.Prelude.{◌≡◌, ◌<◌, OnErr, ◌≤◌, IsOk, vec_capacity, vec_len, IfOk};
+ghost use Rattle.std.specs.Prelude.{◌≡◌, ◌<◌, OnErr, ◌≤◌, IsOk, IfOk};
 ghost use Rattle.nd_chronicle.specs.Event as events;
 ghost use Rattle.nd_chronicle.specs.Event.{EventAdds};
 ghost use Rattle.nd_chronicle.specs.Happening.{Chronicle, last_moment};
@@ -14,7 +14,7 @@ use crate::answer::Answer;
 use crate::node::Node;
 use nd_addr::Role;
 use nd_forwarding::KeptRoute;
-use nd_out::{Limit, Out, Refusal};
+use nd_out::{Limit, Refusal, Reports};
 use rand_core::Rng;
 use std::alloc::{AllocError, Allocator};
 
@@ -27,13 +27,13 @@ impl<R: Rng + Drop, A: Allocator + Clone> Node<R, A> {
         &mut self,
         now: u64,
         kept: KeptRoute,
-        outs: &mut Vec<(u64, Out<A>), A>,
+        outs: &mut Reports<A>,
     ) -> Result<Answer, AllocError>
         requires settled { now < next_of self.old }
         ensures adds { IfOk result (λ answer. AddsEvent R.stream self.old self.new outs.old.items outs.new.items now (events.Routes kept.prefix kept.route) (answer_of answer)) }
         ensures stays { OnErr result (Stays R.stream self.old self.new) }
         ensures told { OnErr result (outs.new.items ≡ outs.old.items) }
-        ensures refused { (start : Start) (c : Chronicle) → Stands R.stream start self.old c → last_moment start.at c ≤ now → AddsRefusal now c (EventAdds start now (events.Routes kept.prefix kept.route)) → vec_len outs.old < vec_capacity outs.old → IsOk result }
+        ensures refused { (start : Start) (c : Chronicle) → Stands R.stream start self.old c → last_moment start.at c ≤ now → AddsRefusal now c (EventAdds start now (events.Routes kept.prefix kept.route)) → 0 < outs.old.free → IsOk result }
     {
         match self.role {
             Role::Host => return self.refuse(now, Refusal::WrongRole, outs),

@@ -1,6 +1,6 @@
 //! Does what is due at a node as time passes.
 
-ghost use Rattle.std.specs.Prelude.{◌≡◌, ℕ, ◌+◌, ◌<◌, ◌≤◌, ◌⊎◌, None, Ok, Some, IfOk, IfSome, IsOk, IsSome, IsSomeAnd, OnOk, OnErr, vec_len, vec_capacity, true};
+ghost use Rattle.std.specs.Prelude.{◌≡◌, ℕ, ◌+◌, ◌<◌, ◌≤◌, ◌⊎◌, None, Ok, Some, IfOk, IfSome, IsOk, IsSome, IsSomeAnd, OnOk, OnErr, true};
 ghost use Rattle.nd_advertiser.specs.Contents.{contents_length};
 ghost use Rattle.nd_compose.specs.Room.{HasRoomFor};
 ghost use Rattle.nd_packet.specs.Waiting.{max_waiting};
@@ -13,7 +13,7 @@ use crate::due::leaves_paths;
 use crate::node::Node;
 use nd_addr::Role;
 use nd_compose::{FrameRoom, LONGEST_MESSAGE};
-use nd_out::Out;
+use nd_out::Reports;
 use nd_steps::{MOST_TOLD, link_local, tell};
 use rand_core::Rng;
 use std::alloc::{AllocError, Allocator};
@@ -57,23 +57,17 @@ impl<R: Rng + Drop, A: Allocator + Clone> Node<R, A> {
 
     /// Does the first thing that is due at `now`, in milliseconds, as `turn` does, with room for the frame and for what is reported. It takes no
     /// memory. Returns the room, unless a frame was written into it, and whether the paths are left.
-    pub fn turn_in(
-        &mut self,
-        now: u64,
-        room: FrameRoom<A>,
-        outs: &mut Vec<(u64, Out<A>), A>,
-    ) -> Turn<A>
+    pub fn turn_in(&mut self, now: u64, room: FrameRoom<A>, outs: &mut Reports<A>) -> Turn<A>
         requires moment { IsMoment now }
         requires due { now ≡ next_of self.old }
         requires long { next_advertisement self.old.role self.old.router ≡ Some now → HasRoomFor room (contents_length self.old.router.advertiser.limit) }
-        requires places { vec_len outs.old + (max_waiting + 1) ≤ vec_capacity outs.old }
+        requires places { max_waiting + 1 ≤ outs.old.free }
         ensures leads { Leads R.stream self.old self.new outs.old.items outs.new.items (Comes now) }
         ensures fewer { (end : ℕ) → now ≤ end → turns_left end self.new < turns_left end self.old }
         ensures leaves { result.leaves_paths ≡ true → LeavesPaths self.old self.new }
         ensures same { IfSome result.room (λ rest. rest ≡ room) }
         ensures sends { result.room ≡ None → SendsFrame outs.old.items outs.new.items }
         ensures grows { Grows outs.old.items outs.new.items }
-        ensures capacity { vec_capacity outs.old ≤ vec_capacity outs.new }
         ensures longest { longest_due self.new ≡ longest_due self.old }
     {
         let own = link_local(&self.addresses);
@@ -92,7 +86,7 @@ impl<R: Rng + Drop, A: Allocator + Clone> Node<R, A> {
         &mut self,
         now: u64,
         room: &mut Option<FrameRoom<A>>,
-        outs: &mut Vec<(u64, Out<A>), A>,
+        outs: &mut Reports<A>,
     ) -> Result<bool, AllocError>
         requires moment { IsMoment now }
         requires due { now ≡ next_of self.old }
@@ -101,10 +95,9 @@ impl<R: Rng + Drop, A: Allocator + Clone> Node<R, A> {
         ensures same { OnErr result (self.new ≡ self.old) }
         ensures told { OnErr result (outs.new.items ≡ outs.old.items) }
         ensures leaves { IfOk result (λ leaves. leaves ≡ true → LeavesPaths self.old self.new) }
-        ensures succeeds { IsInHand self.old room.old → vec_len outs.old + (max_waiting + 1) ≤ vec_capacity outs.old → IsOk result }
+        ensures succeeds { IsInHand self.old room.old → max_waiting + 1 ≤ outs.old.free → IsOk result }
         ensures room { (room.new ≡ room.old) ⊎ SendsFrame outs.old.items outs.new.items }
         ensures grows { Grows outs.old.items outs.new.items }
-        ensures capacity { vec_capacity outs.old ≤ vec_capacity outs.new }
         ensures longest { longest_due self.new ≡ longest_due self.old }
     {
         outs.reserve(MOST_TOLD)?;
@@ -126,7 +119,7 @@ impl<R: Rng + Drop, A: Allocator + Clone> Node<R, A> {
     /// Does the first thing that is due at `now`, in milliseconds, and reports it; the caller passes the moment that `next_due` returns. The order
     /// is: ends of routers, ends of own addresses, duplicate address detection, neighbours, Router Solicitations, Router Advertisements, a redraw
     /// of ReachableTime; within each, the order of addresses. Returns an error if out of memory; nothing has changed then.
-    pub fn turn(&mut self, now: u64, outs: &mut Vec<(u64, Out<A>), A>) -> Result<(), AllocError>
+    pub fn turn(&mut self, now: u64, outs: &mut Reports<A>) -> Result<(), AllocError>
         requires moment { IsMoment now }
         requires due { now ≡ next_of self.old }
         ensures leads { OnOk result (Leads R.stream self.old self.new outs.old.items outs.new.items (Comes now)) }
@@ -139,7 +132,7 @@ impl<R: Rng + Drop, A: Allocator + Clone> Node<R, A> {
     }
 
     /// Does all that is due up to `now`, in milliseconds, and reports it. Returns an error if out of memory; the rest can be done later.
-    pub fn settle(&mut self, now: u64, outs: &mut Vec<(u64, Out<A>), A>) -> Result<(), AllocError>
+    pub fn settle(&mut self, now: u64, outs: &mut Reports<A>) -> Result<(), AllocError>
         requires { IsMoment now }
         ensures onward { Leads R.stream self.old self.new outs.old.items outs.new.items (Onward now) }
         ensures passes { OnOk result (Leads R.stream self.old self.new outs.old.items outs.new.items (Passes now)) }
@@ -159,7 +152,7 @@ impl<R: Rng + Drop, A: Allocator + Clone> Node<R, A> {
         &mut self,
         now: u64,
         room: &mut Option<FrameRoom<A>>,
-        outs: &mut Vec<(u64, Out<A>), A>,
+        outs: &mut Reports<A>,
     ) -> Result<bool, AllocError>
         requires { IsMoment now }
         ensures onward { Leads R.stream self.old self.new outs.old.items outs.new.items (Onward now) }
@@ -169,10 +162,9 @@ impl<R: Rng + Drop, A: Allocator + Clone> Node<R, A> {
         ensures leaves { IfOk result (λ leaves. leaves ≡ true → LeavesPaths self.old self.new) }
 
         // With room for the longest frame and for what one thing that is due reports, the first one is done even if no memory is left.
-        ensures advances { IsInHand self.old room.old → vec_len outs.old + (max_waiting + 1) ≤ vec_capacity outs.old → OnErr result (Leads R.stream self.old self.new outs.old.items outs.new.items (Advances now)) }
+        ensures advances { IsInHand self.old room.old → max_waiting + 1 ≤ outs.old.free → OnErr result (Leads R.stream self.old self.new outs.old.items outs.new.items (Advances now)) }
         ensures room { (room.new ≡ room.old) ⊎ SendsFrame outs.old.items outs.new.items }
         ensures grows { Grows outs.old.items outs.new.items }
-        ensures capacity { vec_capacity outs.old ≤ vec_capacity outs.new }
         ensures longest { longest_due self.new ≡ longest_due self.old }
     {
         nd_chronicle::laws::idle_time_passes();
@@ -189,7 +181,7 @@ impl<R: Rng + Drop, A: Allocator + Clone> Node<R, A> {
         &mut self,
         now: u64,
         room: &mut Option<FrameRoom<A>>,
-        outs: &mut Vec<(u64, Out<A>), A>,
+        outs: &mut Reports<A>,
         mut leaves: bool,
     ) -> Result<bool, AllocError>
         requires { IsMoment now }
@@ -200,7 +192,6 @@ impl<R: Rng + Drop, A: Allocator + Clone> Node<R, A> {
         ensures leaves { IfOk result (λ all. all ≡ true → (leaves ≡ true) × LeavesPaths self.old self.new) }
         ensures room { (room.new ≡ room.old) ⊎ SendsFrame outs.old.items outs.new.items }
         ensures grows { Grows outs.old.items outs.new.items }
-        ensures capacity { vec_capacity outs.old ≤ vec_capacity outs.new }
         ensures longest { longest_due self.new ≡ longest_due self.old }
     {
         nd_chronicle::laws::idle_time_passes();

@@ -1,4 +1,5 @@
 pub mod Out
+pub mod Reports
 pub mod NodeLine
 pub mod Row
 pub mod Parameters

@@ -1,4 +1,4 @@
-ghost use Rattle.std.specs.Prelude.{◌≡◌, ◌++◌, ◌≤◌, OnOk, codes, length, string_bytes, map};
+ghost use Rattle.std.specs.Prelude.{◌≡◌, ◌++◌, ◌≤◌, [], OnOk, codes, length, string_bytes, map};
 ghost use Rattle.std.specs.List.{flat_map};
 ghost use Rattle.nd_addr.specs.Frame.{ethernet_header_length};
 ghost use Rattle.nd_addr.specs.Number.{number_of};
@@ -15,6 +15,7 @@ use crate::lost::{loss_word, write_way};
 use crate::out::{Loss, Out};
 use crate::path::{write_path, write_resolved};
 use crate::reasons::{write_dropped, write_heard, write_ignored, write_refused};
+use crate::reports::Reports;
 use nd_addr::Addr;
 use nd_text::write_hex;
 use std::alloc::{AllocError, Allocator};
@@ -164,16 +165,17 @@ pub fn write_node_out<A: Allocator, B: Allocator>(
     }
 }
 
-/// Appends the text of what happened, each with its moment in milliseconds: a line each, and for rows that were shown a line each and one for their
-/// number. Returns an error if out of memory.
+/// Takes all reports, and appends their text, each with its moment in milliseconds: a line each, and for rows that were shown a line each and one for
+/// their number. Returns an error if out of memory.
 pub fn write_outs<A: Allocator, B: Allocator>(
     text: &mut String<A>,
-    outs: &[(u64, Out<B>)],
+    outs: &mut Reports<B>,
 ) -> Result<(), AllocError>
-    ensures { OnOk result (string_bytes text.new ≡ string_bytes text.old ++ told outs.now) }
+    ensures written { OnOk result (string_bytes text.new ≡ string_bytes text.old ++ told outs.old.items) }
+    ensures taken { OnOk result (outs.new.items ≡ []) }
 {
-    for (at, out) in outs {
-        write_out(text, *at, out)?;
+    while let Some((at, out)) = outs.pop_oldest() {
+        write_out(text, at, &out)?;
     }
     Ok(())
 }

@@ -31,14 +31,14 @@ pub confirmed_where : (start : Start) (c : Chronicle) (now : ℕ) (destination :
 confirmed_where start c now destination least key to b r same is confirmed =
     subst (λ (x : Bool). IsConfirmed start c now destination least (if x then Some to else None)) is (subst (λ (k : ℕ). IsConfirmed start c now destination least (if b then Some k else None)) same confirmed)
 
-module _ (old mid new : Session) (now : ℕ) (neighbour : Option Addr) (le : old.node.last ≤ now) (passes : Leads stream_of_source old.node mid.node old.queue mid.queue (Passes now))
-    (adds : AddsEvent stream_of_source mid.node new.node mid.queue mid.queue now (event_of neighbour) answers.Done) (queue : new.queue ≡ mid.queue) where
+module _ (old mid new : Session) (now : ℕ) (neighbour : Option Addr) (le : old.node.last ≤ now) (passes : Leads stream_of_source old.node mid.node old.reports.items mid.reports.items (Passes now))
+    (adds : AddsEvent stream_of_source mid.node new.node mid.reports.items mid.reports.items now (event_of neighbour) answers.Done) (reports : new.reports.items ≡ mid.reports.items) where
   -- what is due is done, and then the neighbour is confirmed, or none
   pub confirms_then : (destination : Addr) (least : ℕ)
       → ((start : Start) (c : Chronicle) → Stands stream_of_source start mid.node c → last_moment start.at c ≤ now → IsConfirmed start c now destination least (option_map (λ addr. number_of addr.0) neighbour))
       → LedBy old new (ConfirmsTo now destination least neighbour)
   confirms_then destination least confirmed =
-      subst (λ (q : List (ℕ × Out Global)). Leads stream_of_source old.node new.node old.queue q (ConfirmsTo now destination least neighbour)) (sym queue) (record {
+      subst (λ (q : List (ℕ × Out Global)). Leads stream_of_source old.node new.node old.reports.items q (ConfirmsTo now destination least neighbour)) (sym reports) (record {
         each = λ start c s.
             let e = passes.each start c s in
             let last = walk_last start c e.0 (last_moment start.at c) now e.1 (omega (arith, le, s.last)) in
@@ -46,7 +46,7 @@ module _ (old mid new : Session) (now : ℕ) (neighbour : Option Addr) (le : old
               d.0,
               record { between = e.0; passes = e.1; confirmed = confirmed start e.0 e.2 last; adds = d.1 },
               d.2,
-              Tells-then c e.0 d.0 old.queue mid.queue mid.queue e.3 d.3,
+              Tells-then c e.0 d.0 old.reports.items mid.reports.items mid.reports.items e.3 d.3,
             );
       })
 
@@ -54,4 +54,4 @@ module _ (old mid new : Session) (now : ℕ) (neighbour : Option Addr) (le : old
   pub ready_then : new.room ≡ mid.room → (start : Start) (c : Chronicle) → Stands stream_of_source start old.node c → IsReady mid → IsReady new
   ready_then room start c s ready =
       let done : Result Answer AllocError = Ok Done in
-      rw (queue, room) (event_ready stream_of_source old.node mid.node new.node old.queue mid.queue mid.queue now (event_of neighbour) done mid.room le passes adds tt tt start c s ready)
+      rw (reports, room) (event_ready stream_of_source old.node mid.node new.node old.reports.items mid.reports.items mid.reports.items now (event_of neighbour) done mid.room le passes adds tt tt start c s ready)

@@ -27,10 +27,10 @@ use Rattle.nd_session.specs.Ready.{IsReady}
 use Rattle.nd_session.specs.Resolve.{AnsweredAtOnce, AnsweredBy}
 
 -- time passes, and nothing happens
-pub time_passes : (node : Node Source Global) (queue : List (ℕ × Out Global)) (now : ℕ) → now < next_of node → Leads stream_of_source node node queue queue (Passes now)
-time_passes node queue now lt =
-    settle_end stream_of_source (λ start c d next end idle moment le le' w. idle_passes start c d next end idle moment le le' w) node node queue queue now (next_of node)
-    (still stream_of_source node queue now) (λ start c s. due_is stream_of_source start node c s) lt
+pub time_passes : (node : Node Source Global) (outs : List (ℕ × Out Global)) (now : ℕ) → now < next_of node → Leads stream_of_source node node outs outs (Passes now)
+time_passes node outs now lt =
+    settle_end stream_of_source (λ start c d next end idle moment le le' w. idle_passes start c d next end idle moment le le' w) node node outs outs now (next_of node)
+    (still stream_of_source node outs now) (λ start c s. due_is stream_of_source start node c s) lt
 
 -- what happens up to a moment leads to a node that stands for it
 pub passed_stands : (old mid : Node Source Global) (before after : List (ℕ × Out Global)) (now : ℕ) → old.last ≤ now → Leads stream_of_source old mid before after (Passes now)
@@ -41,27 +41,27 @@ passed_stands old mid before after now le passes start c s =
 
 -- what is due is done, and then the question is answered at once
 pub answered_at_once : (old mid new : Session) (now : ℕ) (destination : Addr) (answer : PathAnswer) → old.node.last ≤ now
-    → Leads stream_of_source old.node mid.node old.queue mid.queue (Passes now) → AnsweredAtOnce now destination answer mid new → AnsweredBy now destination answer old new
+    → Leads stream_of_source old.node mid.node old.reports.items mid.reports.items (Passes now) → AnsweredAtOnce now destination answer mid new → AnsweredBy now destination answer old new
 answered_at_once old mid new now destination answer le passes a = record {
   resolution = a.resolution;
   is = a.is;
-  leads = subst (λ (q : List (ℕ × Out Global)). Leads stream_of_source old.node new.node old.queue (with_answer q now destination a.resolution) (FollowsBy now (events.Resolves destination) (answer_by a.resolution))) (sym a.queue)
-      (follows stream_of_source old.node mid.node new.node old.queue mid.queue (with_answer mid.queue now destination a.resolution) now (events.Resolves destination) le passes (a.adds mid.queue));
+  leads = subst (λ (q : List (ℕ × Out Global)). Leads stream_of_source old.node new.node old.reports.items (with_answer q now destination a.resolution) (FollowsBy now (events.Resolves destination) (answer_by a.resolution))) (sym a.reports)
+      (follows stream_of_source old.node mid.node new.node old.reports.items mid.reports.items (with_answer mid.reports.items now destination a.resolution) now (events.Resolves destination) le passes (a.adds mid.reports.items));
   lease = a.lease;
   goes = λ start c s. a.goes;
 }
 
 -- a session at which time alone passed is as ready as before
-pub ready_later : (old new : Session) (now : ℕ) → new.node ≡ record old.node { last = now } → new.queue ≡ old.queue → new.room ≡ old.room → IsReady old → IsReady new
-ready_later old new now node queue room ready = rw (node, queue, room) ready
+pub ready_later : (old new : Session) (now : ℕ) → new.node ≡ record old.node { last = now } → new.reports.items ≡ old.reports.items → new.room ≡ old.room → IsReady old → IsReady new
+ready_later old new now node reports room ready = rw (node, reports, room) ready
 
--- what leads to a session leads to one with the same node and the same queue
-pub leads_on : {To : Start → Chronicle → Chronicle → Type 0} (old mid later : Session) → later.node ≡ mid.node → later.queue ≡ mid.queue
-    → Leads stream_of_source old.node mid.node old.queue mid.queue To → Leads stream_of_source old.node later.node old.queue later.queue To
-leads_on old mid later node queue leads = rw (node, queue) leads
+-- what leads to a session leads to one with the same node and the same reports
+pub leads_on : {To : Start → Chronicle → Chronicle → Type 0} (old mid later : Session) → later.node ≡ mid.node → later.reports.items ≡ mid.reports.items
+    → Leads stream_of_source old.node mid.node old.reports.items mid.reports.items To → Leads stream_of_source old.node later.node old.reports.items later.reports.items To
+leads_on old mid later node reports leads = rw (node, reports) leads
 
-pub ready_on : (mid later : Session) → later.node ≡ mid.node → later.queue ≡ mid.queue → later.room ≡ mid.room → IsReady mid → IsReady later
-ready_on mid later node queue room ready = rw (node, queue, room) ready
+pub ready_on : (mid later : Session) → later.node ≡ mid.node → later.reports.items ≡ mid.reports.items → later.room ≡ mid.room → IsReady mid → IsReady later
+ready_on mid later node reports room ready = rw (node, reports, room) ready
 
 -- a node at which time alone passed
 pub time_alone : (node later : Node Source Global) (now : ℕ) → (node.last ≤ now → later ≡ record node { last = now }) → (now ≤ node.last → later ≡ node) → later ≡ record node { last = later.last }
@@ -71,9 +71,9 @@ time_alone node later now moves past = ⊎_elim
     (cases_lt now node.last)
 
 -- the event that time passes adds nothing
-pub passing_adds : (old new : Node Source Global) (queue : List (ℕ × Out Global)) (now : ℕ)
+pub passing_adds : (old new : Node Source Global) (outs : List (ℕ × Out Global)) (now : ℕ)
     → ((start : Start) (c : Chronicle) → Stands stream_of_source start old c → last_moment start.at c ≤ now → Stands stream_of_source start new ((now, Passed) ∷ c))
-    → AddsEvent stream_of_source old new queue queue now events.Passes answers.Done
-passing_adds old new queue now passes = record {
-  each = λ start c s le. ((now, Passed) ∷ c, refl, passes start c s le, record { newer = []; told = refl; outs = sym (append-nil (happenings queue)) }, refl);
+    → AddsEvent stream_of_source old new outs outs now events.Passes answers.Done
+passing_adds old new outs now passes = record {
+  each = λ start c s le. ((now, Passed) ∷ c, refl, passes start c s le, record { newer = []; told = refl; outs = sym (append-nil (happenings outs)) }, refl);
 }

@@ -1,4 +1,4 @@
--- What keeps a session ready: room that is in reserve stays, and a frame stays in the queue until it is taken.
+-- What keeps a session ready: room that is in reserve stays, and a frame stays among the reports until it is taken.
 use Rattle.std.proofs.Common.{◌≡◌, ◌≤◌, ℕ, List, [], ◌∷◌, ◌++◌, append-nil, append_assoc, drop, reverse, Option, Some, Ok, Err, arith, refl, sym, ◌∙◌, ap, subst, inl, inr, ⊎_elim}
 use Rattle.std.specs.Prelude.{◌⊎◌, IfOk, IsSomeAnd, OnErr, Result, is_none, slice_get, true, false}
 use Rattle.std.proofs.lemmas.List.{map-append, reverse-reverse}
@@ -27,20 +27,7 @@ use Rattle.nd_node.specs.declared.resolve.Resolution.TheVariants as resolutions
 use Rattle.nd_node.specs.Resolve.{answer_by, answer_told, with_answer}
 use Rattle.nd_node.specs.Time.{IsInHand, Leads, Passes, longest_due}
 
--- ---- the queue
-
-module _ {A : Type 0} (xs before after : List (ℕ × Out A)) where
-  told_behind : (n : List (ℕ × Happening)) → happenings after ≡ happenings before ++ n → happenings (xs ++ after) ≡ happenings (xs ++ before) ++ n
-  told_behind n e =
-      let f : ℕ × Out A → ℕ × Happening = λ o. (o.0, happening o.1) in
-      map-append f xs after ∙ (ap (λ (l : List (ℕ × Happening)). happenings xs ++ l) e
-      ∙ (sym (append_assoc (happenings xs) (happenings before) n) ∙ ap (λ (l : List (ℕ × Happening)). l ++ n) (sym (map-append f xs before))))
-
-  pub grows_behind : Grows before after → Grows (xs ++ before) (xs ++ after)
-  grows_behind (n, e) = (n, told_behind n e)
-
-  pub sends_behind : SendsFrame before after → SendsFrame (xs ++ before) (xs ++ after)
-  sends_behind (n, e, has) = (n, told_behind n e, has)
+-- ---- the reports
 
 module _ {A : Type 0} (x y : List (ℕ × Out A)) where
   frame_stays : Grows x y → HasFrame (happenings x) → HasFrame (happenings y)
@@ -62,21 +49,6 @@ module _ {R A : Type 0} (old new : Node R A) (room : Option (FrameRoom A)) where
       → IsInHand old room ⊎ HasFrame (happenings x) → IsInHand new left ⊎ HasFrame (happenings y)
   ready_after left x y kept grows longest ready =
       ⊎_elim (λ same. subst (λ (r : Option (FrameRoom A)). IsInHand new r ⊎ HasFrame (happenings y)) (sym same) (still_ready x y grows longest ready)) (λ sent. inr (frame_came x y sent)) kept
-
-module _ {R A : Type 0} (old new : Node R A) (room left : Option (FrameRoom A)) (longest : longest_due new ≡ longest_due old) where
-  -- where the reports stand behind others
-  pub ready_behind : (xs ys before after : List (ℕ × Out A)) → (left ≡ room) ⊎ SendsFrame before after → Grows before after
-      → IsInHand old room ⊎ HasFrame (happenings (xs ++ (ys ++ before))) → IsInHand new left ⊎ HasFrame (happenings (xs ++ (ys ++ after)))
-  ready_behind xs ys before after kept grows ready =
-      ready_after old new room left (xs ++ (ys ++ before)) (xs ++ (ys ++ after))
-      (⊎_elim (λ same. inl same) (λ sent. inr (sends_behind xs (ys ++ before) (ys ++ after) (sends_behind ys before after sent))) kept)
-      (grows_behind xs (ys ++ before) (ys ++ after) (grows_behind ys before after grows)) longest ready
-
-  -- where they are the same ones
-  pub ready_same : (x y z w : List (ℕ × Out A)) → z ≡ x → w ≡ y → (left ≡ room) ⊎ SendsFrame x y → Grows x y → IsInHand old room ⊎ HasFrame (happenings z) → IsInHand new left ⊎ HasFrame (happenings w)
-  ready_same x y z w zx wy kept grows ready =
-      subst (λ (q : List (ℕ × Out A)). IsInHand new left ⊎ HasFrame (happenings q)) (sym wy)
-      (ready_after old new room left x y kept grows longest (subst (λ (q : List (ℕ × Out A)). IsInHand old room ⊎ HasFrame (happenings q)) zx ready))
 
 -- the room of a node of one start is the same, whatever happened
 longest_is : {R A : Type 0} (stream : R → Stream) (start : Start) (node later : Node R A) (c d : Chronicle) → Stands stream start node c → Stands stream start later d → longest_due later ≡ longest_due node
@@ -137,39 +109,20 @@ no_frame ([], after, at, frame, is) = let no : ⊥ = cc in no
 no_frame (b ∷ before, after, at, frame, is) = let no : ⊥ = cc in no
 
 -- where nothing is left, no frame is
-pub in_hand_at_nothing : {A : Type 0} {P : Type 0} (queue : List (ℕ × Out A)) → queue ≡ [] → P ⊎ HasFrame (happenings queue) → P
-in_hand_at_nothing queue is ready = ⊎_elim (λ p. p) (λ has. absurd (no_frame (subst (λ (q : List (ℕ × Out _)). HasFrame (happenings q)) is has))) ready
-
--- ---- an empty queue
-
-pub nothing_left : {A : Type 0} (queue : List A) → is_none (slice_get queue 0) ≡ true → queue ≡ []
-nothing_left [] e = refl
-nothing_left (q ∷ queue) e = absurd (let no : ⊥ = cc in no)
-
-pub something_left : {A : Type 0} (queue : List A) → is_none (slice_get queue 0) ≡ false → queue ≡ [] → ⊥
-something_left [] e is = let no : ⊥ = cc in no
-something_left (q ∷ queue) e is = let no : ⊥ = cc in no
-
-parts_empty : {A : Type 0} (xs ys : List A) → xs ++ ys ≡ [] → (xs ≡ []) × (ys ≡ [])
-parts_empty [] ys e = (refl, e)
-parts_empty (x ∷ xs) ys e = absurd (let no : ⊥ = cc in no)
-
--- what comes into the first part of a queue that is empty is the queue then
-pub due_alone : {A : Type 0} (due front back outs : List A) → reverse due ++ (reverse front ++ back) ≡ [] → reverse (reverse outs) ++ (reverse front ++ back) ≡ outs
-due_alone {A} due front back outs e =
-    ap (λ (l : List A). reverse (reverse outs) ++ l) (parts_empty (reverse due) (reverse front ++ back) e).1 ∙ (append-nil (reverse (reverse outs)) ∙ reverse-reverse outs)
+pub in_hand_at_nothing : {A : Type 0} {P : Type 0} (outs : List (ℕ × Out A)) → outs ≡ [] → P ⊎ HasFrame (happenings outs) → P
+in_hand_at_nothing outs is ready = ⊎_elim (λ p. p) (λ has. absurd (no_frame (subst (λ (q : List (ℕ × Out _)). HasFrame (happenings q)) is has))) ready
 
 abbrev first_of : List (ℕ × Happening) → Happening
 first_of [] = Sent []
 first_of (row ∷ rows) = row.1
 
 -- a frame that isn't the oldest report is left when that is taken
-pub frame_left : {A : Type 0} (queue : List (ℕ × Out A)) (at : ℕ) (report : Out A) → Some (at, report) ≡ slice_get queue 0 → ((frame : List ℕ) → happening report ≡ Sent frame → ⊥)
-    → HasFrame (happenings queue) → HasFrame (happenings (drop 1 queue))
+pub frame_left : {A : Type 0} (outs : List (ℕ × Out A)) (at : ℕ) (report : Out A) → Some (at, report) ≡ slice_get outs 0 → ((frame : List ℕ) → happening report ≡ Sent frame → ⊥)
+    → HasFrame (happenings outs) → HasFrame (happenings (drop 1 outs))
 frame_left [] at report is other has = has
-frame_left (q ∷ queue) at report is other ([], after, m, frame, told) =
+frame_left (q ∷ outs) at report is other ([], after, m, frame, told) =
     absurd (other frame (ap happening (same_report (sym is)) ∙ ap first_of told))
   where
     same_report : Some q ≡ Some (at, report) → report ≡ q.1
     same_report e = let same : (at, report) ≡ q = cc in ap (λ (r : ℕ × Out _). r.1) same
-frame_left (q ∷ queue) at report is other (b ∷ before, after, m, frame, told) = (before, after, m, frame, ap (drop 1) told)
+frame_left (q ∷ outs) at report is other (b ∷ before, after, m, frame, told) = (before, after, m, frame, ap (drop 1) told)

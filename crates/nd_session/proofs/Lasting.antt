@@ -46,17 +46,13 @@ keeps_unless holds old new least grows leaves = record {
   ];
 }
 
-pub keeps_unless_at : (holds : Bool) (inside old new : Session) → inside ≡ old → inside.paths.leases ≤ new.paths.leases → (holds ≡ false → inside.paths.leases < 2 ^ 64 - 1 → inside.paths.leases < new.paths.leases)
-    → (holds ≡ true → LeavesPaths inside.node new.node) → KeepsLeases old new
-keeps_unless_at holds inside old new is least grows leaves = subst (λ (s : Session). KeepsLeases s new) is (keeps_unless holds inside new least grows leaves)
-
 -- where nothing has changed but the last moment, and the version grows where something has
-pub keeps_where : (changed : Bool) (old mid new : Session) (at : ℕ) → KeepsLeases old mid → mid.paths.leases ≤ new.paths.leases
-    → (changed ≡ true → mid.paths.leases < 2 ^ 64 - 1 → mid.paths.leases < new.paths.leases) → (changed ≡ false → new.node ≡ record mid.node { last = at }) → KeepsLeases old new
-keeps_where changed old mid new at first least grows same = one_after_another old mid new first (record {
+pub keeps_where : (changed : Bool) (old new : Session) (at : ℕ) → old.paths.leases ≤ new.paths.leases
+    → (changed ≡ true → old.paths.leases < 2 ^ 64 - 1 → old.paths.leases < new.paths.leases) → (changed ≡ false → new.node ≡ record old.node { last = at }) → KeepsLeases old new
+keeps_where changed old new at least grows same = record {
   grows = least;
   keeps = λ version lt. elim (cases_Bool changed) [
     | inl changes ↦ absurd (omega (arith, grows changes lt, version))
-    | inr stays ↦ alone_leaves mid.node new.node at (same stays)
+    | inr stays ↦ alone_leaves old.node new.node at (same stays)
   ];
-})
+}

@@ -13,9 +13,9 @@ use Rattle.nd_node.specs.Time.{Leads, Onward}
 use Rattle.nd_random.specs.Source.{stream_of_source}
 use Rattle.nd_session.specs.declared.session.Session.{Session}
 
--- From each history that the node stood for, the call leads to one that the relation gives, and the queue gains what is reported of the difference.
+-- From each history that the node stood for, the call leads to one that the relation gives, and the reports gain what is reported of the difference.
 abbrev pub LedBy : Session → Session → (Start → Chronicle → Chronicle → Type 0) → Type 0
-LedBy old new To = Leads stream_of_source old.node new.node old.queue new.queue To
+LedBy old new To = Leads stream_of_source old.node new.node old.reports.items new.reports.items To
 
 -- An event of a past moment changes nothing, and isn't reported. Before another one what is due up to it is done; then it adds what it adds, and is
 -- answered. When out of memory a part of what is due is done, and the event adds nothing.

@@ -9,3 +9,4 @@ pub mod Leases
 pub mod Resolve
 pub mod Confirmation
 pub mod Ready
+pub mod Advancing

@@ -52,11 +52,11 @@ GoesThere now destination (Path way state until) node = IfReached way (λ to mac
 GoesThere now destination (Refused refusal) node = Unit {0}
 GoesThere now destination (Past last) node = Unit {0}
 
--- The question is the event, and its answer is returned by the call, and not reported: with that the queue would have all that is reported of it.
+-- The question is the event, and its answer is returned by the call, and not reported: with that the reports would have all that is reported of it.
 pub record AnsweredBy (now : ℕ) (destination : Addr) (answer : PathAnswer) (old new : Session) : Type 0 where
   pub resolution : Resolution
   pub is : resolution_in answer ≡ Some resolution
-  pub leads : Leads stream_of_source old.node new.node old.queue (with_answer new.queue now destination resolution) (FollowsBy now (events.Resolves destination) (answer_by resolution))
+  pub leads : Leads stream_of_source old.node new.node old.reports.items (with_answer new.reports.items now destination resolution) (FollowsBy now (events.Resolves destination) (answer_by resolution))
   pub lease : HasLease now destination answer new
   pub goes : (start : Start) (c : Chronicle) → Stands stream_of_source start old.node c → GoesThere now destination answer new.node
 
@@ -66,7 +66,7 @@ pub record AnsweredAtOnce (now : ℕ) (destination : Addr) (answer : PathAnswer)
   pub resolution : Resolution
   pub is : resolution_in answer ≡ Some resolution
   pub adds : (outs : List (ℕ × Out Global)) → AddsEvent stream_of_source old.node new.node outs (with_answer outs now destination resolution) now (events.Resolves destination) (answer_by resolution)
-  pub queue : new.queue ≡ old.queue
+  pub reports : new.reports.items ≡ old.reports.items
   pub lease : HasLease now destination answer new
   pub goes : GoesThere now destination answer new.node
 

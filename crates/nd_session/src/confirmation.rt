@@ -15,10 +15,11 @@ ghost use Rattle.nd_out.specs.declared.out.Out as told;
 ghost use Rattle.nd_node.specs.EventKept.{AddsEvent};
 ghost use Rattle.nd_node.specs.NodeKept.{Stands, next_of};
 ghost use Rattle.nd_random.specs.Source.{stream_of_source};
+ghost use Rattle.nd_session.specs.Advancing.{AdvancesOnErr};
 ghost use Rattle.nd_session.specs.Confirmation.{Confirms};
 ghost use Rattle.nd_session.specs.Leases.{KeepsLeases};
 ghost use Rattle.nd_session.specs.Paths.{left_at};
-ghost use Rattle.nd_session.specs.Ready.{IsReady};
+ghost use Rattle.nd_session.specs.Ready.{IsReady, KeepsReady};
 
 use crate::session::Session;
 use nd_addr::Addr;
@@ -53,7 +54,7 @@ impl Session {
         requires settled { now < next_of self.old.node }
         ensures taken { result ≡ Confirmation.Taken }
         ensures adds { (outs : List (ℕ × told.Out Global)) → AddsEvent stream_of_source self.old.node self.new.node outs outs now (events.Confirms neighbour) answers.Done }
-        ensures queue { self.new.queue ≡ self.old.queue }
+        ensures reports { self.new.reports.items ≡ self.old.reports.items }
         ensures room { self.new.room ≡ self.old.room }
         ensures leases { KeepsLeases self.old self.new }
         ensures stays { outlasts (now + self.old.node.params.reachable_time) (entry_in (number_of neighbour.0) self.old.node.neighbours.entries) ≡ true → self.new.paths.leases ≡ self.old.paths.leases }
@@ -68,7 +69,7 @@ impl Session {
         requires settled { now < next_of self.old.node }
         ensures unneeded { result ≡ Confirmation.Unneeded }
         ensures passes { (start : Start) (c : Chronicle) → Stands stream_of_source start self.old.node c → last_moment start.at c ≤ now → Stands stream_of_source start self.new.node ((now, Passed) ∷ c) }
-        ensures queue { self.new.queue ≡ self.old.queue }
+        ensures reports { self.new.reports.items ≡ self.old.reports.items }
         ensures room { self.new.room ≡ self.old.room }
         ensures leases { KeepsLeases self.old self.new }
         ensures paths { self.new.paths ≡ self.old.paths }
@@ -90,8 +91,9 @@ impl Session {
     ) -> Result<Confirmation, AllocError>
         requires { IsMoment now }
         ensures confirms { Confirms now destination least result self.old self.new }
-        ensures ready { (start : Start) (c : Chronicle) → Stands stream_of_source start self.old.node c → IsReady self.old → IsReady self.new }
+        ensures ready { KeepsReady self.old self.new }
         ensures leases { KeepsLeases self.old self.new }
+        ensures advances { AdvancesOnErr now result self.old self.new }
 
         // Where nothing is due and nothing is confirmed, what is remembered stays, and so does each lease.
         ensures stays { now < next_of self.old.node → result ≡ Ok Confirmation.Unneeded → self.new.paths ≡ self.old.paths }

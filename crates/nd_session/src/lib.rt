@@ -1,6 +1,6 @@
-//! A node and the queue of its reports in one value, for programs that take each report by a call.
+//! A node and its reports in one value, for programs that take each report by a call.
 //!
-//! `Session` is the node with its queue. Each event appends to the queue what the node sends and reports; `oldest` returns the first report
+//! `Session` is the node with its reports. Each event appends what the node sends and reports; `oldest` returns the first report
 //! that the caller has not taken yet, and `take` removes it. The random words are those of a `Source` of `nd_random`.
 //!
 //! `Slot` is the form in which a program in another language keeps a session: a flag and an untyped pointer, whose owner is a ghost
@@ -12,7 +12,6 @@ mod handle;
 pub mod laws;
 mod paths;
 mod questions;
-mod queue;
 mod resolve;
 mod session;
 mod slot;

@@ -13,9 +13,10 @@ ghost use Rattle.nd_node.specs.PathKept.{left_kept, path_kept, towards};
 ghost use Rattle.nd_node.specs.ResolveKept.{IsWay};
 ghost use Rattle.nd_node.specs.Time.{Onward, Passes};
 ghost use Rattle.nd_random.specs.Source.{stream_of_source};
+ghost use Rattle.nd_session.specs.Advancing.{AdvancesOnErr};
 ghost use Rattle.nd_session.specs.Event.{LedBy};
 ghost use Rattle.nd_session.specs.Leases.{KeepsLeases};
-ghost use Rattle.nd_session.specs.Ready.{IsReady};
+ghost use Rattle.nd_session.specs.Ready.{IsReady, KeepsReady};
 ghost use Rattle.nd_session.specs.Resolve.{AnsweredAtOnce, AnsweredBy, GoesThere, HasLease, Resolves, resolution_in};
 ghost use Rattle.nd_session.specs.Slots.{IsRecalled};
 
@@ -110,7 +111,7 @@ impl Session {
         requires path { path_in timed.path ≡ path_kept self.old.node now destination }
         requires left { timed.reachable_left ≡ left_kept self.old.node now destination }
         ensures node { self.new.node ≡ self.old.node }
-        ensures queue { self.new.queue ≡ self.old.queue }
+        ensures reports { self.new.reports.items ≡ self.old.reports.items }
         ensures room { self.new.room ≡ self.old.room }
         ensures version { self.new.paths.leases ≡ self.old.paths.leases }
         ensures recalled { IfSome result (λ path. IsRecalled self.new.paths now destination path) }
@@ -144,7 +145,7 @@ impl Session {
         ensures lease { HasLease now destination result self.new }
         ensures goes { IsWay self.old.node now destination resolution → GoesThere now destination result self.new.node }
         ensures node { self.new.node ≡ self.old.node }
-        ensures queue { self.new.queue ≡ self.old.queue }
+        ensures reports { self.new.reports.items ≡ self.old.reports.items }
         ensures room { self.new.room ≡ self.old.room }
         ensures version { self.new.paths.leases ≡ self.old.paths.leases }
     {
@@ -198,6 +199,7 @@ impl Session {
         ensures onward { LedBy self.old self.new (Onward now) }
         ensures ready { IsReady self.old → IsReady self.new }
         ensures leases { KeepsLeases self.old self.new }
+        ensures advances { AdvancesOnErr now result self.old self.new }
     {
         if let Some(timed) = self.node.timed_path(now, destination) {
             return Ok(timed);
@@ -215,23 +217,22 @@ impl Session {
         requires moment { IsMoment now }
         requires in_time { last_of self.old.node ≤ now }
         ensures resolved { MatchResult result (λ answer. AnsweredBy now destination answer self.old self.new) (λ error. LedBy self.old self.new (Onward now)) }
-        ensures ready { (start : Start) (c : Chronicle) → Stands stream_of_source start self.old.node c → IsReady self.old → IsReady self.new }
+        ensures ready { KeepsReady self.old self.new }
         ensures leases { KeepsLeases self.old self.new }
+        ensures advances { AdvancesOnErr now result self.old self.new }
     {
         let timed = self.settled_path(now, destination)?;
         if let Some(path) = self.remember(now, destination, timed) {
             return Ok(self.answer_within(now, destination, path));
         }
         self.paths.forget();
-        let resolution = self
-            .node
-            .answer_path(now, destination, &mut self.queue.back)?;
+        let resolution = self.node.answer_path(now, destination, &mut self.reports)?;
         Ok(self.with_lease(now, destination, resolution))
     }
 
     /// Does all that is due up to `now`, in milliseconds, its own millisecond included, and then answers where packets to `destination` go, for a caller
     /// that keeps them (RFC 4861, sections 5.2, 7.2.2 and 7.3.3). That is a use of the neighbour that they go to, and one whose link-layer address isn't
-    /// known is solicited; the queue gains the frame, and `Out::Resolved` or `Out::Failed` later. The answer is returned, and not reported. A question of
+    /// known is solicited; the reports gain the frame, and `Out::Resolved` or `Out::Failed` later. The answer is returned, and not reported. A question of
     /// a past moment changes nothing. Within the lease of a path that was asked for, if nothing has happened since but other such questions, the answer is
     /// what is remembered.
     ///
@@ -239,8 +240,9 @@ impl Session {
     pub fn resolve(&mut self, now: u64, destination: Addr) -> Result<PathAnswer, AllocError>
         requires { IsMoment now }
         ensures resolves { Resolves now destination result self.old self.new }
-        ensures ready { (start : Start) (c : Chronicle) → Stands stream_of_source start self.old.node c → IsReady self.old → IsReady self.new }
+        ensures ready { KeepsReady self.old self.new }
         ensures leases { KeepsLeases self.old self.new }
+        ensures advances { AdvancesOnErr now result self.old self.new }
     {
         if self.node.is_past(now) {
             return Ok(PathAnswer::Past(self.node.last_moment()));

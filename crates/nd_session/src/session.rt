@@ -1,4 +1,4 @@
-//! A session: its start, its events, and its queue.
+//! A session: its start, its events, and its reports.
 
 ghost use Rattle.std.specs.Prelude.{◌≡◌, ℕ, ◌<◌, ◌≤◌, ◌+◌, ◌↔◌, List, [], ◌∷◌, None, true, false, IfOk, IfSome, IsOk, IsSome, IsSomeAnd, IsTrue, OnOk, OnErr, drop, max, vec_capacity, option_copied, slice_get};
 ghost use Rattle.nd_table.specs.Moment.{IsMoment};
@@ -11,7 +11,10 @@ ghost use Rattle.nd_chronicle.specs.Hearing.{IsHeard, Verdict};
 ghost use Rattle.nd_chronicle.specs.History.{beginning};
 ghost use Rattle.nd_chronicle.specs.Start.{Start};
 ghost use Rattle.nd_out.specs.Out.{happening};
+ghost use Rattle.nd_node.specs.Answer.{answer_of};
 ghost use Rattle.nd_node.specs.Event.{event_of};
+ghost use Rattle.nd_node.specs.EventKept.{AddsEvent};
+ghost use Rattle.nd_node.specs.Frame.{Stays};
 ghost use Rattle.nd_node.specs.Hearing.{LeavesTables};
 ghost use Rattle.nd_node.specs.Node.{starting, last_of, with_policies};
 ghost use Rattle.nd_node.specs.NodeKept.{Stands, next_of};
@@ -24,21 +27,20 @@ ghost use Rattle.nd_session.specs.Settling.{done, leaves_paths};
 ghost use Rattle.std.proofs.Props.{props};
 
 use crate::paths::Paths;
-use crate::queue::Queue;
 use nd_addr::{Addr, Mac, Role};
 use nd_compose::FrameRoom;
 use nd_node::{Answer, Event, Limits, Node, Policies, Reception};
-use nd_out::Out;
+use nd_out::{Out, Reports};
 use nd_random::Source;
 use nd_slaac::Transmits;
 use std::alloc::{AllocError, Global};
 
-/// A node, and the queue of its reports that the caller has not taken yet, the oldest first. Each moment is in milliseconds; the caller chooses
+/// A node, and its reports that the caller has not taken yet, the oldest first. Each moment is in milliseconds; the caller chooses
 /// where they begin.
 #[derive(Drop)]
 pub struct Session {
     pub(crate) node: Node<Source, Global>,
-    pub(crate) queue: Queue,
+    pub(crate) reports: Reports<Global>,
     /// The room in reserve: the next frame that is due is written into it. It is missing from then on until a frame's block is had back.
     pub(crate) room: Option<FrameRoom<Global>>,
     /// The paths that were asked for. They are forgotten where more of the node may have changed than the moment up to which time has passed.
@@ -47,11 +49,12 @@ pub struct Session {
 }
 
 impl Session {
+    ghost use Rattle.nd_session.specs.Advancing.{AdvancesOnErr};
     ghost use Rattle.nd_session.specs.Event.{LedBy, Takes};
     ghost use Rattle.nd_session.specs.Leases.{KeepsLeases};
-    ghost use Rattle.nd_session.specs.Ready.{IsReady};
+    ghost use Rattle.nd_session.specs.Ready.{IsReady, KeepsReady};
 
-    /// Starts a node at `start`, in milliseconds, whose random words come from `source`. Its queue is empty. `transmits` is the number of
+    /// Starts a node at `start`, in milliseconds, whose random words come from `source`. It has no reports. `transmits` is the number of
     /// solicitations that it sends for each address, `limits` says how many rows each of its tables keeps at most, and `policies` what it does on a link
     /// that isn't trusted. Returns an error if out of memory.
     pub fn start(
@@ -66,10 +69,10 @@ impl Session {
     ) -> Result<Session, AllocError>
         requires { IsMoment start }
         ensures stands { IfOk result (λ s. let first = with_policies policies (starting start role mac transmits limits (stream_of_source source)) in Stands stream_of_source first s.node (beginning first)) }
-        ensures empty { IfOk result (λ s. s.queue ≡ []) }
+        ensures empty { IfOk result (λ s. s.reports.items ≡ []) }
         ensures ready { IfOk result IsReady }
     {
-        let queue = Queue::new(alloc)?;
+        let reports = Reports::new(alloc)?;
         let paths = Paths::new(alloc, limits.destinations())?;
         match Node::new(alloc, role, mac, start, transmits, limits, source) {
             Ok(node) => {
@@ -77,7 +80,7 @@ impl Session {
                 let room = FrameRoom::with_room(alloc, node.longest_due())?;
                 Ok(Session {
                     node,
-                    queue,
+                    reports,
                     room: Some(room),
                     paths,
                 })
@@ -91,7 +94,7 @@ impl Session {
     pub fn with_lease_version(mut self, version: u64) -> Session
         ensures version { result.paths.leases ≡ version }
         ensures node { result.node ≡ self.node }
-        ensures queue { result.queue ≡ self.queue }
+        ensures reports { result.reports.items ≡ self.reports.items }
         ensures ready { IsReady self → IsReady result }
     {
         self.paths.begin_at(version);
@@ -125,7 +128,7 @@ impl Session {
         None
     }
 
-    /// Does all that is due up to `now`, in milliseconds, its own millisecond included, and then what the event asks for. The queue gains what the
+    /// Does all that is due up to `now`, in milliseconds, its own millisecond included, and then what the event asks for. The reports gain what the
     /// node sends and reports. Returns how the node took the event; one of a past moment changes nothing and is not reported.
     ///
     /// Returns an error if out of memory: a part of what is due may have been done and reported then, and the event has added nothing.
@@ -133,8 +136,11 @@ impl Session {
     pub fn event(&mut self, now: u64, event: &Event<Global>) -> Result<Answer, AllocError>
         requires { IsMoment now }
         ensures takes { Takes now (event_of event.now) result self.old self.new }
-        ensures ready { (start : Start) (c : Chronicle) → Stands stream_of_source start self.old.node c → IsReady self.old → IsReady self.new }
+        ensures ready { KeepsReady self.old self.new }
         ensures leases { KeepsLeases self.old self.new }
+
+        // If no report was left to take, what is due was done, or the first thing of it at least, even if no memory is left.
+        ensures advances { AdvancesOnErr now result self.old self.new }
     {
         if let Some(past) = self.past(now) {
             return Ok(past);
@@ -152,7 +158,7 @@ impl Session {
             _ => {}
         }
         self.paths.forget();
-        self.node.add(now, event, &mut self.queue.back)
+        self.node.add(now, event, &mut self.reports)
     }
 
     /// Does all that is due up to `now`, in milliseconds, its own millisecond included. Returns an error if out of memory: a part of it may have
@@ -160,12 +166,12 @@ impl Session {
     #[inline(always)]
     pub fn settle(&mut self, now: u64) -> Result<(), AllocError>
         requires { IsMoment now }
-        ensures passes { OnOk result (Leads stream_of_source self.old.node self.new.node self.old.queue self.new.queue (Passes now)) }
+        ensures passes { OnOk result (Leads stream_of_source self.old.node self.new.node self.old.reports.items self.new.reports.items (Passes now)) }
         ensures settled { OnOk result (now < next_of self.new.node) }
-        ensures onward { Leads stream_of_source self.old.node self.new.node self.old.queue self.new.queue (Onward now) }
+        ensures onward { Leads stream_of_source self.old.node self.new.node self.old.reports.items self.new.reports.items (Onward now) }
 
         // If no report was left to take, the first thing that is due was done, even if no memory is left.
-        ensures advances { IsReady self.old → self.old.queue ≡ [] → OnErr result (LedBy self.old self.new (Advances now)) }
+        ensures advances { IsReady self.old → self.old.reports.items ≡ [] → OnErr result (LedBy self.old self.new (Advances now)) }
         ensures ready { IsReady self.old → IsReady self.new }
         ensures leases { KeepsLeases self.old self.new }
         ensures idle { now < next_of self.old.node → self.new ≡ self.old }
@@ -178,7 +184,7 @@ impl Session {
         self.catch_up(now)
     }
 
-    /// Does what is due up to `now`, in milliseconds, as `settle` does. If the queue is empty, the reports have room in its part for what is due.
+    /// Does what is due up to `now`, in milliseconds, as `settle` does.
     #[cold]
     #[inline(never)]
     fn catch_up(&mut self, now: u64) -> Result<(), AllocError>
@@ -186,20 +192,12 @@ impl Session {
         ensures passes { OnOk result (LedBy self.old self.new (Passes now)) }
         ensures settled { OnOk result (now < next_of self.new.node) }
         ensures onward { LedBy self.old self.new (Onward now) }
-        ensures advances { IsReady self.old → self.old.queue ≡ [] → OnErr result (LedBy self.old self.new (Advances now)) }
+        ensures advances { IsReady self.old → self.old.reports.items ≡ [] → OnErr result (LedBy self.old self.new (Advances now)) }
         ensures ready { IsReady self.old → IsReady self.new }
         ensures leases { KeepsLeases self.old self.new }
     {
-        if !self.queue.is_empty() {
-            let outs = &mut self.queue.back;
-            let settled_behind = self.node.settle_in(now, &mut self.room, outs);
-            self.paths.forget_unless(leaves_paths(&settled_behind));
-            return done(settled_behind);
-        }
-        self.queue.due.clear();
-        let outs = &mut self.queue.due;
-        let settled = self.node.settle_in(now, &mut self.room, outs);
-        self.queue.due.reverse();
+        let _room = self.reports.is_empty();
+        let settled = self.node.settle_in(now, &mut self.room, &mut self.reports);
         self.paths.forget_unless(leaves_paths(&settled));
         done(settled)
     }
@@ -210,8 +208,11 @@ impl Session {
     pub fn receive(&mut self, now: u64, frame: &[u8]) -> Result<Answer, AllocError>
         requires { IsMoment now }
         ensures takes { Takes now (events.Receives frame.now) result self.old self.new }
-        ensures ready { (start : Start) (c : Chronicle) → Stands stream_of_source start self.old.node c → IsReady self.old → IsReady self.new }
+        ensures ready { KeepsReady self.old self.new }
         ensures leases { KeepsLeases self.old self.new }
+
+        // If no report was left to take, what is due was done, or the first thing of it at least, even if no memory is left.
+        ensures advances { AdvancesOnErr now result self.old self.new }
 
         // A frame that is dropped, and one whose packet goes to the upper layer, end no lease.
         ensures idle { (verdict : Verdict) (start : Start) (c : Chronicle) → Stands stream_of_source start self.old.node c → last_moment start.at c ≤ now → now < next_of self.old.node → IsHeard start ((now, Passed) ∷ c) now frame.now verdict → LeavesTables verdict → OnOk result (self.new.paths.leases ≡ self.old.paths.leases) }
@@ -220,7 +221,23 @@ impl Session {
             return Ok(past);
         }
         self.settle(now)?;
-        let heard = self.node.hear_frame(now, frame, &mut self.queue.back);
+        self.hear(now, frame)
+    }
+
+    /// Receives a frame at `now`, in milliseconds, as `receive` does, where all that is due up to `now` is done. Returns an error if out of memory; nothing has
+    /// happened then.
+    #[inline(always)]
+    pub fn hear(&mut self, now: u64, frame: &[u8]) -> Result<Answer, AllocError>
+        requires moment { IsMoment now }
+        requires settled { now < next_of self.old.node }
+        ensures adds { IfOk result (λ answer. AddsEvent stream_of_source self.old.node self.new.node self.old.reports.items self.new.reports.items now (events.Receives frame.now) (answer_of answer)) }
+        ensures stays { OnErr result (Stays stream_of_source self.old.node self.new.node) }
+        ensures told { OnErr result (self.new.reports.items ≡ self.old.reports.items) }
+        ensures room { self.new.room ≡ self.old.room }
+        ensures leases { KeepsLeases self.old self.new }
+        ensures idle { (verdict : Verdict) (start : Start) (c : Chronicle) → Stands stream_of_source start self.old.node c → last_moment start.at c ≤ now → IsHeard start ((now, Passed) ∷ c) now frame.now verdict → LeavesTables verdict → OnOk result (self.new.paths.leases ≡ self.old.paths.leases) }
+    {
+        let heard = self.node.hear_frame(now, frame, &mut self.reports);
         self.paths.forget_where(changes_tables(&heard));
         answer_in(heard)
     }
@@ -238,8 +255,11 @@ impl Session {
     ) -> Result<Answer, AllocError>
         requires { IsMoment now }
         ensures takes { Takes now (events.Sends source destination next_header payload.now) result self.old self.new }
-        ensures ready { (start : Start) (c : Chronicle) → Stands stream_of_source start self.old.node c → IsReady self.old → IsReady self.new }
+        ensures ready { KeepsReady self.old self.new }
         ensures leases { KeepsLeases self.old self.new }
+
+        // If no report was left to take, what is due was done, or the first thing of it at least, even if no memory is left.
+        ensures advances { AdvancesOnErr now result self.old self.new }
     {
         if let Some(past) = self.past(now) {
             return Ok(past);
@@ -252,22 +272,22 @@ impl Session {
             destination,
             next_header,
             payload,
-            &mut self.queue.back,
+            &mut self.reports,
         )
     }
 
     /// Returns the oldest report that the caller has not taken yet, with its moment in milliseconds.
     pub fn oldest(&self) -> Option<&(u64, Out<Global>)>
-        ensures { option_copied result ≡ slice_get self.now.queue 0 }
+        ensures { option_copied result ≡ slice_get self.now.reports.items 0 }
     {
-        self.queue.first()
+        self.reports.oldest()
     }
 
-    /// Removes the oldest report from the queue and returns it, with its moment in milliseconds. A frame that was written into the room in reserve takes
+    /// Removes the oldest report and returns it, with its moment in milliseconds. A frame that was written into the room in reserve takes
     /// it along, so another room is made before a frame is taken, if it is missing. Returns an error if out of memory; nothing has changed then.
     pub fn take(&mut self) -> Result<Option<(u64, Out<Global>)>, AllocError>
-        ensures taken { IfOk result (λ report. report ≡ slice_get self.old.queue 0) }
-        ensures rest { OnOk result (self.new.queue ≡ drop 1 self.old.queue) }
+        ensures taken { IfOk result (λ report. report ≡ slice_get self.old.reports.items 0) }
+        ensures rest { OnOk result (self.new.reports.items ≡ drop 1 self.old.reports.items) }
         ensures node { self.new.node ≡ self.old.node }
         ensures ready { OnOk result (IsReady self.old → IsReady self.new) }
         ensures leases { KeepsLeases self.old self.new }
@@ -275,23 +295,23 @@ impl Session {
 
         // It succeeds if the room is there, and if the report is no frame.
         ensures in_hand { IsInHand self.old.node self.old.room → IsOk result }
-        ensures other { IfSome (slice_get self.old.queue 0) (λ report. frame_sent (happening report.1) ≡ []) → IsOk result }
+        ensures other { IfSome (slice_get self.old.reports.items 0) (λ report. frame_sent (happening report.1) ≡ []) → IsOk result }
     {
-        let Some((_, report)) = self.queue.first() else {
+        let Some((_, report)) = self.reports.oldest() else {
             return Ok(None);
         };
         if is_frame(report) {
             self.make_room()?;
-            return Ok(self.queue.pop_first());
+            return Ok(self.reports.pop_oldest());
         }
-        Ok(self.queue.pop_first())
+        Ok(self.reports.pop_oldest())
     }
 
     /// Makes the room in reserve, if it is missing. Returns an error if out of memory; nothing has changed then.
     fn make_room(&mut self) -> Result<(), AllocError>
         ensures in_hand { OnOk result (IsInHand self.new.node self.new.room) }
         ensures node { self.new.node ≡ self.old.node }
-        ensures queue { self.new.queue ≡ self.old.queue }
+        ensures reports { self.new.reports.items ≡ self.old.reports.items }
         ensures paths { self.new.paths ≡ self.old.paths }
         ensures same { OnErr result (self.new ≡ self.old) }
         ensures kept { IsInHand self.old.node self.old.room → IsOk result }
@@ -300,24 +320,24 @@ impl Session {
         if has_room_for(&self.room, longest) {
             return Ok(());
         }
-        let alloc = *self.queue.back.allocator();
+        let alloc = *self.reports.allocator();
         self.room = Some(FrameRoom::with_room(alloc, longest)?);
         Ok(())
     }
 
-    /// Removes the oldest report from the queue, once the caller has copied what it needs of it. If the room in reserve is missing, the block of a frame
+    /// Removes the oldest report, once the caller has copied what it needs of it. If the room in reserve is missing, the block of a frame
     /// becomes it. It takes no memory. Returns false if the report was a frame whose block is too short for that; the frame that took the room along
     /// has a block that is long enough.
     #[inline(always)]
     pub fn remove_oldest(&mut self) -> bool
-        ensures rest { self.new.queue ≡ drop 1 self.old.queue }
+        ensures rest { self.new.reports.items ≡ drop 1 self.old.reports.items }
         ensures node { self.new.node ≡ self.old.node }
         ensures ready { result ≡ true → IsReady self.old → IsReady self.new }
         ensures leases { KeepsLeases self.old self.new }
         ensures kept { IsInHand self.old.node self.old.room → (result ≡ true) × (self.new.room ≡ self.old.room) }
-        ensures other { IfSome (slice_get self.old.queue 0) (λ report. frame_sent (happening report.1) ≡ []) → result ≡ true }
+        ensures other { IfSome (slice_get self.old.reports.items 0) (λ report. frame_sent (happening report.1) ≡ []) → result ≡ true }
     {
-        let Some((_, report)) = self.queue.pop_first() else {
+        let Some((_, report)) = self.reports.pop_oldest() else {
             return true;
         };
         match block_of(report) {
@@ -330,7 +350,7 @@ impl Session {
     #[inline(always)]
     fn refill(&mut self, block: Vec<u8, Global>) -> bool
         ensures node { self.new.node ≡ self.old.node }
-        ensures queue { self.new.queue ≡ self.old.queue }
+        ensures reports { self.new.reports.items ≡ self.old.reports.items }
         ensures paths { self.new.paths ≡ self.old.paths }
         ensures in_hand { result ≡ true → IsInHand self.new.node self.new.room }
         ensures kept { IsInHand self.old.node self.old.room → (result ≡ true) × (self.new.room ≡ self.old.room) }

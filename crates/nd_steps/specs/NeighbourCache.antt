@@ -44,9 +44,9 @@ told_for (Some news) entries = told_at (entry_in (news_key news) entries)
 abbrev pub most_told : ℕ
 most_told = max_waiting + 1
 
--- there is room for these rows: for as many as there are, or for as many as there may be
+-- there is room for these rows, and for so many more: for as many as there are, or for as many as there may be
 abbrev pub HasRoomFor : ℕ → ℕ → Option News → List NeighbourEntry → Type 0
-HasRoomFor count room news entries = (count + told_for news entries ≤ room) ⊎ (count + most_told ≤ room)
+HasRoomFor more room news entries = (more + told_for news entries ≤ room) ⊎ (more + most_told ≤ room)
 
 -- ---- by history
 

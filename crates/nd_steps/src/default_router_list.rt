@@ -1,6 +1,6 @@
 //! The Default Router List (RFC 4861, section 5.1): which routers enter and leave it, and what ends with them.
 
-ghost use Rattle.std.specs.Prelude.{◌≡◌, ◌<◌, ◌↔◌, ◌&&◌, ◌==◌, ◌∷◌, IsTrue, List, [], true, ◌≤◌, ◌++◌, ℕ, vec_len, vec_capacity, ◌+◌, length, map};
+ghost use Rattle.std.specs.Prelude.{◌≡◌, ◌<◌, ◌↔◌, ◌&&◌, ◌==◌, ◌∷◌, IsTrue, List, [], true, ◌≤◌, ◌++◌, ℕ, ◌+◌, length, map};
 ghost use Rattle.nd_addr.specs.Number.{number_of};
 ghost use Rattle.nd_table.specs.Announcements.{stands};
 ghost use Rattle.nd_table.specs.Listing.{fits};
@@ -27,7 +27,7 @@ use crate::giving_way::note_way;
 use nd_addr::{Addr, Preference};
 use nd_neighbour::Due;
 use nd_nexthop::Choice;
-use nd_out::Out;
+use nd_out::{Out, Reports};
 use nd_routers::Routers;
 use std::alloc::Allocator;
 
@@ -98,16 +98,10 @@ pub fn hear_router<A: Allocator + Clone>(
 
 /// Reports at `now`, in milliseconds, that a router has left the list, if `times_out` (RFC 4861, section 6.3.4). It takes no memory: the caller has
 /// made room.
-pub fn tell_left<A: Allocator>(
-    outs: &mut Vec<(u64, Out<A>), A>,
-    now: u64,
-    source: Addr,
-    times_out: bool,
-)
-    requires { vec_len outs.old < vec_capacity outs.old }
+pub fn tell_left<A: Allocator>(outs: &mut Reports<A>, now: u64, source: Addr, times_out: bool)
+    requires { 0 < outs.old.free }
     ensures told { happenings outs.new.items ≡ happenings outs.old.items ++ at_moment now (left_told times_out (number_of source.0)) }
-    ensures len { vec_len outs.new ≤ vec_len outs.old + 1 }
-    ensures capacity { vec_capacity outs.new ≡ vec_capacity outs.old }
+    ensures len { outs.old.free ≤ outs.new.free + 1 }
 {
     if times_out {
         outs.push_reserved((now, Out::EndedRouter(source)));
@@ -124,9 +118,9 @@ pub fn end_router<A: Allocator>(
     now: u64,
     addr: Addr,
     ends: bool,
-    outs: &mut Vec<(u64, Out<A>), A>,
+    outs: &mut Reports<A>,
 ) -> bool
-    requires room { vec_len outs.old + 1 ≤ vec_capacity outs.old }
+    requires room { 1 ≤ outs.old.free }
     ensures leaves { Leaves now (number_of addr.0) ends routers.old routers.new choice.old choice.new outs.old.items outs.new.items result }
     ensures settled { (moment : ℕ) → IsSettled routers.old.entries moment → IsSettled routers.new.entries moment }
     ensures limit { routers.new.limit ≡ routers.old.limit }
@@ -171,8 +165,8 @@ pub fn note_failure<A: Allocator + Clone>(
 }
 
 /// Reports at `at`, in milliseconds, that these routers have left the list, in its order. It takes no memory: the caller has made room.
-pub fn tell_routers<A: Allocator>(outs: &mut Vec<(u64, Out<A>), A>, at: u64, routers: &[Addr])
-    requires { vec_len outs.old + length routers.now ≤ vec_capacity outs.old }
+pub fn tell_routers<A: Allocator>(outs: &mut Reports<A>, at: u64, routers: &[Addr])
+    requires { length routers.now ≤ outs.old.free }
     ensures { happenings outs.new.items ≡ happenings outs.old.items ++ at_moment at (map (λ key. LeftRouter key) (map (λ a. number_of a.0) routers.now)) }
 {
     for router in routers {

@@ -1,6 +1,6 @@
 //! What the node reports of what was due.
 
-ghost use Rattle.std.specs.Prelude.{◌≡◌, ◌+◌, ◌++◌, ◌∷◌, [], ◌≤◌, None, IfSome, vec_len, vec_capacity, length, map};
+ghost use Rattle.std.specs.Prelude.{◌≡◌, ◌+◌, ◌++◌, ◌∷◌, [], ◌≤◌, None, IfSome, length, map};
 ghost use Rattle.nd_addr.specs.Number.{number_of, addr_at, mac_at};
 ghost use Rattle.nd_compose.specs.Frames.{detection_frame, resolution_frame, probe_frame};
 ghost use Rattle.nd_advertiser.specs.Contents.{contents_length};
@@ -20,7 +20,7 @@ use crate::router_tables::RouterTables;
 use crate::turned::Turned;
 use nd_addr::{Addr, Mac};
 use nd_compose::FrameRoom;
-use nd_out::{Loss, Out};
+use nd_out::{Loss, Out, Reports};
 use nd_packet::{MAX_WAITING, Packet, Packets};
 use std::alloc::Allocator;
 
@@ -56,29 +56,27 @@ fn probe<A: Allocator>(room: FrameRoom<A>, mac: Mac, own: Addr, to: Mac, addr: A
 }
 
 /// Reports that one frame is sent. It takes no memory: the caller has made room.
-fn tell_frame<A: Allocator>(outs: &mut Vec<(u64, Out<A>), A>, at: u64, frame: Packet<A>)
-    requires { vec_len outs.old + 1 ≤ vec_capacity outs.old }
+fn tell_frame<A: Allocator>(outs: &mut Reports<A>, at: u64, frame: Packet<A>)
+    requires { 1 ≤ outs.old.free }
     ensures told { happenings outs.new.items ≡ happenings outs.old.items ++ at_moment at (Sent frame ∷ []) }
     ensures sends { SendsFrame outs.old.items outs.new.items }
-    ensures capacity { vec_capacity outs.new ≡ vec_capacity outs.old }
 {
     outs.push_reserved((at, Out::Frame(frame)));
 }
 
 /// Reports a step that was due for one of the node's own addresses. Returns the room, unless a frame was written into it.
 fn tell_address<A: Allocator>(
-    outs: &mut Vec<(u64, Out<A>), A>,
+    outs: &mut Reports<A>,
     at: u64,
     room: FrameRoom<A>,
     mac: Mac,
     own: Addr,
     due: nd_slaac::Due,
 ) -> Option<FrameRoom<A>>
-    requires { vec_len outs.old + 1 ≤ vec_capacity outs.old }
+    requires { 1 ≤ outs.old.free }
     ensures told { happenings outs.new.items ≡ happenings outs.old.items ++ at_moment at (told_of_address mac own (addresses.falls_of due) ∷ []) }
     ensures same { IfSome result (λ rest. rest ≡ room) }
     ensures sends { result ≡ None → SendsFrame outs.old.items outs.new.items }
-    ensures capacity { vec_capacity outs.new ≡ vec_capacity outs.old }
 {
     let _own = own;
     match due {
@@ -99,16 +97,10 @@ fn tell_address<A: Allocator>(
 
 /// Reports at `at`, in milliseconds, that the packets that waited for a neighbour are lost, with the reason `why`, the oldest first. It takes no
 /// memory: the caller has made room.
-pub fn tell_lost<A: Allocator>(
-    outs: &mut Vec<(u64, Out<A>), A>,
-    at: u64,
-    why: Loss,
-    packets: Packets<A>,
-)
-    requires { vec_len outs.old + length packets ≤ vec_capacity outs.old }
+pub fn tell_lost<A: Allocator>(outs: &mut Reports<A>, at: u64, why: Loss, packets: Packets<A>)
+    requires { length packets ≤ outs.old.free }
     ensures told { happenings outs.new.items ≡ happenings outs.old.items ++ at_moment at (map (λ packet. Lost (loss_of why) packet) packets) }
-    ensures len { vec_len outs.new ≤ vec_len outs.old + length packets }
-    ensures capacity { vec_capacity outs.new ≡ vec_capacity outs.old }
+    ensures len { outs.old.free ≤ outs.new.free + length packets }
 {
     let mut rest = packets;
     while let Some(packet) = rest.take() {
@@ -119,15 +111,14 @@ pub fn tell_lost<A: Allocator>(
 /// Reports at `at`, in milliseconds, that a neighbour failed, and that the packets that waited for it are lost, the oldest first (RFC 4861, sections 7.2.2 and
 /// 7.3.3). It takes no memory: the caller has made room.
 pub(crate) fn tell_failure<A: Allocator>(
-    outs: &mut Vec<(u64, Out<A>), A>,
+    outs: &mut Reports<A>,
     at: u64,
     addr: Addr,
     packets: Packets<A>,
 )
-    requires { vec_len outs.old + (length packets + 1) ≤ vec_capacity outs.old }
+    requires { length packets + 1 ≤ outs.old.free }
     ensures told { happenings outs.new.items ≡ happenings outs.old.items ++ at_moment at (Neighbour (number_of addr.0) (Forgot Failed) ∷ map (λ packet. Lost Unreachable packet) packets) }
-    ensures len { vec_len outs.new ≤ vec_len outs.old + (length packets + 1) }
-    ensures capacity { vec_capacity outs.new ≡ vec_capacity outs.old }
+    ensures len { outs.old.free ≤ outs.new.free + (length packets + 1) }
 {
     outs.push_reserved((at, Out::Failed(addr)));
     tell_lost(outs, at, Loss::Unreachable, packets);
@@ -135,18 +126,17 @@ pub(crate) fn tell_failure<A: Allocator>(
 
 /// Reports a step that was due for a neighbour. Returns the room, unless a frame was written into it.
 fn tell_neighbour<A: Allocator>(
-    outs: &mut Vec<(u64, Out<A>), A>,
+    outs: &mut Reports<A>,
     at: u64,
     room: FrameRoom<A>,
     mac: Mac,
     own: Addr,
     due: nd_neighbour::Due<A>,
 ) -> Option<FrameRoom<A>>
-    requires { vec_len outs.old + (max_waiting + 1) ≤ vec_capacity outs.old }
+    requires { max_waiting + 1 ≤ outs.old.free }
     ensures told { happenings outs.new.items ≡ happenings outs.old.items ++ at_moment at (told_of_neighbour mac own (neighbours.falls_of due)) }
     ensures same { IfSome result (λ rest. rest ≡ room) }
     ensures sends { result ≡ None → SendsFrame outs.old.items outs.new.items }
-    ensures capacity { vec_capacity outs.new ≡ vec_capacity outs.old }
 {
     match due {
         nd_neighbour::Due::Multicast(addr) => {
@@ -168,19 +158,18 @@ fn tell_neighbour<A: Allocator>(
 
 /// Reports that an interface with these addresses sends what it advertises, if it does. Returns the room, unless a frame was written into it.
 fn tell_contents<A: Allocator>(
-    outs: &mut Vec<(u64, Out<A>), A>,
+    outs: &mut Reports<A>,
     at: u64,
     room: FrameRoom<A>,
     mac: Mac,
     own: Addr,
     router: &RouterTables<A>,
 ) -> Option<FrameRoom<A>>
-    requires place { vec_len outs.old + 1 ≤ vec_capacity outs.old }
+    requires place { 1 ≤ outs.old.free }
     requires long { HasRoomFor room (contents_length router.now.advertiser.limit) }
     ensures told { happenings outs.new.items ≡ happenings outs.old.items ++ at_moment at (advertised_by (frame_in mac own router.now)) }
     ensures same { IfSome result (λ rest. rest ≡ room) }
     ensures sends { result ≡ None → SendsFrame outs.old.items outs.new.items }
-    ensures capacity { vec_capacity outs.new ≡ vec_capacity outs.old }
 {
     let Some(contents) = router.advertiser.contents(mac) else {
         return Some(room);
@@ -193,11 +182,11 @@ fn tell_contents<A: Allocator>(
 
 /// Reports at `at`, in milliseconds, that a Router Advertisement is sent, if there is one. It takes no memory: the caller has made room.
 pub fn tell_advertisement<A: Allocator>(
-    outs: &mut Vec<(u64, Out<A>), A>,
+    outs: &mut Reports<A>,
     at: u64,
     advertisement: Option<Packet<A>>,
 )
-    requires { vec_len outs.old + 1 ≤ vec_capacity outs.old }
+    requires { 1 ≤ outs.old.free }
     ensures { happenings outs.new.items ≡ happenings outs.old.items ++ at_moment at (advertised_by advertisement) }
 {
     match advertisement {
@@ -210,7 +199,7 @@ pub fn tell_advertisement<A: Allocator>(
 /// it advertises. Returns the room, unless a frame was written into it. It takes no memory: the caller has made room, for the advertisement too if
 /// one is due.
 pub fn tell<A: Allocator>(
-    outs: &mut Vec<(u64, Out<A>), A>,
+    outs: &mut Reports<A>,
     at: u64,
     room: FrameRoom<A>,
     mac: Mac,
@@ -218,12 +207,11 @@ pub fn tell<A: Allocator>(
     router: &RouterTables<A>,
     turned: Turned<A>,
 ) -> Option<FrameRoom<A>>
-    requires places { vec_len outs.old + (max_waiting + 1) ≤ vec_capacity outs.old }
+    requires places { max_waiting + 1 ≤ outs.old.free }
     requires long { what_of turned ≡ RouterAdvertises → HasRoomFor room (contents_length router.now.advertiser.limit) }
     ensures told { happenings outs.new.items ≡ happenings outs.old.items ++ at_moment at (told_of mac own (advertised_by (frame_in mac own router.now)) (what_of turned)) }
     ensures same { IfSome result (λ rest. rest ≡ room) }
     ensures sends { result ≡ None → SendsFrame outs.old.items outs.new.items }
-    ensures capacity { vec_capacity outs.new ≡ vec_capacity outs.old }
 {
     match turned {
         Turned::EndedRouter(addr) => {

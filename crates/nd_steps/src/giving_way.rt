@@ -1,7 +1,7 @@
 //! A neighbour gives way to one that speaks (RFC 6583, section 7): what a message that gives a link-layer address does to a Neighbor Cache in which there is
 //! no other room for its neighbour, and what the node reports of it.
 
-ghost use Rattle.std.specs.Prelude.{◌≡◌, ◌+◌, ◌<◌, ◌≤◌, ◌^◌, IfNone, IfSome, List, None, if◌then◌else◌, is_some, true, vec_capacity, vec_len};
+ghost use Rattle.std.specs.Prelude.{◌≡◌, ◌+◌, ◌<◌, ◌≤◌, ◌^◌, IfNone, IfSome, List, None, if◌then◌else◌, is_some, true};
 ghost use Rattle.std.specs.Option.{option_map};
 ghost use Rattle.nd_addr.specs.Number.{number_of};
 ghost use Rattle.nd_neighbour.specs.declared.news.Times.{Times};
@@ -20,7 +20,7 @@ use crate::neighbour_cache::hear_of_neighbour;
 use nd_addr::Addr;
 use nd_neighbour::{Cache, News, Times};
 use nd_nexthop::Choice;
-use nd_out::Out;
+use nd_out::Reports;
 use nd_routers::Routers;
 use std::alloc::Allocator;
 
@@ -52,10 +52,10 @@ fn make_way<A: Allocator>(
     now: u64,
     news: Option<News>,
     speakers: bool,
-    outs: &mut Vec<(u64, Out<A>), A>,
+    outs: &mut Reports<A>,
 ) -> Option<Addr>
     requires place { HasPlaceOrWay speakers neighbours.old.limit now news neighbours.old.entries }
-    requires room { vec_len outs.old + (if speakers then max_waiting + 1 else 0) ≤ vec_capacity outs.old }
+    requires room { (if speakers then max_waiting + 1 else 0) ≤ outs.old.free }
     ensures ways { (times : Times) → MakesWay speakers neighbours.old.limit now (option_map (said_by times) news) neighbours.old.entries neighbours.new.entries outs.old.items outs.new.items (option_map (λ gone. number_of gone.0) result) }
 
     // There is room for the neighbour then, if it enters; no more of what waits for it is released than before.
@@ -66,8 +66,7 @@ fn make_way<A: Allocator>(
     ensures unsaid { news ≡ None → neighbours.new.entries ≡ neighbours.old.entries }
 
     // The room that was made for other rows is left.
-    ensures len { vec_len outs.new ≤ vec_len outs.old + (if speakers then max_waiting + 1 else 0) }
-    ensures capacity { vec_capacity outs.new ≡ vec_capacity outs.old }
+    ensures len { outs.old.free ≤ outs.new.free + (if speakers then max_waiting + 1 else 0) }
     ensures limit { neighbours.new.limit ≡ neighbours.old.limit }
     ensures waiting { neighbours.new.waiting ≡ neighbours.old.waiting }
     ensures rings { neighbours.new.rings ≡ neighbours.old.rings }
@@ -97,12 +96,12 @@ pub fn hear_giver<A: Allocator>(
     news: Option<News>,
     times: Times,
     speakers: bool,
-    outs: &mut Vec<(u64, Out<A>), A>,
+    outs: &mut Reports<A>,
 ) -> Option<Addr>
     requires moment { IsMoment now }
     requires span { times.reachable < 2 ^ 62 }
     requires place { HasPlaceOrWay speakers neighbours.old.limit now news neighbours.old.entries }
-    requires room { HasRoomFor (vec_len outs.old + (if speakers then max_waiting + 1 else 0)) (vec_capacity outs.old) news neighbours.old.entries }
+    requires room { HasRoomFor (if speakers then max_waiting + 1 else 0) outs.old.free news neighbours.old.entries }
     ensures hears { HearsGiver speakers neighbours.old.limit now (option_map (said_by times) news) neighbours.old.entries neighbours.new.entries outs.old.items outs.new.items (option_map (λ gone. number_of gone.0) result) }
     ensures remembers { MayRemember choice.old choice.new neighbours.old.entries neighbours.new.entries }
 
@@ -111,9 +110,8 @@ pub fn hear_giver<A: Allocator>(
     ensures unsaid { news ≡ None → neighbours.new.entries ≡ neighbours.old.entries }
 
     // The room that was made for other rows is left.
-    ensures len { vec_len outs.new ≤ vec_len outs.old + (if speakers then max_waiting + 1 else 0) + told_for news neighbours.old.entries }
-    ensures most { vec_len outs.new ≤ vec_len outs.old + (if speakers then max_waiting + 1 else 0) + most_told }
-    ensures capacity { vec_capacity outs.new ≡ vec_capacity outs.old }
+    ensures len { outs.old.free ≤ outs.new.free + (if speakers then max_waiting + 1 else 0) + told_for news neighbours.old.entries }
+    ensures most { outs.old.free ≤ outs.new.free + (if speakers then max_waiting + 1 else 0) + most_told }
     ensures limit { neighbours.new.limit ≡ neighbours.old.limit }
     ensures waiting { neighbours.new.waiting ≡ neighbours.old.waiting }
     ensures rings { neighbours.new.rings ≡ neighbours.old.rings }

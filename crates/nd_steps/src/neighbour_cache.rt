@@ -1,6 +1,6 @@
 //! The Neighbor Cache (RFC 4861, section 5.1): what messages and packets do to it, and what the node reports of them.
 
-ghost use Rattle.std.specs.Prelude.{◌≡◌, List, Some, None, true, false, ◌+◌, ◌<◌, ◌≤◌, length, IfOk, IsOk, OnOk, vec_capacity, vec_len, ◌-◌, ◌++◌, ◌^◌, IfSome, if◌then◌else◌, is_some, map, [], ◌∷◌};
+ghost use Rattle.std.specs.Prelude.{◌≡◌, List, Some, None, true, false, ◌+◌, ◌<◌, ◌≤◌, length, IfOk, IsOk, OnOk, ◌-◌, ◌++◌, ◌^◌, IfSome, if◌then◌else◌, is_some, map, [], ◌∷◌};
 ghost use Rattle.std.specs.Option.{option_map};
 ghost use Rattle.nd_neighbour.specs.declared.news.Times.{Times};
 ghost use Rattle.nd_neighbour.specs.History.{Row};
@@ -27,7 +27,7 @@ use nd_addr::{Addr, Mac};
 use nd_compose::FrameRoom;
 use nd_neighbour::{Cache, News, Times, Use, Want};
 use nd_nexthop::Choice;
-use nd_out::{Loss, Out};
+use nd_out::{Loss, Out, Reports};
 use nd_packet::{Packet, Packets};
 use std::alloc::{AllocError, Allocator};
 
@@ -68,15 +68,15 @@ pub fn has_place<A: Allocator>(
 pub fn ready_for<A: Allocator + Clone>(
     neighbours: &mut Cache<A>,
     to: Addr,
-    outs: &mut Vec<(u64, Out<A>), A>,
+    outs: &mut Reports<A>,
 ) -> Result<Option<FrameRoom<A>>, AllocError>
-    ensures place { OnOk result (vec_len outs.new < vec_capacity outs.new) }
+    ensures place { OnOk result (0 < outs.new.free) }
     ensures ring { OnOk result (entry_in (number_of to.0) neighbours.old.entries ≡ None → 0 < neighbours.new.rings) }
     ensures solicitation { IfOk result (λ room. entry_in (number_of to.0) neighbours.old.entries ≡ None → is_some room ≡ true) }
     ensures none { IfOk result (λ room. is_some (entry_in (number_of to.0) neighbours.old.entries) ≡ true → is_some room ≡ false) }
 
     // If the neighbour is there, it asks for no memory where there is a place.
-    ensures ready { is_some (entry_in (number_of to.0) neighbours.old.entries) ≡ true → vec_len outs.old < vec_capacity outs.old → IsOk result }
+    ensures ready { is_some (entry_in (number_of to.0) neighbours.old.entries) ≡ true → 0 < outs.old.free → IsOk result }
     ensures entries { neighbours.new.entries ≡ neighbours.old.entries }
     ensures limit { neighbours.new.limit ≡ neighbours.old.limit }
     ensures waiting { neighbours.new.waiting ≡ neighbours.old.waiting }
@@ -98,14 +98,14 @@ pub fn ready_for<A: Allocator + Clone>(
 pub fn ready_for_wish<A: Allocator + Clone>(
     neighbours: &mut Cache<A>,
     to: Addr,
-    outs: &mut Vec<(u64, Out<A>), A>,
+    outs: &mut Reports<A>,
 ) -> Result<Option<FrameRoom<A>>, AllocError>
-    ensures place { IfOk result (λ room. vec_len outs.new + rows_of_wish room ≤ vec_capacity outs.new) }
+    ensures place { IfOk result (λ room. rows_of_wish room ≤ outs.new.free) }
     ensures ring { OnOk result (entry_in (number_of to.0) neighbours.old.entries ≡ None → 0 < neighbours.new.rings) }
     ensures solicitation { IfOk result (λ room. entry_in (number_of to.0) neighbours.old.entries ≡ None → is_some room ≡ true) }
 
     // If the neighbour is there, it asks for no memory where there is a place.
-    ensures ready { is_some (entry_in (number_of to.0) neighbours.old.entries) ≡ true → vec_len outs.old < vec_capacity outs.old → IsOk result }
+    ensures ready { is_some (entry_in (number_of to.0) neighbours.old.entries) ≡ true → 0 < outs.old.free → IsOk result }
     ensures entries { neighbours.new.entries ≡ neighbours.old.entries }
     ensures limit { neighbours.new.limit ≡ neighbours.old.limit }
     ensures waiting { neighbours.new.waiting ≡ neighbours.old.waiting }
@@ -124,9 +124,9 @@ pub fn ready_for_wish<A: Allocator + Clone>(
 /// ring, since making the first entry may evict the second. Returns an error if out of memory; no more than room has been made then.
 pub fn ready_for_two<A: Allocator + Clone>(
     neighbours: &mut Cache<A>,
-    outs: &mut Vec<(u64, Out<A>), A>,
+    outs: &mut Reports<A>,
 ) -> Result<(FrameRoom<A>, FrameRoom<A>), AllocError>
-    ensures place { OnOk result (vec_len outs.new + 2 ≤ vec_capacity outs.new) }
+    ensures place { OnOk result (2 ≤ outs.new.free) }
     ensures rings { OnOk result (2 ≤ neighbours.new.rings) }
     ensures entries { neighbours.new.entries ≡ neighbours.old.entries }
     ensures limit { neighbours.new.limit ≡ neighbours.old.limit }
@@ -165,11 +165,10 @@ pub fn told_for<A: Allocator>(neighbours: &Cache<A>, news: Option<News>) -> usiz
 }
 
 /// Reports packets as sent to an Ethernet address, the oldest first.
-fn send_each<A: Allocator>(outs: &mut Vec<(u64, Out<A>), A>, at: u64, mac: Mac, packets: Packets<A>)
-    requires { vec_len outs.old + length packets ≤ vec_capacity outs.old }
+fn send_each<A: Allocator>(outs: &mut Reports<A>, at: u64, mac: Mac, packets: Packets<A>)
+    requires { length packets ≤ outs.old.free }
     ensures told { happenings outs.new.items ≡ happenings outs.old.items ++ at_moment at (map (λ packet. Sent (addressed mac packet)) packets) }
-    ensures len { vec_len outs.new ≤ vec_len outs.old + length packets }
-    ensures capacity { vec_capacity outs.new ≡ vec_capacity outs.old }
+    ensures len { outs.old.free ≤ outs.new.free + length packets }
 {
     let mut rest = packets;
     while let Some(packet) = rest.take() {
@@ -180,17 +179,16 @@ fn send_each<A: Allocator>(outs: &mut Vec<(u64, Out<A>), A>, at: u64, mac: Mac, 
 /// Reports that the link-layer address of a neighbour is known: its packets are sent there, the oldest first, and behind them the address is reported if a
 /// caller wanted it.
 fn tell_known<A: Allocator>(
-    outs: &mut Vec<(u64, Out<A>), A>,
+    outs: &mut Reports<A>,
     at: u64,
     neighbour: Addr,
     mac: Mac,
     packets: Packets<A>,
     wanted: bool,
 )
-    requires { vec_len outs.old + length packets + (if wanted then 1 else 0) ≤ vec_capacity outs.old }
+    requires { length packets + (if wanted then 1 else 0) ≤ outs.old.free }
     ensures told { happenings outs.new.items ≡ happenings outs.old.items ++ at_moment at (map (λ packet. Sent (addressed mac packet)) packets ++ (if wanted then Resolved (number_of neighbour.0) (number_of mac.0) ∷ [] else [])) }
-    ensures len { vec_len outs.new ≤ vec_len outs.old + length packets + (if wanted then 1 else 0) }
-    ensures capacity { vec_capacity outs.new ≡ vec_capacity outs.old }
+    ensures len { outs.old.free ≤ outs.new.free + length packets + (if wanted then 1 else 0) }
 {
     send_each(outs, at, mac, packets);
     if !wanted {
@@ -207,18 +205,17 @@ fn hear_news<A: Allocator>(
     now: u64,
     news: News,
     times: Times,
-    outs: &mut Vec<(u64, Out<A>), A>,
+    outs: &mut Reports<A>,
 ) -> bool
     requires moment { IsMoment now }
     requires span { times.reachable < 2 ^ 62 }
     requires place { HasPlace neighbours.old.limit now (Some news) neighbours.old.entries }
-    requires room { HasRoomFor (vec_len outs.old) (vec_capacity outs.old) (Some news) neighbours.old.entries }
+    requires room { HasRoomFor 0 outs.old.free (Some news) neighbours.old.entries }
     ensures hears { HearsOf neighbours.old.limit now (Some (said_by times news)) neighbours.old.entries neighbours.new.entries outs.old.items outs.new.items result }
     ensures remembers { MayRemember choice.old choice.new neighbours.old.entries neighbours.new.entries }
     ensures there { lets_enter news ≡ true → is_some (entry_in (news_key news) neighbours.new.entries) ≡ true }
-    ensures len { vec_len outs.new ≤ vec_len outs.old + told_for (Some news) neighbours.old.entries }
-    ensures most { vec_len outs.new ≤ vec_len outs.old + most_told }
-    ensures capacity { vec_capacity outs.new ≡ vec_capacity outs.old }
+    ensures len { outs.old.free ≤ outs.new.free + told_for (Some news) neighbours.old.entries }
+    ensures most { outs.old.free ≤ outs.new.free + most_told }
     ensures limit { neighbours.new.limit ≡ neighbours.old.limit }
     ensures waiting { neighbours.new.waiting ≡ neighbours.old.waiting }
     ensures rings { neighbours.new.rings ≡ neighbours.old.rings }
@@ -259,12 +256,12 @@ pub fn hear_of_neighbour<A: Allocator>(
     now: u64,
     news: Option<News>,
     times: Times,
-    outs: &mut Vec<(u64, Out<A>), A>,
+    outs: &mut Reports<A>,
 ) -> bool
     requires moment { IsMoment now }
     requires span { times.reachable < 2 ^ 62 }
     requires place { HasPlace neighbours.old.limit now news neighbours.old.entries }
-    requires room { HasRoomFor (vec_len outs.old) (vec_capacity outs.old) news neighbours.old.entries }
+    requires room { HasRoomFor 0 outs.old.free news neighbours.old.entries }
     ensures hears { HearsOf neighbours.old.limit now (option_map (said_by times) news) neighbours.old.entries neighbours.new.entries outs.old.items outs.new.items result }
     ensures remembers { MayRemember choice.old choice.new neighbours.old.entries neighbours.new.entries }
 
@@ -273,9 +270,8 @@ pub fn hear_of_neighbour<A: Allocator>(
     ensures unsaid { news ≡ None → neighbours.new.entries ≡ neighbours.old.entries }
 
     // The room that was made for other rows is left.
-    ensures len { vec_len outs.new ≤ vec_len outs.old + told_for news neighbours.old.entries }
-    ensures most { vec_len outs.new ≤ vec_len outs.old + most_told }
-    ensures capacity { vec_capacity outs.new ≡ vec_capacity outs.old }
+    ensures len { outs.old.free ≤ outs.new.free + told_for news neighbours.old.entries }
+    ensures most { outs.old.free ≤ outs.new.free + most_told }
 
     ensures limit { neighbours.new.limit ≡ neighbours.old.limit }
     ensures waiting { neighbours.new.waiting ≡ neighbours.old.waiting }
@@ -300,7 +296,7 @@ pub fn note_use<A: Allocator>(choice: &mut Choice<A>, used: &Use<A>)
 /// Reports at `at`, in milliseconds, what became of a packet to a neighbour (RFC 4861, sections 7.2.2 and 7.3.3), in at most one row. `mac` and
 /// `own` are the node's link-layer address and its link-local address. It takes no memory: the caller has made room.
 pub fn tell_use<A: Allocator>(
-    outs: &mut Vec<(u64, Out<A>), A>,
+    outs: &mut Reports<A>,
     at: u64,
     room: Option<FrameRoom<A>>,
     mac: Mac,
@@ -308,11 +304,10 @@ pub fn tell_use<A: Allocator>(
     to: Addr,
     used: Use<A>,
 )
-    requires room { vec_len outs.old < vec_capacity outs.old }
+    requires room { 0 < outs.old.free }
     requires ready { begins (sending_of used) ≡ true → is_some room ≡ true }
     ensures told { happenings outs.new.items ≡ happenings outs.old.items ++ at_moment at (told_of_packet mac own (number_of to.0) (sending_of used)) }
-    ensures one { vec_len outs.new ≤ vec_len outs.old + 1 }
-    ensures capacity { vec_capacity outs.new ≡ vec_capacity outs.old }
+    ensures one { outs.old.free ≤ outs.new.free + 1 }
 {
     nd_addr::laws::addresses_are_told_by_numbers();
     match used {
@@ -349,7 +344,7 @@ pub fn note_wish<A: Allocator>(choice: &mut Choice<A>, want: Want)
 /// section 7.2.2). `mac` and `own` are the node's link-layer address and its link-local address. It takes no memory: the caller has made room for the
 /// solicitation, and for one row more, which is left.
 pub fn tell_wish<A: Allocator>(
-    outs: &mut Vec<(u64, Out<A>), A>,
+    outs: &mut Reports<A>,
     at: u64,
     room: Option<FrameRoom<A>>,
     mac: Mac,
@@ -357,10 +352,10 @@ pub fn tell_wish<A: Allocator>(
     to: Addr,
     want: Want,
 )
-    requires room { vec_len outs.old + rows_of_wish room ≤ vec_capacity outs.old }
+    requires room { rows_of_wish room ≤ outs.old.free }
     requires ready { begins_by (wanting_of want) ≡ true → is_some room ≡ true }
     ensures told { happenings outs.new.items ≡ happenings outs.old.items ++ at_moment at (told_of_wish mac own (number_of to.0) (wanting_of want)) }
-    ensures left { vec_len outs.new < vec_capacity outs.new }
+    ensures left { 0 < outs.new.free }
 {
     nd_addr::laws::addresses_are_told_by_numbers();
     match want {
@@ -378,12 +373,8 @@ pub fn tell_wish<A: Allocator>(
 
 /// Reports at `at`, in milliseconds, that the packets that waited for neighbours which a command removes are lost, in their order. It takes no
 /// memory: the caller has made room.
-pub fn tell_packets<A: Allocator>(
-    outs: &mut Vec<(u64, Out<A>), A>,
-    at: u64,
-    packets: Vec<Packet<A>, A>,
-)
-    requires { vec_len outs.old + length packets.items ≤ vec_capacity outs.old }
+pub fn tell_packets<A: Allocator>(outs: &mut Reports<A>, at: u64, packets: Vec<Packet<A>, A>)
+    requires { length packets.items ≤ outs.old.free }
     ensures { happenings outs.new.items ≡ happenings outs.old.items ++ at_moment at (map (λ packet. Lost Forgotten packet) packets.items) }
 {
     for packet in packets {

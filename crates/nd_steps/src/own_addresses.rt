@@ -1,7 +1,7 @@
 //! The node's own addresses (RFC 4862, section 5): which advertisements form them, what another node's claim to one does, and which frames are
 //! for them.
 
-ghost use Rattle.std.specs.Prelude.{◌≡◌, ◌+◌, ◌++◌, ◌≤◌, not, vec_len, vec_capacity, ◌↔◌, true, ◌<◌, ◌&&◌, ◌∷◌, List, [], ℕ, false, if◌then◌else◌};
+ghost use Rattle.std.specs.Prelude.{◌≡◌, ◌+◌, ◌++◌, ◌≤◌, not, ◌↔◌, true, ◌<◌, ◌&&◌, ◌∷◌, List, [], ℕ, false, if◌then◌else◌};
 ghost use Rattle.nd_addr.specs.Number.{number_of, addr_at};
 ghost use Rattle.nd_slaac.specs.PrefixOption.{link_local_of, prefixes_in};
 ghost use Rattle.nd_addr.specs.Kind.{all_nodes_address, all_routers_address};
@@ -29,7 +29,7 @@ use crate::draws::{MAX_RTR_SOLICITATION_DELAY, drawn_from};
 use nd_addr::{Addr, Role};
 use nd_decode::{Body, Options, PrefixInfo};
 use nd_nexthop::Choice;
-use nd_out::Out;
+use nd_out::{Out, Reports};
 use nd_slaac::{Addresses, Counted};
 use rand_core::Rng;
 use std::alloc::Allocator;
@@ -203,16 +203,15 @@ pub fn hear_holder<A: Allocator>(
     choice: &mut Choice<A>,
     now: u64,
     target: Addr,
-    outs: &mut Vec<(u64, Out<A>), A>,
+    outs: &mut Reports<A>,
 ) -> bool
-    requires { vec_len outs.old + 1 ≤ vec_capacity outs.old }
+    requires { 1 ≤ outs.old.free }
     ensures conflicts { Conflicts now (number_of target.0) addresses.old.addresses addresses.new.addresses outs.old.items outs.new.items result }
     ensures remembers { choice.new ≡ (if result then record choice.old { memory = forgotten choice.old.memory } else choice.old) }
     ensures mac { addresses.new.mac ≡ addresses.old.mac }
     ensures limit { addresses.new.limit ≡ addresses.old.limit }
     ensures transmits { addresses.new.transmits ≡ addresses.old.transmits }
-    ensures len { vec_len outs.new ≤ vec_len outs.old + 1 }
-    ensures capacity { vec_capacity outs.new ≡ vec_capacity outs.old }
+    ensures len { outs.old.free ≤ outs.new.free + 1 }
 {
     if hear_conflict(addresses, choice, target) {
         outs.push_reserved((now, Out::Duplicate(target)));

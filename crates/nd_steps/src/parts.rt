@@ -1,7 +1,7 @@
 //! A message is taken in part, where a table has no room for all of it (RFC 8106, section 5.3.1): what it says of a neighbour for which the table is full, and
 //! what the node reports of what is passed over. The definitions are in `specs/Parts.antt`, and in that of nd_chronicle.
 
-ghost use Rattle.std.specs.Prelude.{◌≡◌, ◌+◌, ◌++◌, ◌<◌, ◌≤◌, IfSome, List, false, true, map, vec_capacity, vec_len};
+ghost use Rattle.std.specs.Prelude.{◌≡◌, ◌+◌, ◌++◌, ◌<◌, ◌≤◌, IfSome, List, false, true, map};
 ghost use Rattle.std.specs.Option.{option_map};
 ghost use Rattle.nd_chronicle.specs.Happening.{Ignored};
 ghost use Rattle.nd_chronicle.specs.Parts.{passed_over};
@@ -15,7 +15,7 @@ ghost use Rattle.nd_steps.specs.Parts.{said_in_place};
 
 use nd_addr::Addr;
 use nd_neighbour::News;
-use nd_out::{Limit, Out};
+use nd_out::{Limit, Out, Reports};
 use std::alloc::Allocator;
 
 /// Returns these news, without the link-layer address that they give if there is no `place` for their neighbour.
@@ -54,16 +54,10 @@ fn marked(addr: Addr, mark: Option<bool>) -> Option<News>
 
 /// Reports at `now`, in milliseconds, that a part of a message was passed over for want of room in this table, unless the table has room. It takes no memory:
 /// the caller has made room.
-pub fn tell_ignored<A: Allocator>(
-    outs: &mut Vec<(u64, Out<A>), A>,
-    now: u64,
-    has_room: bool,
-    limit: Limit,
-)
-    requires { vec_len outs.old < vec_capacity outs.old }
+pub fn tell_ignored<A: Allocator>(outs: &mut Reports<A>, now: u64, has_room: bool, limit: Limit)
+    requires { 0 < outs.old.free }
     ensures told { happenings outs.new.items ≡ happenings outs.old.items ++ at_moment now (map (λ l. Ignored l) (passed_over has_room (limit_of limit))) }
-    ensures len { vec_len outs.new ≤ vec_len outs.old + 1 }
-    ensures capacity { vec_capacity outs.new ≡ vec_capacity outs.old }
+    ensures len { outs.old.free ≤ outs.new.free + 1 }
 {
     if !has_room {
         outs.push_reserved((now, Out::Ignored(limit)));

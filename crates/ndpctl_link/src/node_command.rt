@@ -4,11 +4,11 @@ ghost use Rattle.std.specs.Prelude.{◌≡◌, ◌≢◌, List, ℕ, None, Some,
 ghost use Rattle.std.specs.Option.{IsSomeAnd, option_map};
 ghost use Rattle.nd_chronicle.specs.Event as events;
 ghost use Rattle.nd_chronicle.specs.Event.{Receives};
-ghost use Rattle.nd_node.specs.Event.{event_of};
+ghost use Rattle.nd_node.specs.Event.{request_of};
 ghost use Rattle.ndpctl_run.specs.Command.{IsCommand};
 ghost use Rattle.ndpctl_link.specs.NodeCommand.{IsNodeCommand, IsOwnCommand};
 
-use nd_node::Event;
+use nd_node::Request;
 use ndpctl_run::{read_command, split_number, split_word};
 use std::alloc::{AllocError, Allocator};
 
@@ -28,9 +28,9 @@ fn is_rx(command: &[u8]) -> bool
 fn read_own_command<A: Allocator + Clone>(
     alloc: &A,
     command: &[u8],
-) -> Result<Option<Event<A>>, AllocError>
-    ensures found { IfOk result (λ read. IfSome read (λ event. IsOwnCommand command.now (event_of event))) }
-    ensures only { (event : events.Event) → IsOwnCommand command.now event → IfOk result (λ read. option_map event_of read ≡ Some event) }
+) -> Result<Option<Request<A>>, AllocError>
+    ensures found { IfOk result (λ read. IfSome read (λ event. IsOwnCommand command.now (request_of event))) }
+    ensures only { (event : events.Event) → IsOwnCommand command.now event → IfOk result (λ read. option_map request_of read ≡ Some event) }
     ensures malformed { ((event : events.Event) → IsOwnCommand command.now event → ⊥) → result ≡ Ok None }
 {
     if is_rx(command) {
@@ -44,10 +44,10 @@ fn read_own_command<A: Allocator + Clone>(
 pub(crate) fn read_node_command<A: Allocator + Clone>(
     alloc: &A,
     words: &[u8],
-) -> Result<Option<(u64, Event<A>)>, AllocError>
-    ensures found { IfOk result (λ read. IfSome read (λ comes. IsNodeCommand words.now comes.0 (event_of comes.1))) }
+) -> Result<Option<(u64, Request<A>)>, AllocError>
+    ensures found { IfOk result (λ read. IfSome read (λ comes. IsNodeCommand words.now comes.0 (request_of comes.1))) }
     ensures only { (node : ℕ) (event : events.Event) → IsNodeCommand words.now node event
-        → IfOk result (λ read. IsSomeAnd read (λ comes. (comes.0 ≡ node) × (event_of comes.1 ≡ event))) }
+        → IfOk result (λ read. IsSomeAnd read (λ comes. (comes.0 ≡ node) × (request_of comes.1 ≡ event))) }
     ensures malformed { ((node : ℕ) (event : events.Event) → IsNodeCommand words.now node event → ⊥) → result ≡ Ok None }
 {
     let Some((node, command)) = split_number(words) else {

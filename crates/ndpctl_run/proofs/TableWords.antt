@@ -7,8 +7,8 @@ use Rattle.nd_chronicle.specs.Shown.{Table, NeighbourTable, RouterTable, PrefixT
 use Rattle.nd_node.specs.Event.{clearable_of, table_of}
 use Rattle.nd_node.specs.declared.clearing.Clearable as rust_clearable
 use Rattle.nd_node.specs.declared.clearing.Clearable.TheVariants as clearables
-use Rattle.nd_node.specs.declared.event.Table as rust
-use Rattle.nd_node.specs.declared.event.Table.TheVariants.{Neighbours, Routers, Prefixes, Addresses, Dns, Redirects, Params, Advertise, Routes}
+use Rattle.nd_node.specs.declared.shown.Table as rust
+use Rattle.nd_node.specs.declared.shown.Table.TheVariants.{Neighbours, Routers, Prefixes, Addresses, Dns, Redirects, Params, Advertise, Routes}
 
 -- the table of a word, by some of its bytes and its length
 abbrev pub told : List ℕ → Table

@@ -3,7 +3,7 @@
 ghost use Rattle.std.specs.Prelude.{◌≡◌, Some, None, Ok, IfSome, IfOk};
 ghost use Rattle.std.specs.Option.{option_map};
 ghost use Rattle.nd_chronicle.specs.Event as events;
-ghost use Rattle.nd_node.specs.Event.{event_of};
+ghost use Rattle.nd_node.specs.Event.{request_of};
 ghost use Rattle.ndpctl_run.specs.Command.{command_word, AreArguments, IsCommand, IsWholeCommand};
 
 use crate::address::read_address;
@@ -15,7 +15,7 @@ use crate::route::read_route;
 use crate::settings::read_settings;
 use crate::table::{read_clearable, read_table};
 use crate::words::split_word;
-use nd_node::Event;
+use nd_node::{Event, Request};
 use std::alloc::{AllocError, Allocator};
 
 /// The commands that act on something, each by its word: all but `at` and `stop`.
@@ -101,73 +101,73 @@ fn read_arguments<A: Allocator + Clone>(
     alloc: &A,
     command: Command,
     words: &[u8],
-) -> Result<Option<Event<A>>, AllocError>
-    ensures found { IfOk result (λ read. IfSome read (λ event. AreArguments command words.now (event_of event))) }
-    ensures only { (event : events.Event) → AreArguments command words.now event → IfOk result (λ read. option_map event_of read ≡ Some event) }
+) -> Result<Option<Request<A>>, AllocError>
+    ensures found { IfOk result (λ read. IfSome read (λ event. AreArguments command words.now (request_of event))) }
+    ensures only { (event : events.Event) → AreArguments command words.now event → IfOk result (λ read. option_map request_of read ≡ Some event) }
     ensures malformed { ((event : events.Event) → AreArguments command words.now event → ⊥) → result ≡ Ok None }
 {
     match command {
         Command::Rx => match read_bytes(alloc, words)? {
-            Some(frame) => Ok(Some(Event::Receives(frame))),
+            Some(frame) => Ok(Some(Request::Event(Event::Receives(frame)))),
             None => Ok(None),
         },
         Command::Send => match read_packet(alloc, words)? {
-            Some(packet) => Ok(Some(Event::Sends(packet))),
+            Some(packet) => Ok(Some(Request::Event(Event::Sends(packet)))),
             None => Ok(None),
         },
         Command::Confirm => match read_address(words) {
-            Some(neighbour) => Ok(Some(Event::Confirms(neighbour))),
+            Some(neighbour) => Ok(Some(Request::Event(Event::Confirms(neighbour)))),
             None => Ok(None),
         },
         Command::Forget => match read_address(words) {
-            Some(neighbour) => Ok(Some(Event::Forgets(neighbour))),
+            Some(neighbour) => Ok(Some(Request::Event(Event::Forgets(neighbour)))),
             None => Ok(None),
         },
         Command::Clear => match read_clearable(words) {
-            Some(table) => Ok(Some(Event::Clears(table))),
+            Some(table) => Ok(Some(Request::Event(Event::Clears(table)))),
             None => Ok(None),
         },
         Command::Show => match read_table(words) {
-            Some(table) => Ok(Some(Event::Shows(table))),
+            Some(table) => Ok(Some(Request::Shows(table))),
             None => Ok(None),
         },
         Command::Advertise => match read_settings(words) {
-            Some(settings) => Ok(Some(Event::Advertises(settings))),
+            Some(settings) => Ok(Some(Request::Event(Event::Advertises(settings)))),
             None => Ok(None),
         },
         Command::Prefix => match read_offer(words) {
-            Some(offer) => Ok(Some(Event::Offers(offer))),
+            Some(offer) => Ok(Some(Request::Event(Event::Offers(offer)))),
             None => Ok(None),
         },
         Command::Route => match read_route(words) {
-            Some(route) => Ok(Some(Event::PutsRoute(route))),
+            Some(route) => Ok(Some(Request::Event(Event::PutsRoute(route)))),
             None => Ok(None),
         },
         Command::Address => match read_own_address(words) {
-            Some(own) => Ok(Some(Event::Sets(own))),
+            Some(own) => Ok(Some(Request::Event(Event::Sets(own)))),
             None => Ok(None),
         },
         Command::Withdraw => match read_address(words) {
-            Some(address) => Ok(Some(Event::Withdraws(address))),
+            Some(address) => Ok(Some(Request::Event(Event::Withdraws(address)))),
             None => Ok(None),
         },
         Command::Resolve => match read_address(words) {
-            Some(destination) => Ok(Some(Event::Resolves(destination))),
+            Some(destination) => Ok(Some(Request::Event(Event::Resolves(destination)))),
             None => Ok(None),
         },
     }
 }
 
 /// Returns the event of a command without arguments, by its word.
-fn read_whole_command<A: Allocator>(word: &[u8]) -> Option<Event<A>>
-    ensures found { IfSome result (λ event. IsWholeCommand word.now (event_of event)) }
-    ensures only { (event : events.Event) → IsWholeCommand word.now event → option_map event_of result ≡ Some event }
+fn read_whole_command<A: Allocator>(word: &[u8]) -> Option<Request<A>>
+    ensures found { IfSome result (λ event. IsWholeCommand word.now (request_of event)) }
+    ensures only { (event : events.Event) → IsWholeCommand word.now event → option_map request_of result ≡ Some event }
 {
     if word == b"at".as_slice() {
-        return Some(Event::Passes);
+        return Some(Request::Event(Event::Passes));
     }
     if word == b"stop".as_slice() {
-        return Some(Event::Stops);
+        return Some(Request::Event(Event::Stops));
     }
     None
 }
@@ -176,9 +176,9 @@ fn read_whole_command<A: Allocator>(word: &[u8]) -> Option<Event<A>>
 pub fn read_command<A: Allocator + Clone>(
     alloc: &A,
     bytes: &[u8],
-) -> Result<Option<Event<A>>, AllocError>
-    ensures found { IfOk result (λ read. IfSome read (λ event. IsCommand bytes.now (event_of event))) }
-    ensures only { (event : events.Event) → IsCommand bytes.now event → IfOk result (λ read. option_map event_of read ≡ Some event) }
+) -> Result<Option<Request<A>>, AllocError>
+    ensures found { IfOk result (λ read. IfSome read (λ event. IsCommand bytes.now (request_of event))) }
+    ensures only { (event : events.Event) → IsCommand bytes.now event → IfOk result (λ read. option_map request_of read ≡ Some event) }
     ensures malformed { ((event : events.Event) → IsCommand bytes.now event → ⊥) → result ≡ Ok None }
 {
     let Some((word, rest)) = split_word(bytes) else {

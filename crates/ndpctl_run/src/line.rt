@@ -3,14 +3,14 @@
 ghost use Rattle.std.specs.Prelude.{◌≡◌, ◌^◌, ℕ, List, None, Ok, IfSome, IfOk};
 ghost use Rattle.std.specs.Option.{IsSomeAnd};
 ghost use Rattle.nd_chronicle.specs.Event as events;
-ghost use Rattle.nd_node.specs.Event.{event_of};
+ghost use Rattle.nd_node.specs.Event.{request_of};
 ghost use Rattle.ndpctl_run.specs.Line.{IsLine};
 ghost use Rattle.ndpctl_run.specs.Number.{IsNumberWord};
 ghost use Rattle.ndpctl_run.specs.Words.{Parts};
 
 use crate::command::read_command;
 use crate::number::split_number;
-use nd_node::Event;
+use nd_node::Request;
 use std::alloc::{AllocError, Allocator};
 
 /// A line of a script.
@@ -18,8 +18,8 @@ use std::alloc::{AllocError, Allocator};
 pub struct Line<A: Allocator> {
     /// The moment, in milliseconds; `read_line` gives one below 2^62.
     pub at: u64,
-    /// The event of that moment.
-    pub event: Event<A>,
+    /// The event of that moment, or the table that is shown then.
+    pub event: Request<A>,
 }
 
 /// The moments of a script are below this (our choice).
@@ -45,9 +45,9 @@ pub fn read_line<A: Allocator + Clone>(
     alloc: &A,
     line: &[u8],
 ) -> Result<Option<Line<A>>, AllocError>
-    ensures found { IfOk result (λ spelled. IfSome spelled (λ read. IsLine line.now read.at (event_of read.event))) }
+    ensures found { IfOk result (λ spelled. IfSome spelled (λ read. IsLine line.now read.at (request_of read.event))) }
     ensures only { (at : ℕ) (event : events.Event) → IsLine line.now at event
-        → IfOk result (λ spelled. IsSomeAnd spelled (λ read. (read.at ≡ at) × (event_of read.event ≡ event))) }
+        → IfOk result (λ spelled. IsSomeAnd spelled (λ read. (read.at ≡ at) × (request_of read.event ≡ event))) }
     ensures malformed { ((at : ℕ) (event : events.Event) → IsLine line.now at event → ⊥) → result ≡ Ok None }
 {
     let Some((at, rest)) = split_moment(line) else {

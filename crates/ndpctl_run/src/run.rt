@@ -72,7 +72,7 @@ fn start<R: Rng + Drop, A: Allocator + Copy>(
         options.limits,
         options.generator,
     ) {
-        Ok(node) => Ok(Script::new(alloc, node.with_policies(options.policies))),
+        Ok(node) => Script::new(alloc, node.with_policies(options.policies)),
         Err(_) => Err(AllocError),
     }
 }

@@ -2,7 +2,7 @@
 
 ghost use Rattle.std.specs.Prelude.{◌≡◌, None, Ok, OnOk, IfOk, IfSome, IfNone, ◌<◌, ◌≤◌, ◌^◌, ℕ, string_bytes, ⊤};
 ghost use Rattle.nd_table.specs.Moment.{IsMoment};
-ghost use Rattle.nd_node.specs.Event.{event_of};
+ghost use Rattle.nd_node.specs.Event.{request_of};
 ghost use Rattle.nd_node.specs.NodeKept.{next_of, turns_left};
 ghost use Rattle.nd_chronicle.specs.Event as events;
 ghost use Rattle.ndpctl_run.specs.Line.{IsLine};
@@ -13,8 +13,8 @@ ghost use Rattle.ndpctl_run.specs.Said.{SaysNothing};
 
 use crate::line::{Line, read_line};
 use nd_lines::answering::{Answering, Extent, Unanswered};
-use nd_node::{Event, Node};
-use nd_out::{Out, write_outs};
+use nd_node::{Node, Request};
+use nd_out::{Reports, write_outs};
 use rand_core::Rng;
 use std::alloc::{AllocError, Allocator};
 
@@ -26,23 +26,23 @@ const MUCH_TIME: u64 = 3_600_000;
 #[derive(Drop)]
 pub(crate) struct Script<R, A: Allocator> {
     node: Node<R, A>,
-    outs: Vec<(u64, Out<A>), A>,
+    outs: Reports<A>,
 }
 
 impl<R: Rng + Drop, A: Allocator + Clone> Script<R, A> {
-    /// Returns a node that has reported nothing yet.
-    pub(crate) fn new(alloc: A, node: Node<R, A>) -> Self
-        ensures { result.node ≡ node }
+    /// Returns a node that has reported nothing yet. Returns an error if out of memory.
+    pub(crate) fn new(alloc: A, node: Node<R, A>) -> Result<Self, AllocError>
+        ensures { IfOk result (λ script. script.node ≡ node) }
     {
-        Script {
+        Ok(Script {
             node,
-            outs: Vec::new(alloc),
-        }
+            outs: Reports::new(alloc)?,
+        })
     }
 
     /// Returns the line that some bytes spell, with its frame in the node's memory. A malformed one takes none. Returns an error if out of memory.
     fn read(&self, line: &[u8]) -> Result<Option<Line<A>>, AllocError>
-        ensures found { IfOk result (λ spelled. IfSome spelled (λ read. IsLine line.now read.at (event_of read.event))) }
+        ensures found { IfOk result (λ spelled. IfSome spelled (λ read. IsLine line.now read.at (request_of read.event))) }
         ensures malformed { IfOk result (λ spelled. IfNone spelled ((at : ℕ) (event : events.Event) → IsLine line.now at event → ⊥)) }
         ensures quiet { ((at : ℕ) (event : events.Event) → IsLine line.now at event → ⊥) → result ≡ Ok None }
     {
@@ -53,15 +53,15 @@ impl<R: Rng + Drop, A: Allocator + Clone> Script<R, A> {
     fn event<B: Allocator>(
         &mut self,
         at: u64,
-        event: Event<A>,
+        event: Request<A>,
         text: &mut String<B>,
     ) -> Result<(), AllocError>
         requires { IsMoment at }
-        ensures { OnOk result (AnswersEvent R.stream self.old.node self.new.node at (event_of event) (string_bytes text.old) (string_bytes text.new)) }
+        ensures { OnOk result (AnswersEvent R.stream self.old.node self.new.node at (request_of event) (string_bytes text.old) (string_bytes text.new)) }
     {
         self.outs.clear();
-        self.node.event(at, &event, &mut self.outs)?;
-        write_outs(text, &self.outs)
+        self.node.request(at, &event, &mut self.outs)?;
+        write_outs(text, &mut self.outs)
     }
 
     /// Does the first thing that is due, at `next`, which is not after `end`, both in milliseconds, and appends the text of what the node reports of
@@ -81,7 +81,7 @@ impl<R: Rng + Drop, A: Allocator + Clone> Script<R, A> {
         let _next = self.node.next_due();
         self.outs.clear();
         self.node.turn(next, &mut self.outs)?;
-        write_outs(text, &self.outs)
+        write_outs(text, &mut self.outs)
     }
 
     /// Appends the answer to an event. If more than an hour of what is due is left to be done before it, only the first thing that is due is done,
@@ -89,11 +89,11 @@ impl<R: Rng + Drop, A: Allocator + Clone> Script<R, A> {
     fn answer_event<B: Allocator>(
         &mut self,
         at: u64,
-        event: Event<A>,
+        event: Request<A>,
         text: &mut String<B>,
     ) -> Result<Extent, AllocError>
         requires { IsMoment at }
-        ensures whole { result ≡ Ok Extent.Whole → AnswersEvent R.stream self.old.node self.new.node at (event_of event) (string_bytes text.old) (string_bytes text.new) }
+        ensures whole { result ≡ Ok Extent.Whole → AnswersEvent R.stream self.old.node self.new.node at (request_of event) (string_bytes text.old) (string_bytes text.new) }
         ensures in_part { result ≡ Ok Extent.InPart → AnswersInPart R.stream self.old.node self.new.node at (string_bytes text.old) (string_bytes text.new) }
         ensures fewer { result ≡ Ok Extent.InPart → turns_left (2 ^ 62) self.new.node < turns_left (2 ^ 62) self.old.node }
     {

@@ -5,7 +5,7 @@ use nd_addr::{Addr, Mac, Role};
 use nd_neighbour::Reachability;
 use nd_nexthop::Hop;
 use nd_node::*;
-use nd_out::write_outs;
+use nd_out::{Reports, write_outs};
 use nd_slaac::Transmits;
 use rand_core::SeedableRng;
 use rand_pcg::Pcg32;
@@ -42,25 +42,21 @@ fn tells(rt: &(impl Abort + AllocGlobal), events: &[(u64, Event<Global>)], wante
     requires { AreEarly events.now }
 {
     let mut node = host(rt);
-    let mut outs = Vec::new(rt.alloc());
+    let mut outs = Reports::new(rt.alloc()).expect(rt, "memory");
     node.run(events, &mut outs).expect(rt, "memory");
     let mut text = String::new(rt.alloc());
-    write_outs(&mut text, &outs).expect(rt, "memory");
+    write_outs(&mut text, &mut outs).expect(rt, "memory");
     assert!(rt; text.as_str().strip_prefix(STARTED) == Some(wanted));
 }
 
 /// Passes events one after the other; all that is due up to each is done first.
 #[test]
 fn events_run_in_their_order(rt: HostRuntime) {
-    let events = [
-        (3000, received(&rt, &EMPTY)),
-        (2999, Event::Passes),
-        (3000, Event::Shows(Table::Routers)),
-    ];
+    let events = [(3000, received(&rt, &EMPTY)), (2999, Event::Passes)];
     tells(
         &rt,
         &events,
-        "3000 drop 3 HeaderShort\n2999 refused past 3000\n3000 end 0\n",
+        "3000 drop 3 HeaderShort\n2999 refused past 3000\n",
     );
 }
 
@@ -114,7 +110,7 @@ fn path(rt: &impl Abort, node: &Node<Pcg32, Global>, now: u64, destination: Addr
 #[test]
 fn a_lease_ends_with_the_first_of_its_ends(rt: HostRuntime) {
     let mut node = host(&rt);
-    let mut outs = Vec::new(rt.alloc());
+    let mut outs = Reports::new(rt.alloc()).expect(&rt, "memory");
     let heard = node
         .event(2000, &received(&rt, &ADVERTISEMENT), &mut outs)
         .expect(&rt, "memory");
@@ -171,7 +167,7 @@ fn takes(
 )
     requires { now < 2 ^ 62 }
 {
-    let mut outs = Vec::new(rt.alloc());
+    let mut outs = Reports::new(rt.alloc()).expect(rt, "memory");
     let answer = node.event(now, event, &mut outs).expect(rt, "memory");
     assert!(rt; answer == Answer::Done);
 }

@@ -6,7 +6,7 @@ use crate::node::{MAC, OWN};
 use crate::requests::{FRAME, Heap, TIMES};
 use nd_addr::{Addr, Mac, Role};
 use nd_link::{Link, LinkEvent, MemoryWire, Told};
-use nd_node::{Event, OutgoingPacket};
+use nd_node::{Event, OutgoingPacket, Request};
 use nd_refusing::Refusing;
 use nd_slaac::Transmits;
 use rand_core::SeedableRng;
@@ -23,11 +23,8 @@ const OTHER: Addr = Addr([0xfe, 0x80, 0, 0, 0, 0, 0, 0, 0, 0, 0, 0xff, 0xfe, 0, 
 /// most two words that say what it is.
 const ENTRY: u64 = 8 + 4 * 16 + 2 * 8;
 
-/// The number of bytes that the list of a frame that is dropped asks for: it has room for four entries.
-const TOLD: u64 = 4 * ENTRY;
-
-/// The number of bytes that the list of a message asks for: it has room for the 8 packets that may wait for a neighbour, and for 3 rows more.
-const HEARD: u64 = 11 * ENTRY;
+/// The number of bytes that the list of what an event reports asks for: it has room for the 8 packets that may wait for a neighbour, and for 4 rows more.
+const TOLD: u64 = 12 * ENTRY;
 
 /// The number of bytes that a sent frame has in the list of these: a number and a list, five words in all. The list doubles as it grows, so it
 /// has less than twice the room that it needs, and asked for less than twice that.
@@ -76,7 +73,7 @@ fn begin<'h>(
     };
     comes(rt, link, 0, starts(MAC), told);
     comes(rt, link, 0, starts(OTHER_MAC), told);
-    let sends = LinkEvent::Comes(0, Event::Sends(packet));
+    let sends = LinkEvent::Comes(0, Request::Event(Event::Sends(packet)));
     comes(rt, link, 20_000, sends, told);
 }
 
@@ -136,7 +133,7 @@ fn how_much_a_link_asks_for(rt: HostRuntime) {
     // The one for the other's address: it is carried, and answered as by a host alone, and the answer is kept.
     let answered = Delivered {
         requests: 5,
-        bytes: FRAME + HEARD + 2 * FRAME + FRAME + 4 * LISTED,
+        bytes: FRAME + TOLD + 2 * FRAME + FRAME + 4 * LISTED,
         least_kept: FRAME,
         most_kept: FRAME + 2 * LISTED,
     };

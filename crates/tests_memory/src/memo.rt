@@ -3,7 +3,7 @@
 use crate::node::{ADVERTISEMENT, MAC, OWN};
 use nd_addr::{Addr, Role};
 use nd_node::{Event, Limits, Node, OutgoingPacket};
-use nd_out::{Out, write_outs};
+use nd_out::{Reports, write_outs};
 use nd_refusing::Refusing;
 use nd_slaac::Transmits;
 use rand_core::SeedableRng;
@@ -27,7 +27,7 @@ fn come<'h>(
     rt: &impl Abort,
     node: &mut Node<Pcg32, &'h Heap>,
     event: &Event<&'h Heap>,
-    outs: &mut Vec<(u64, Out<&'h Heap>), &'h Heap>,
+    outs: &mut Reports<&'h Heap>,
 ) {
     node.event(3000, event, outs).expect(rt, "memory");
 }
@@ -37,7 +37,7 @@ fn hear<'h>(
     rt: &impl Abort,
     heap: &'h Heap,
     node: &mut Node<Pcg32, &'h Heap>,
-    outs: &mut Vec<(u64, Out<&'h Heap>), &'h Heap>,
+    outs: &mut Reports<&'h Heap>,
 ) {
     let mut frame = Vec::new(heap);
     frame.extend_from_slice(&ADVERTISEMENT).expect(rt, "memory");
@@ -51,7 +51,7 @@ fn send_to_each<'h>(
     heap: &'h Heap,
     node: &mut Node<Pcg32, &'h Heap>,
     refused: u64,
-    outs: &mut Vec<(u64, Out<&'h Heap>), &'h Heap>,
+    outs: &mut Reports<&'h Heap>,
 ) {
     for number in 0..DESTINATIONS {
         let destination = Addr::from_bits(
@@ -83,14 +83,14 @@ fn sent<'h>(rt: &impl Abort, heap: &'h Heap, refused: u64) -> String<&'h Heap> {
         generator,
     )
     .expect(rt, "memory");
-    let mut outs = Vec::new(heap);
+    let mut outs = Reports::new(heap).expect(rt, "memory");
     hear(rt, heap, &mut node, &mut outs);
     outs.clear();
     for _ in 0..2 {
         send_to_each(rt, heap, &mut node, refused, &mut outs);
     }
     let mut text = String::new(heap);
-    write_outs(&mut text, &outs).expect(rt, "memory");
+    write_outs(&mut text, &mut outs).expect(rt, "memory");
     text
 }
 

@@ -4,7 +4,7 @@ use linked_list_allocator::LocalHeap;
 use nd_addr::{Addr, Mac, Prefix, Role};
 use nd_forwarding::{KeptRoute, Route};
 use nd_node::{Answer, Event, Limits, Node};
-use nd_out::{Out, Refusal};
+use nd_out::{Out, Refusal, Reports};
 use nd_slaac::Transmits;
 use rand_core::SeedableRng;
 use rand_pcg::Pcg32;
@@ -71,7 +71,7 @@ pub(crate) fn come<'h>(
     node: &mut Node<Pcg32, &'h LocalHeap>,
     now: u64,
     event: &Event<&'h LocalHeap>,
-    outs: &mut Vec<(u64, Out<&'h LocalHeap>), &'h LocalHeap>,
+    outs: &mut Reports<&'h LocalHeap>,
 ) -> Result<Answer, AllocError>
     requires { now < 2 ^ 62 }
 {
@@ -91,7 +91,7 @@ pub(crate) fn host<'h>(rt: &impl Abort, heap: &'h LocalHeap) -> Node<Pcg32, &'h 
         generator,
     )
     .expect(rt, "memory");
-    let mut outs = Vec::new(heap);
+    let mut outs = Reports::new(heap).expect(rt, "memory");
     come(&mut node, 3000, &Event::Passes, &mut outs).expect(rt, "memory");
     node
 }
@@ -144,13 +144,14 @@ const TOO_LONG: [u8; 2000] = [0; 2000];
 fn a_packet_that_is_too_long_is_not_copied(rt: HostRuntime) {
     let heap = LocalHeap::new(rt.alloc(), AMPLE).expect(&rt, "memory");
     let mut node = host(&rt, &heap);
-    let mut outs = Vec::with_capacity(&heap, 1).expect(&rt, "memory");
+    let mut outs = Reports::new(&heap).expect(&rt, "memory");
     let blocks = exhaust(&rt, &heap);
     let answer = node
         .send(3000, OWN, STRANGER, 59, &TOO_LONG, &mut outs)
         .expect(&rt, "memory");
     assert!(rt; answer == Answer::Refused(Refusal::TooLong));
-    assert!(rt; outs.len() == 1);
+    let told = outs.into_list().expect(&rt, "no memory asked for");
+    assert!(rt; matches!(told.as_slice(), [(3000, Out::Refused(Refusal::TooLong))]));
     assert!(rt; !blocks.is_empty());
 }
 

@@ -2,15 +2,12 @@ use crate::node::{ADVERTISEMENT, AMPLE, MAC, come, exhaust, receives};
 use linked_list_allocator::LocalHeap;
 use nd_addr::Role;
 use nd_node::{Answer, Event, Limits, Node, Policies};
-use nd_out::{Limit, Out};
+use nd_out::{Limit, Out, Reports};
 use nd_slaac::Transmits;
 use rand_core::SeedableRng;
 use rand_pcg::Pcg32;
 use std::process::Abort;
 use std::test::*;
-
-/// More than one of these messages reports.
-const REPORTS: usize = 16;
 
 /// The same advertisement with the search name example.net in the place of example.com.
 const OTHER_NAME: [u8; 158] = [
@@ -30,7 +27,7 @@ fn host<'h>(rt: &impl Abort, heap: &'h LocalHeap) -> Node<Pcg32, &'h LocalHeap> 
     let mut node = Node::new(heap, Role::Host, MAC, 0, Transmits::ONE, limits, generator)
         .expect(rt, "memory")
         .with_policies(Policies::none().with_parts());
-    let mut outs = Vec::new(heap);
+    let mut outs = Reports::new(heap).expect(rt, "memory");
     come(&mut node, 3000, &Event::Passes, &mut outs).expect(rt, "memory");
     node
 }
@@ -42,12 +39,13 @@ fn a_part_is_passed_over_without_memory(rt: HostRuntime) {
     let mut node = host(&rt, &heap);
     let first = receives(&heap, &ADVERTISEMENT).expect(&rt, "memory");
     let other = receives(&heap, &OTHER_NAME).expect(&rt, "memory");
-    let mut outs = Vec::with_capacity(&heap, REPORTS).expect(&rt, "memory");
+    let mut outs = Reports::new(&heap).expect(&rt, "memory");
     come(&mut node, 3000, &first, &mut outs).expect(&rt, "memory");
-    let mut told = Vec::with_capacity(&heap, REPORTS).expect(&rt, "memory");
+    let mut told = Reports::new(&heap).expect(&rt, "memory");
     let blocks = exhaust(&rt, &heap);
     let answer = come(&mut node, 3000, &other, &mut told).expect(&rt, "no memory asked for");
     assert!(rt; answer == Answer::Done);
+    let told = told.into_list().expect(&rt, "no memory asked for");
     assert!(rt; told.len() == 2);
     assert!(rt; matches!(told.last(), Some((3000, Out::Ignored(Limit::Names)))));
     assert!(rt; !blocks.is_empty());

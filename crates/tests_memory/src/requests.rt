@@ -6,7 +6,8 @@ ghost use Rattle.std.specs.Prelude.{◌<◌, ◌^◌};
 use crate::node::{ADVERTISEMENT, EMPTY, MAC, OWN, REDIRECT, TRANSIT, routes};
 use nd_addr::{Addr, Preference, Role};
 use nd_advertiser::{Config, ConfigFlags};
-use nd_node::{Event, Limits, Node, OutgoingPacket, Table};
+use nd_node::{Event, Limits, Node, OutgoingPacket, Request, Table};
+use nd_out::Reports;
 use nd_refusing::Refusing;
 use nd_slaac::Transmits;
 use rand_core::SeedableRng;
@@ -90,18 +91,22 @@ fn ask<'h>(
     heap: &'h Heap,
     node: &mut Node<Pcg32, &'h Heap>,
     now: u64,
-    event: &Event<&'h Heap>,
+    request: &Request<&'h Heap>,
 ) -> Asked
     requires { now < 2 ^ 62 }
 {
-    let mut outs = Vec::with_capacity(heap, ROOM).expect(rt, "memory");
+    let mut outs = Reports::new(heap).expect(rt, "memory");
+    outs.reserve(ROOM).expect(rt, "memory");
     let requests = heap.requests();
     let bytes = heap.bytes();
-    node.event(now, event, &mut outs).expect(rt, "memory");
+    node.request(now, request, &mut outs).expect(rt, "memory");
+    let requests = heap.requests().saturating_sub(requests);
+    let bytes = heap.bytes().saturating_sub(bytes);
+    let told = outs.into_list().expect(rt, "memory").len() as u64;
     Asked {
-        told: outs.len() as u64,
-        requests: heap.requests().saturating_sub(requests),
-        bytes: heap.bytes().saturating_sub(bytes),
+        told,
+        requests,
+        bytes,
     }
 }
 
@@ -113,18 +118,18 @@ fn asks<'h>(
     node: &mut Node<Pcg32, &'h Heap>,
     start: u64,
     step: u64,
-    event: &Event<&'h Heap>,
+    request: &Request<&'h Heap>,
     most: Asked,
 )
     requires start { start < 2 ^ 32 }
     requires step { step < 2 ^ 32 }
 {
     for _ in 0..FIRST {
-        let _asked = ask(rt, heap, node, start, event);
+        let _asked = ask(rt, heap, node, start, request);
     }
     let held = heap.held();
     for n in 0..TIMES {
-        let asked = ask(rt, heap, node, start + step * n, event);
+        let asked = ask(rt, heap, node, start + step * n, request);
         assert!(rt; asked.told == most.told);
         assert!(rt; asked.requests <= most.requests);
         assert!(rt; asked.bytes <= most.bytes);
@@ -133,10 +138,10 @@ fn asks<'h>(
 }
 
 /// Receives a frame.
-fn receives<'h>(rt: &impl Abort, heap: &'h Heap, bytes: &[u8]) -> Event<&'h Heap> {
+fn receives<'h>(rt: &impl Abort, heap: &'h Heap, bytes: &[u8]) -> Request<&'h Heap> {
     let mut frame = Vec::new(heap);
     frame.extend_from_slice(bytes).expect(rt, "memory");
-    Event::Receives(frame)
+    Request::Event(Event::Receives(frame))
 }
 
 /// A node at 3 s, up to which all that is due is done.
@@ -146,7 +151,7 @@ fn started<'h>(rt: &impl Abort, heap: &'h Heap, role: Role) -> Node<Pcg32, &'h H
     let mut node = Node::new(heap, role, MAC, 0, Transmits::ONE, limits, generator).expect(
         rt, "memory",
     );
-    let _asked = ask(rt, heap, &mut node, 3000, &Event::Passes);
+    let _asked = ask(rt, heap, &mut node, 3000, &Request::Event(Event::Passes));
     node
 }
 
@@ -167,12 +172,12 @@ fn what_is_counted(rt: HostRuntime) {
 
 /// A host's events. The neighbour is known when the packet is sent.
 fn asks_of_a_host<'h>(rt: &impl Abort, heap: &'h Heap, node: &mut Node<Pcg32, &'h Heap>) {
-    let packet = Event::Sends(OutgoingPacket {
+    let packet = Request::Event(Event::Sends(OutgoingPacket {
         source: OWN,
         destination: ASKER,
         next_header: 59,
         payload: Vec::new(heap),
-    });
+    }));
     for (event, told, requests, bytes) in [
         // A frame that is dropped.
         (receives(rt, heap, &EMPTY), 1, 0, 0),
@@ -184,7 +189,7 @@ fn asks_of_a_host<'h>(rt: &impl Abort, heap: &'h Heap, node: &mut Node<Pcg32, &'
         (packet, 1, 1, 14 + 40),
         // Two rows.
         (
-            Event::Shows(Table::Neighbours),
+            Request::Shows(Table::Neighbours),
             1,
             SHOWN_REQUESTS,
             SHOWN_BYTES,
@@ -193,7 +198,7 @@ fn asks_of_a_host<'h>(rt: &impl Abort, heap: &'h Heap, node: &mut Node<Pcg32, &'
         (receives(rt, heap, &ANSWER), 1, 0, 0),
         (receives(rt, heap, &REDIRECT), 1, 0, 0),
         // Nothing is due.
-        (Event::Passes, 0, 0, 0),
+        (Request::Event(Event::Passes), 0, 0, 0),
     ] {
         let most = Asked {
             told,
@@ -209,7 +214,15 @@ fn asks_of_a_host<'h>(rt: &impl Abort, heap: &'h Heap, node: &mut Node<Pcg32, &'
         requests: 1,
         bytes: FRAME,
     };
-    asks(rt, heap, node, 100_000_000, 7_200_000, &Event::Passes, most);
+    asks(
+        rt,
+        heap,
+        node,
+        100_000_000,
+        7_200_000,
+        &Request::Event(Event::Passes),
+        most,
+    );
 }
 
 #[test]
@@ -229,9 +242,9 @@ fn asks_of_a_router<'h>(rt: &impl Abort, heap: &'h Heap, node: &mut Node<Pcg32, 
     let config = Config::new(3, 4, 1800, 64, flags, 0, 0, 0).expect(rt, "settings");
     let [on_link, behind] = routes().expect(rt, "routes");
     let events = [
-        Event::Advertises(config),
-        Event::PutsRoute(on_link),
-        Event::PutsRoute(behind),
+        Request::Event(Event::Advertises(config)),
+        Request::Event(Event::PutsRoute(on_link)),
+        Request::Event(Event::PutsRoute(behind)),
     ];
     for event in &events {
         let _asked = ask(rt, heap, node, 3000, event);
@@ -239,7 +252,13 @@ fn asks_of_a_router<'h>(rt: &impl Abort, heap: &'h Heap, node: &mut Node<Pcg32, 
     // Advertisements are 3 to 4 s apart, so a minute has 20 at most, and the entries for all of them have room.
     let held = heap.held();
     for minute in 1..MINUTES {
-        let asked = ask(rt, heap, node, 60_000 * minute, &Event::Passes);
+        let asked = ask(
+            rt,
+            heap,
+            node,
+            60_000 * minute,
+            &Request::Event(Event::Passes),
+        );
         assert!(rt; asked.told >= 14);
         assert!(rt; asked.requests <= asked.told.saturating_mul(ADVERTISED_REQUESTS));
         assert!(rt; asked.bytes <= asked.told.saturating_mul(ADVERTISED_BYTES));

@@ -3,7 +3,7 @@ ghost use Rattle.std.specs.Prelude.{◌<◌, ◌^◌};
 use crate::link_runs::joined;
 use nd_addr::{Mac, Role};
 use nd_link::*;
-use nd_node::Event;
+use nd_node::{Event, Request};
 use nd_out::write_node_out;
 use nd_slaac::Transmits;
 use rand_core::SeedableRng;
@@ -127,7 +127,7 @@ fn a_holder_answers(rt: HostRuntime) {
         &rt,
         &mut link,
         2800,
-        LinkEvent::Comes(2, Event::Passes),
+        LinkEvent::Comes(2, Request::Event(Event::Passes)),
         &mut told,
     );
     comes(&rt, &mut link, 2799, LinkEvent::Passes, &mut told);

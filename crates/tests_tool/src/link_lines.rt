@@ -1,6 +1,6 @@
 use nd_addr::{Addr, Mac, Role};
 use nd_link::LinkEvent;
-use nd_node::{Event, Table};
+use nd_node::{Event, Request, Table};
 use nd_random::Source;
 use ndpctl_link::*;
 use rand_core::Rng;
@@ -38,16 +38,16 @@ fn event_said(event: LinkEvent<Source, Global>) -> Option<Said> {
             let mut source = source;
             Some(Said::Starts(role, mac, source.next_u32()))
         }
-        LinkEvent::Comes(node, Event::Passes) => Some(Said::Passes(node)),
-        LinkEvent::Comes(node, Event::Sends(packet)) => Some(Said::Sends(
+        LinkEvent::Comes(node, Request::Event(Event::Passes)) => Some(Said::Passes(node)),
+        LinkEvent::Comes(node, Request::Event(Event::Sends(packet))) => Some(Said::Sends(
             node,
             packet.source,
             packet.destination,
             packet.next_header,
             packet.payload.len(),
         )),
-        LinkEvent::Comes(node, Event::Shows(table)) => Some(Said::Shows(node, table)),
-        LinkEvent::Comes(node, Event::Stops) => Some(Said::Stops(node)),
+        LinkEvent::Comes(node, Request::Shows(table)) => Some(Said::Shows(node, table)),
+        LinkEvent::Comes(node, Request::Event(Event::Stops)) => Some(Said::Stops(node)),
         LinkEvent::Comes(node, _) => Some(Said::CommandsOtherwise(node)),
         LinkEvent::Delivers(node, frame) => Some(Said::Delivers(node, frame)),
     }

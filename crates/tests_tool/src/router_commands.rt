@@ -1,12 +1,12 @@
 //! A router's commands in scripts: which words are well-formed.
 
-use nd_node::Event;
+use nd_node::Request;
 use ndpctl_run::read_line;
 use std::alloc::{AllocError, Global};
 use std::test::*;
 
 /// The event of a line that isn't malformed.
-fn said(alloc: Global, line: &str) -> Result<Option<Event<Global>>, AllocError> {
+fn said(alloc: Global, line: &str) -> Result<Option<Request<Global>>, AllocError> {
     match read_line(&alloc, line.as_bytes())? {
         Some(read) => Ok(Some(read.event)),
         None => Ok(None),

@@ -1,5 +1,5 @@
 use nd_addr::Addr;
-use nd_node::{Clearable, Event, Table};
+use nd_node::{Clearable, Event, Request, Table};
 use nd_random::Source;
 use nd_slaac::OwnAddress;
 use nd_text::write_hex;
@@ -34,7 +34,11 @@ fn reading(alloc: Global, line: &[u8]) -> Result<Option<(u64, Said)>, AllocError
     Ok(Some((read.at, event_said(alloc, read.event)?)))
 }
 
-fn event_said(alloc: Global, event: Event<Global>) -> Result<Said, AllocError> {
+fn event_said(alloc: Global, request: Request<Global>) -> Result<Said, AllocError> {
+    let event = match request {
+        Request::Shows(table) => return Ok(Said::Shows(table)),
+        Request::Event(event) => event,
+    };
     match event {
         Event::Passes => Ok(Said::Settles),
         Event::Receives(frame) => {
@@ -55,7 +59,6 @@ fn event_said(alloc: Global, event: Event<Global>) -> Result<Said, AllocError> {
         Event::Confirms(neighbour) => Ok(Said::Confirms(neighbour)),
         Event::Forgets(neighbour) => Ok(Said::Forgets(neighbour)),
         Event::Clears(table) => Ok(Said::Clears(table)),
-        Event::Shows(table) => Ok(Said::Shows(table)),
         Event::Advertises(_) | Event::Offers(_) | Event::PutsRoute(_) => Ok(Said::CommandsRouter),
         Event::Stops => Ok(Said::Stops),
         Event::Sets(own) => Ok(Said::Sets(own)),

@@ -17,6 +17,7 @@ returns c =
     let begins = subst (λ (source : Source). Stands stream_of_source (first source) c.in_ok-session.session.node (beginning (first source))) c.source_of.ensures c.in_ok-session.ensures.stands in
     record {
       stands = subst (λ (n : Node Source Global). Stands stream_of_source (first (source_of o.draws)) n (beginning (first (source_of o.draws)))) (sym c.with_lease_version.ensures.node) begins;
-      empty = c.with_lease_version.ensures.queue ∙ c.in_ok-session.ensures.empty;
+      empty = c.with_lease_version.ensures.reports ∙ c.in_ok-session.ensures.empty;
       version = c.with_lease_version.ensures.version;
+      ready = c.with_lease_version.ensures.ready c.in_ok-session.ensures.ready;
     }

@@ -1,4 +1,4 @@
-use Rattle.std.proofs.Common.{◌≡◌, ◌+◌, ◌++◌, ◌≤◌, vec_len, vec_capacity, length}
+use Rattle.std.proofs.Common.{◌≡◌, ◌+◌, ◌++◌, ◌≤◌, length}
 use Rattle.nd_out.specs.Out.{loss_of}
 use Rattle.nd_steps.specs.Outputs.{happenings}
 use Rattle.nd_steps.proofs.Telling.{lost_at}
@@ -7,9 +7,8 @@ use Rattle.nd_steps.proofs.due_rows.tell_lost.Given as goal
 -- what was reported and what is left is all that is to be reported
 abbrev pub invariant-loop-packet : goal.invariant-loop-packet
 invariant-loop-packet g l = record {
-  room : vec_len l.outs + length l.rest ≤ vec_capacity l.outs;
-  len : vec_len l.outs + length l.rest ≤ vec_len l.fn.outs + length l.fn.packets;
-  capacity : vec_capacity l.outs ≡ vec_capacity l.fn.outs;
+  room : length l.rest ≤ l.outs.free;
+  len : l.fn.outs.free + length l.rest ≤ l.outs.free + length l.fn.packets;
   told : happenings l.outs.items ++ lost_at l.at (loss_of l.why) l.rest ≡ happenings l.fn.outs.items ++ lost_at l.fn.at (loss_of l.fn.why) l.fn.packets;
 }
 

@@ -1,4 +1,4 @@
-use Rattle.std.proofs.Common.{◌≡◌, ◌+◌, ◌++◌, ◌≤◌, vec_len, vec_capacity, length}
+use Rattle.std.proofs.Common.{◌≡◌, ◌+◌, ◌++◌, ◌≤◌, length}
 use Rattle.std.specs.Vec.Iter.{into_iter_items}
 use Rattle.nd_chronicle.specs.Happening.{Forgotten}
 use Rattle.nd_steps.specs.Outputs.{happenings}
@@ -8,6 +8,6 @@ use Rattle.nd_steps.proofs.neighbour_cache.tell_packets.Given as goal
 -- what was reported and what is left is all that is to be reported
 abbrev pub invariant-loop-packet : goal.invariant-loop-packet
 invariant-loop-packet g l = record {
-  room : vec_len l.outs + length (into_iter_items l.packet-iterator) ≤ vec_capacity l.outs;
+  room : length (into_iter_items l.packet-iterator) ≤ l.outs.free;
   told : happenings l.outs.items ++ lost_at l.at Forgotten (into_iter_items l.packet-iterator) ≡ happenings l.fn.outs.items ++ lost_at l.fn.at Forgotten l.fn.packets.items;
 }

@@ -1,5 +1,5 @@
 use Rattle.std.proofs.Common.{◌≡◌, ◌≤◌, ◌<◌, ◌+◌, ◌++◌, ◌∙◌, ℕ, Bool, true, false, cond, sym, ap, subst, arith}
-use Rattle.std.specs.Prelude.{is_some, vec_capacity, vec_len}
+use Rattle.std.specs.Prelude.{is_some}
 use Rattle.nd_addr.specs.declared.addr.Addr.{Addr}
 use Rattle.nd_addr.specs.Number.{number_of}
 use Rattle.nd_compose.specs.Frames.{resolution_frame}
@@ -11,9 +11,9 @@ use Rattle.nd_steps.proofs.Telling.{one_told}
 use Rattle.nd_steps.proofs.neighbour_cache.tell_wish.Goals as goal
 
 -- where there is room for one row or for two, there is room for one
-one_fits : (both : Bool) (n m : ℕ) → n + cond both 2 1 ≤ m → n < m
-one_fits true n m h = omega (arith, h)
-one_fits false n m h = omega (arith, h)
+one_fits : (both : Bool) (room : ℕ) → cond both 2 1 ≤ room → 0 < room
+one_fits true room h = omega (arith, h)
+one_fits false room h = omega (arith, h)
 
 pub returns-in-Some-clause-told : goal.returns-in-Some-clause-told
 returns-in-Some-clause-told g c =
@@ -26,7 +26,7 @@ returns-in-Some-clause-told g c =
     (ap Sent (c.resolution.ensures ∙ sym (ap (λ (a : Addr). resolution_frame c.args.mac c.args.own a) (c.addresses_are_told_by_numbers.ensures.addr c.args.to c.as_bytes-bytes.ensures.bytes))))))
 
 pub returns-in-Waits-false-clause-left : goal.returns-in-Waits-false-clause-left
-returns-in-Waits-false-clause-left g c = one_fits (is_some c.args.room) (vec_len c.args.outs.now) (vec_capacity c.args.outs.now) c.requires.room
+returns-in-Waits-false-clause-left g c = one_fits (is_some c.args.room) c.args.outs.now.free c.requires.room
 
 pub returns-in-Known-clause-left : goal.returns-in-Known-clause-left
-returns-in-Known-clause-left g c = one_fits (is_some c.args.room) (vec_len c.args.outs.now) (vec_capacity c.args.outs.now) c.requires.room
+returns-in-Known-clause-left g c = one_fits (is_some c.args.room) c.args.outs.now.free c.requires.room

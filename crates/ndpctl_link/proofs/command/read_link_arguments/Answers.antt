@@ -1,5 +1,5 @@
 use Rattle.std.proofs.Common.{Some, ap, refl, sym}
-use Rattle.nd_node.specs.Event.{event_of}
+use Rattle.nd_node.specs.Event.{request_of}
 use Rattle.nd_random.specs.Source.{stream_of_source}
 use Rattle.ndpctl_run.proofs.Readings.{some_is, some_and, none_and}
 use Rattle.nd_link_log.specs.Event.{Event, Starts, Comes, Delivers}
@@ -39,9 +39,9 @@ returns-in-Some-2-clause-only g c = λ event are.
 
 pub returns-in-Some-2-clause-malformed : goal.returns-in-Some-2-clause-malformed
 returns-in-Some-2-clause-malformed g c = λ none.
-    let event = Comes c.in-Some-2.node (event_of c.in-Some-2.event) in
-    let comes = some_is c.in_ok-node-in-On.field-0 _ (λ comes. IsNodeCommand c.args.words.now comes.0 (event_of comes.1)) c.in-Some-2.is c.in_ok-node-in-On.ensures.found in
-    absurd (none event (of_link_command On c.args.command c.args.words.now event (sym c.in-On.is) (c.in-Some-2.node, event_of c.in-Some-2.event, refl, comes)))
+    let event = Comes c.in-Some-2.node (request_of c.in-Some-2.event) in
+    let comes = some_is c.in_ok-node-in-On.field-0 _ (λ comes. IsNodeCommand c.args.words.now comes.0 (request_of comes.1)) c.in-Some-2.is c.in_ok-node-in-On.ensures.found in
+    absurd (none event (of_link_command On c.args.command c.args.words.now event (sym c.in-On.is) (c.in-Some-2.node, request_of c.in-Some-2.event, refl, comes)))
 
 pub returns-in-None-2-clause-only : goal.returns-in-None-2-clause-only
 returns-in-None-2-clause-only g c = λ event are.

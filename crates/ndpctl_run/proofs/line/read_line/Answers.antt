@@ -1,5 +1,5 @@
 use Rattle.std.proofs.Common.{subst, sym}
-use Rattle.nd_node.specs.Event.{event_of}
+use Rattle.nd_node.specs.Event.{request_of}
 use Rattle.ndpctl_run.specs.Command.{IsCommand}
 use Rattle.ndpctl_run.proofs.Lines.{is_line, moment_in}
 use Rattle.ndpctl_run.proofs.Readings.{mapped, not_mapped, some_is}
@@ -15,21 +15,21 @@ returns-in_err-event-clause-malformed g c = λ none.
 
 pub returns-in-Some-2-clause-found : goal.returns-in-Some-2-clause-found
 returns-in-Some-2-clause-found g c =
-    is_line c.args.line.now c.in-Some.rest.now c.in-Some.at _ c.in-Some.ensures.found (some_is c.in_ok-event.field-0 c.in-Some-2.event (λ event. IsCommand c.in-Some.rest.now (event_of event)) c.in-Some-2.is c.in_ok-event.ensures.found)
+    is_line c.args.line.now c.in-Some.rest.now c.in-Some.at _ c.in-Some.ensures.found (some_is c.in_ok-event.field-0 c.in-Some-2.event (λ event. IsCommand c.in-Some.rest.now (request_of event)) c.in-Some-2.is c.in_ok-event.ensures.found)
 
 pub returns-in-Some-2-clause-only : goal.returns-in-Some-2-clause-only
 returns-in-Some-2-clause-only g c = λ at event l.
     let same = c.in-Some.ensures.only at l.words (moment_in _ at event l) in
     let spelled = subst (λ words. IsCommand words event) (sym same.1) l.spelled in
-    (same.0, mapped event_of _ c.in-Some-2.event event c.in-Some-2.is (c.in_ok-event.ensures.only event spelled))
+    (same.0, mapped request_of _ c.in-Some-2.event event c.in-Some-2.is (c.in_ok-event.ensures.only event spelled))
 
 pub returns-in-Some-2-clause-malformed : goal.returns-in-Some-2-clause-malformed
 returns-in-Some-2-clause-malformed g c = λ none.
-    absurd (none c.in-Some.at (event_of c.in-Some-2.event)
-    (is_line c.args.line.now c.in-Some.rest.now c.in-Some.at _ c.in-Some.ensures.found (some_is c.in_ok-event.field-0 c.in-Some-2.event (λ event. IsCommand c.in-Some.rest.now (event_of event)) c.in-Some-2.is c.in_ok-event.ensures.found)))
+    absurd (none c.in-Some.at (request_of c.in-Some-2.event)
+    (is_line c.args.line.now c.in-Some.rest.now c.in-Some.at _ c.in-Some.ensures.found (some_is c.in_ok-event.field-0 c.in-Some-2.event (λ event. IsCommand c.in-Some.rest.now (request_of event)) c.in-Some-2.is c.in_ok-event.ensures.found)))
 
 pub returns-in-None-clause-only : goal.returns-in-None-clause-only
 returns-in-None-clause-only g c = λ at event l.
     let same = c.in-Some.ensures.only at l.words (moment_in _ at event l) in
     let spelled = subst (λ words. IsCommand words event) (sym same.1) l.spelled in
-    not_mapped event_of _ event c.in-None.is (c.in_ok-event.ensures.only event spelled)
+    not_mapped request_of _ event c.in-None.is (c.in_ok-event.ensures.only event spelled)

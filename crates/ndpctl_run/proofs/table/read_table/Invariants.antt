@@ -1,6 +1,6 @@
 use Rattle.std.proofs.Common.{◌≡◌, ℕ, ◌<◌, Some}
 use Rattle.std.specs.Prelude.{slice_get}
-use Rattle.nd_node.specs.declared.event.Table.{Table}
+use Rattle.nd_node.specs.declared.shown.Table.{Table}
 use Rattle.nd_node.specs.Event.{table_of}
 use Rattle.ndpctl_run.specs.Table.{table_word}
 use Rattle.ndpctl_run.proofs.table.read_table.Given as goal

@@ -1,8 +1,8 @@
-use Rattle.std.proofs.Common.{refl, map, string_bytes, ℕ, List, sym, subst}
+use Rattle.std.proofs.Common.{ℕ, List, sym, subst}
 use Rattle.std.proofs.lemmas.Result.{IfOk-weaker, on_err_weaker}
-use Rattle.nd_node.specs.Event.{event_of, table_of, clearable_of}
+use Rattle.nd_node.specs.Event.{event_of, clearable_of}
 use Rattle.nd_node.proofs.Judging.{stays_same}
-use Rattle.nd_node.proofs.Steps.{not_past, passing, showing}
+use Rattle.nd_node.proofs.Steps.{not_past, passing}
 use Rattle.nd_node.proofs.Refusals.{clears_left, forgets_left}
 use Rattle.nd_chronicle.specs.Event as events
 use Rattle.nd_chronicle.specs.Event.{EventAdds}
@@ -11,11 +11,6 @@ use Rattle.nd_node.proofs.node.Node.add.Goals as goal
 
 pub returns-in-Passes-clause-adds : goal.returns-in-Passes-clause-adds
 returns-in-Passes-clause-adds g c = rw c.in-Passes.is (passing g.R.Rng.stream c.args.self.now c.pass.new.self c.args.outs.now.items c.args.now c.requires.settled (c.pass.ensures.moves c.if-is_past.ensures))
-
-pub returns-in_ok-report-in-Shows-clause-adds : goal.returns-in_ok-report-in-Shows-clause-adds
-returns-in_ok-report-in-Shows-clause-adds g c =
-    rw c.in-Shows.is (showing g.R.Rng.stream c.args.self.now c.report.new.self c.args.outs.now.items c.report.new.outs.items c.args.now (table_of c.in-Shows.table) (map string_bytes c.in_ok-rows-in-Shows.rows.items) _ refl
-    c.in_ok-rows-in-Shows.ensures c.requires.settled c.in_ok-report-in-Shows.ensures.clock c.in_ok-report-in-Shows.ensures.items)
 
 pub returns-in-Forgets-clause-stays : goal.returns-in-Forgets-clause-stays
 returns-in-Forgets-clause-stays g c = on_err_weaker c.forget.result (stays_same g.R.Rng.stream c.args.self.now c.forget.new.self) c.forget.ensures.keeps

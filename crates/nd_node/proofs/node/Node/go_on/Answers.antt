@@ -21,10 +21,9 @@ loop-now-preserved g c = (
   room_on _ _ _ _ _ _ c.loop-now.invariant.2 c.loop-now.invariant.3 c.in_ok-turn_leaves.ensures.room c.in_ok-turn_leaves.ensures.grows,
   grows_on _ _ _ c.loop-now.invariant.3 c.in_ok-turn_leaves.ensures.grows,
   c.in_ok-turn_leaves.ensures.longest ∙ c.loop-now.invariant.4,
-  omega (arith, c.in_ok-turn_leaves.ensures.capacity, c.loop-now.invariant.5),
   λ all.
       let parts = and_parts _ _ all in
-      let before = c.loop-now.invariant.6 parts.0 in (
+      let before = c.loop-now.invariant.5 parts.0 in (
         before.0,
         leave_both c.args.self.now c.loop-now.self _ before.1 (c.in_ok-turn_leaves.ensures.leaves parts.1),
       ),

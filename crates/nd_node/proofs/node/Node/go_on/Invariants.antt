@@ -1,4 +1,4 @@
-use Rattle.std.specs.Prelude.{true, ◌≡◌, ◌<◌, ◌≤◌, ◌⊎◌, vec_capacity}
+use Rattle.std.specs.Prelude.{true, ◌≡◌, ◌<◌, ◌≤◌, ◌⊎◌}
 use Rattle.nd_steps.specs.Outputs.{Grows, SendsFrame}
 use Rattle.nd_node.specs.Time.{Leads, Onward, longest_due}
 use Rattle.nd_node.specs.NodeKept.{next_of, turns_left}
@@ -10,7 +10,7 @@ use Rattle.nd_node.proofs.node.Node.go_on.Given as goal
 abbrev pub invariant-loop-now : goal.invariant-loop-now
 invariant-loop-now g l = Leads g.R.Rng.stream l.fn.self l.self l.fn.outs.items l.outs.items (Onward l.now) × (l.now < next_of l.fn.self → (l.self ≡ l.fn.self) × (l.outs ≡ l.fn.outs) × (l.leaves ≡ l.fn.leaves))
     × ((l.room ≡ l.fn.room) ⊎ SendsFrame l.fn.outs.items l.outs.items) × Grows l.fn.outs.items l.outs.items × (longest_due l.self ≡ longest_due l.fn.self)
-    × (vec_capacity l.fn.outs ≤ vec_capacity l.outs) × (l.leaves ≡ true → (l.fn.leaves ≡ true) × LeavesPaths l.fn.self l.self)
+    × (l.leaves ≡ true → (l.fn.leaves ≡ true) × LeavesPaths l.fn.self l.self)
 
 -- each turn leaves fewer turns
 abbrev pub decreases-loop-now : goal.decreases-loop-now

@@ -65,7 +65,8 @@ returns-in_err-reserve-clause-quiet g c = λ adds.
     let options = options_read c.args.self.now c.args.heard.now.message.options in
     let waits = told_of_sender (record { retrans = 0; reachable = 0 }) (number_of c.args.heard.now.source.0) (first_slla options) c.news_of-news.result c.args.self.now.neighbours.entries (rw (c.own_mac.ensures, c.requires.body) at (c.news_of-news.ensures (record { retrans = 0; reachable = 0 }))) in
     let way = rw c.speakers-speakers.ensures at c.most_told_of_way.ensures in
-    absurd (omega (arith, adds.told, waits, way, c.told_for-told.ensures.value, c.in_err-reserve.ensures.full))
+    let refused = c.in_err-reserve.ensures.ready (omega (arith, adds.told, waits, way, c.told_for-told.ensures.value)) in
+    let no : ⊥ = cc in absurd no
 
 pub returns-in_err-names-clause-quiet : goal.returns-in_err-names-clause-quiet
 returns-in_err-names-clause-quiet g c = λ adds.

@@ -25,7 +25,8 @@ returns-in_err-reserve-clause-quiet g c = λ parts adds.
     let waits = told_of_sender (record { retrans = 0; reachable = 0 }) (number_of c.args.heard.now.source.0) (first_slla options) c.args.news c.args.self.now.neighbours.entries (c.requires.news (record { retrans = 0; reachable = 0 })) in
     let way = rw c.speakers-speakers.ensures at c.most_told_of_way.ensures in
     let told = rw parts at adds.told in
-    absurd (omega (arith, told, waits, way, c.told_for-told.ensures.value, c.in_err-reserve.ensures.full))
+    let refused = c.in_err-reserve.ensures.ready (omega (arith, told, waits, way, c.told_for-told.ensures.value)) in
+    let no : ⊥ = cc in absurd no
 
 pub take_router_advertisement-requires-clause-listed : goal.take_router_advertisement-requires-clause-listed
 take_router_advertisement-requires-clause-listed g c = ap (λ (r : Rooms). r.routers) c.rooms-rooms.ensures
@@ -38,12 +39,12 @@ take_router_advertisement-requires-clause-place g c =
 pub take_router_advertisement-requires-clause-space : goal.take_router_advertisement-requires-clause-space
 take_router_advertisement-requires-clause-space g c =
     let way = rw c.speakers-speakers.ensures at c.most_told_of_way.ensures in
-    omega (arith, way, c.news_in_place-taken.ensures.told c.args.self.now.neighbours.entries, c.told_for-told.ensures.value, c.push_heard.ensures.len, c.push_heard.ensures.capacity, c.in_ok-reserve.ensures)
+    omega (arith, way, c.news_in_place-taken.ensures.told c.args.self.now.neighbours.entries, c.told_for-told.ensures.value, c.push_heard.ensures.len, c.in_ok-reserve.ensures)
 
 pub tell_rooms-requires : goal.tell_rooms-requires
 tell_rooms-requires g c =
     let way = rw c.speakers-speakers.ensures at c.most_told_of_way.ensures in
-    omega (arith, way, c.take_router_advertisement.ensures.len, c.take_router_advertisement.ensures.capacity, c.news_in_place-taken.ensures.told c.args.self.now.neighbours.entries, c.told_for-told.ensures.value, c.push_heard.ensures.len, c.push_heard.ensures.capacity, c.in_ok-reserve.ensures)
+    omega (arith, way, c.take_router_advertisement.ensures.len, c.news_in_place-taken.ensures.told c.args.self.now.neighbours.entries, c.told_for-told.ensures.value, c.push_heard.ensures.len, c.in_ok-reserve.ensures)
 
 pub returns-clause-adds : goal.returns-clause-adds
 returns-clause-adds g c =

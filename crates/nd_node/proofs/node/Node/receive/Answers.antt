@@ -1,5 +1,4 @@
 use Rattle.std.proofs.Common.{◌-◌, subst, sym}
-use Rattle.std.specs.Prelude.{vec_len, vec_capacity}
 use Rattle.std.proofs.lemmas.Result.{IfOk-weaker}
 use Rattle.nd_chronicle.specs.Event as events
 use Rattle.nd_node.specs.Memory.{AsksForNone}
@@ -20,5 +19,5 @@ returns-clause-quiet g c = λ start c' s le lt asks.
     let now = c.args.now in
     let frame = events.Receives c.args.frame.now in
     c.judge_frame.ensures.quiet start c' (subst (λ node. Stands g.R.Rng.stream start node c') (sym idle.1) s) le
-    (subst (λ node. AsksForNone start c' node now (vec_capacity c.settle.new.outs - vec_len c.settle.new.outs) frame) (sym idle.1)
-    (subst (λ outs. AsksForNone start c' c.args.self.now now (vec_capacity outs - vec_len outs) frame) (sym idle.2) asks))
+    (subst (λ node. AsksForNone start c' node now c.settle.new.outs.free frame) (sym idle.1)
+    (subst (λ outs. AsksForNone start c' c.args.self.now now outs.free frame) (sym idle.2) asks))

@@ -1,5 +1,4 @@
 use Rattle.std.proofs.Common.{◌<◌, sym, subst}
-use Rattle.std.specs.Prelude.{vec_len, vec_capacity}
 use Rattle.std.proofs.lemmas.Result.{IfOk-weaker}
 use Rattle.nd_chronicle.specs.Event as events
 use Rattle.nd_node.specs.NodeKept.{Stands}
@@ -16,4 +15,4 @@ returns-clause-follows g c =
 pub returns-clause-refused : goal.returns-clause-refused
 returns-clause-refused g c = λ refusal start c' s le lt is place.
     let idle = c.in_ok-settle.ensures.idle lt in
-    c.send_copied.ensures.refused refusal start c' (subst (λ node. Stands g.R.Rng.stream start node c') (sym idle.1) s) is (subst (λ outs. vec_len outs < vec_capacity outs) (sym idle.2) place)
+    c.send_copied.ensures.refused refusal start c' (subst (λ node. Stands g.R.Rng.stream start node c') (sym idle.1) s) is (subst (λ outs. 0 < outs.free) (sym idle.2) place)

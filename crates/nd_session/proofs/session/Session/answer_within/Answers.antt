@@ -14,7 +14,7 @@ returns-in-Path-clause-answered c = record {
   resolution = resolutions.Path c.in-Path.way;
   is = refl;
   adds = c.in-Path.ensures.adds;
-  queue = refl;
+  reports = refl;
   lease = recalled_leased c.args.self.now.paths c.args.self.now.node c.args.now c.args.destination c.args.path c.args.self.now.remembered c.requires.recalled _ c.answer_leased.ensures.clock;
   goes = recalled_goes c.args.self.now.paths c.args.self.now.node c.args.now c.args.destination c.args.path c.args.self.now.remembered c.requires.recalled c.in-Path.way
       (let is = c.in-Path.ensures.answer in let same : ways.To c.args.path.to (Some c.args.path.mac) ≡ c.in-Path.way = cc in same) _ c.answer_leased.ensures.clock;

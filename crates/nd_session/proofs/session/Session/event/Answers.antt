@@ -1,4 +1,4 @@
-use Rattle.std.proofs.Common.{◌≤◌, ℕ, List, ◌++◌, Some, refl, sym, ap, subst, ⊎_elim}
+use Rattle.std.proofs.Common.{◌≤◌, ℕ, List, ◌++◌, Some, refl, sym, ap, subst, ⊎_elim, inr}
 use Rattle.std.specs.Global.{Global}
 use Rattle.std.specs.Prelude.{reverse}
 use Rattle.std.proofs.lemmas.Bool.{cases_lt}
@@ -14,7 +14,7 @@ use Rattle.nd_node.proofs.Steps.{follows}
 use Rattle.nd_random.specs.Source.{stream_of_source}
 use Rattle.nd_session.specs.Ready.{IsReady}
 use Rattle.nd_session.specs.declared.session.Session.{Session}
-use Rattle.nd_session.proofs.Behind.{adds_behind, event_taken, on_err}
+use Rattle.nd_session.proofs.Behind.{advanced_on_err, anyhow, event_taken}
 use Rattle.nd_session.proofs.Confirming.{ready_then}
 use Rattle.nd_session.proofs.Idling.{passing_adds, time_alone}
 use Rattle.nd_session.proofs.Keeping.{event_ready}
@@ -24,33 +24,40 @@ use Rattle.nd_session.proofs.session.Session.event.Goals as goal
 
 pub returns-clause-takes : goal.returns-clause-takes
 returns-clause-takes c =
-    let q = c.self.inside.0.1.0 in
     let event = event_of c.args.event.now in record {
       past = λ lt. absurd (let is = c.past.ensures.past lt in let none = c.in_default.is in let no : ⊥ = cc in no);
       taken = λ le.
-          event_taken stream_of_source c.args.self.now.node c.self.inside.0.0 c.add.new.self c.args.self.now.queue (reverse q.due.items ++ (reverse q.front.items ++ q.back.items))
-          (reverse q.due.items ++ (reverse q.front.items ++ c.add.new.outs.items)) c.args.now event c.add.result le
-          (subst (λ (s : Session). Leads stream_of_source c.args.self.now.node s.node c.args.self.now.queue s.queue (Onward c.args.now)) (sym c.self.view_is) c.in_ok-settle.ensures.onward)
-          (subst (λ (s : Session). Leads stream_of_source c.args.self.now.node s.node c.args.self.now.queue s.queue (Passes c.args.now)) (sym c.self.view_is) c.in_ok-settle.ensures.passes)
-          (IfOk-weaker c.add.result _ _ (λ a adds. adds_behind stream_of_source c.self.inside.0.0 c.add.new.self (reverse q.due.items) (reverse q.front.items) q.back.items c.add.new.outs.items c.args.now event (answer_of a) adds) c.add.ensures.adds)
-          c.add.ensures.stays (on_err c.add.result (ap (λ l. reverse q.due.items ++ (reverse q.front.items ++ l))) c.add.ensures.told);
+          event_taken stream_of_source c.args.self.now.node c.settle.new.self.node c.add.new.self c.args.self.now.reports.items c.settle.new.self.reports.items
+          c.add.new.outs.items c.args.now event c.add.result le
+          c.in_ok-settle.ensures.onward
+          c.in_ok-settle.ensures.passes
+          c.add.ensures.adds
+          c.add.ensures.stays c.add.ensures.told;
     }
 
 pub returns-clause-ready : goal.returns-clause-ready
 returns-clause-ready c = λ start history s ready.
-    let q = c.self.inside.0.1.0 in
     let event = event_of c.args.event.now in
     let le : last_of c.args.self.now.node ≤ c.args.now =
     ⊎_elim (λ lt. absurd (let is = c.past.ensures.past lt in let none = c.in_default.is in let no : ⊥ = cc in no)) (λ le. le) (cases_lt c.args.now (last_of c.args.self.now.node)) in
-    event_ready stream_of_source c.args.self.now.node c.self.inside.0.0 c.add.new.self c.args.self.now.queue (reverse q.due.items ++ (reverse q.front.items ++ q.back.items))
-    (reverse q.due.items ++ (reverse q.front.items ++ c.add.new.outs.items)) c.args.now event c.add.result c.self.inside.0.1.1.0 le
-    (subst (λ (s : Session). Leads stream_of_source c.args.self.now.node s.node c.args.self.now.queue s.queue (Passes c.args.now)) (sym c.self.view_is) c.in_ok-settle.ensures.passes)
-    (IfOk-weaker c.add.result _ _ (λ a adds. adds_behind stream_of_source c.self.inside.0.0 c.add.new.self (reverse q.due.items) (reverse q.front.items) q.back.items c.add.new.outs.items c.args.now event (answer_of a) adds) c.add.ensures.adds)
-    c.add.ensures.stays (on_err c.add.result (ap (λ l. reverse q.due.items ++ (reverse q.front.items ++ l))) c.add.ensures.told)
-    start history s (subst IsReady (sym c.self.view_is) (c.in_ok-settle.ensures.ready ready))
+    event_ready stream_of_source c.args.self.now.node c.settle.new.self.node c.add.new.self c.args.self.now.reports.items c.settle.new.self.reports.items
+    c.add.new.outs.items c.args.now event c.add.result c.settle.new.self.room le
+    c.in_ok-settle.ensures.passes
+    c.add.ensures.adds
+    c.add.ensures.stays c.add.ensures.told
+    start history s (c.in_ok-settle.ensures.ready ready)
 
-pub invariant_of-self-inside : goal.invariant_of-self-inside
-invariant_of-self-inside c = record { remembered = remembers_nothing c.forget.new.self c.add.new.self c.forget.ensures.forgotten }
+pub returns-clause-advances : goal.returns-clause-advances
+returns-clause-advances c =
+    advanced_on_err stream_of_source c.args.self.now.node c.settle.new.self.node c.add.new.self c.args.self.now.reports.items c.settle.new.self.reports.items c.add.new.outs.items c.args.now _ _ _ c.add.result
+    c.in_ok-settle.ensures.passes
+    c.add.ensures.stays c.add.ensures.told
+
+pub returns-in_err-settle-clause-advances : goal.returns-in_err-settle-clause-advances
+returns-in_err-settle-clause-advances c = anyhow c.from_residual.result (λ ready empty. inr (c.in_err-settle.ensures.advances ready empty))
+
+pub invariant_of-self-2 : goal.invariant_of-self-2
+invariant_of-self-2 c = record { remembered = remembers_nothing c.forget.new.self c.add.new.self c.forget.ensures.forgotten }
 
 -- ---- time passes
 
@@ -64,8 +71,8 @@ pub returns-in-Passes-clause-takes : goal.returns-in-Passes-clause-takes
 returns-in-Passes-clause-takes c = rw c.in-Passes.is (record {
   past = λ lt. absurd (let is = c.past.ensures.past lt in let none = c.in_default.is in let no : ⊥ = cc in no);
   taken = λ le.
-      follows stream_of_source c.args.self.now.node c.settle.new.self.node c.pass.new.self c.args.self.now.queue c.settle.new.self.queue c.settle.new.self.queue c.args.now events.Passes le
-      c.in_ok-settle.ensures.passes (passing_adds c.settle.new.self.node c.pass.new.self c.settle.new.self.queue c.args.now c.pass.ensures.passes);
+      follows stream_of_source c.args.self.now.node c.settle.new.self.node c.pass.new.self c.args.self.now.reports.items c.settle.new.self.reports.items c.settle.new.self.reports.items c.args.now events.Passes le
+      c.in_ok-settle.ensures.passes (passing_adds c.settle.new.self.node c.pass.new.self c.settle.new.self.reports.items c.args.now c.pass.ensures.passes);
 })
 
 pub returns-in-Passes-clause-ready : goal.returns-in-Passes-clause-ready
@@ -83,16 +90,16 @@ pub returns-in-Confirms-clause-takes : goal.returns-in-Confirms-clause-takes
 returns-in-Confirms-clause-takes c = rw c.in-Confirms.is (record {
   past = λ lt. absurd (let is = c.past.ensures.past lt in let none = c.in_default.is in let no : ⊥ = cc in no);
   taken = λ le.
-      subst (λ (q : List (ℕ × Out Global)). Leads stream_of_source c.args.self.now.node c.confirm.new.self.node c.args.self.now.queue q (FollowsBy c.args.now (events.Confirms c.in-Confirms.neighbour) answers.Done)) (sym c.confirm.ensures.queue)
-      (follows stream_of_source c.args.self.now.node c.settle.new.self.node c.confirm.new.self.node c.args.self.now.queue c.settle.new.self.queue c.settle.new.self.queue c.args.now (events.Confirms c.in-Confirms.neighbour) le
-      c.in_ok-settle.ensures.passes (c.confirm.ensures.adds c.settle.new.self.queue));
+      subst (λ (q : List (ℕ × Out Global)). Leads stream_of_source c.args.self.now.node c.confirm.new.self.node c.args.self.now.reports.items q (FollowsBy c.args.now (events.Confirms c.in-Confirms.neighbour) answers.Done)) (sym c.confirm.ensures.reports)
+      (follows stream_of_source c.args.self.now.node c.settle.new.self.node c.confirm.new.self.node c.args.self.now.reports.items c.settle.new.self.reports.items c.settle.new.self.reports.items c.args.now (events.Confirms c.in-Confirms.neighbour) le
+      c.in_ok-settle.ensures.passes (c.confirm.ensures.adds c.settle.new.self.reports.items));
 })
 
 pub returns-in-Confirms-clause-ready : goal.returns-in-Confirms-clause-ready
 returns-in-Confirms-clause-ready c = λ start history s ready.
     let le : last_of c.args.self.now.node ≤ c.args.now =
     ⊎_elim (λ lt. absurd (let is = c.past.ensures.past lt in let none = c.in_default.is in let no : ⊥ = cc in no)) (λ le. le) (cases_lt c.args.now (last_of c.args.self.now.node)) in
-    ready_then c.args.self.now c.settle.new.self c.confirm.new.self c.args.now (Some c.in-Confirms.neighbour) le c.in_ok-settle.ensures.passes (c.confirm.ensures.adds c.settle.new.self.queue) c.confirm.ensures.queue
+    ready_then c.args.self.now c.settle.new.self c.confirm.new.self c.args.now (Some c.in-Confirms.neighbour) le c.in_ok-settle.ensures.passes (c.confirm.ensures.adds c.settle.new.self.reports.items) c.confirm.ensures.reports
     c.confirm.ensures.room start history s (c.in_ok-settle.ensures.ready ready)
 
 pub returns-in-Confirms-clause-leases : goal.returns-in-Confirms-clause-leases

@@ -8,6 +8,6 @@ use Rattle.nd_session.proofs.session.Session.remove_oldest.Goals as goal
 pub returns-in-None-clause-ready : goal.returns-in-None-clause-ready
 returns-in-None-clause-ready c = λ none ready.
     ⊎_elim (λ there. inl there)
-    (λ has. inr (subst (λ (q : List (ℕ × Out Global)). HasFrame (happenings q)) (sym c.pop_first.ensures.rest)
-    (frame_left c.args.self.now.queue c.in-Some.field-0-0 c.in-Some.report (sym c.in-Some.is ∙ c.pop_first.ensures.taken) (c.block_of.ensures.other c.in-None.is) has)))
+    (λ has. inr (subst (λ (q : List (ℕ × Out Global)). HasFrame (happenings q)) (sym c.pop_oldest.ensures.rest)
+    (frame_left c.args.self.now.reports.items c.in-Some.field-0-0 c.in-Some.report (sym c.in-Some.is ∙ c.pop_oldest.ensures.taken) (c.block_of.ensures.other c.in-None.is) has)))
     ready

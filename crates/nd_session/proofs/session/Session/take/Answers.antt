@@ -9,6 +9,6 @@ use Rattle.nd_session.proofs.session.Session.take.Goals as goal
 pub returns-clause-ready : goal.returns-clause-ready
 returns-clause-ready c = λ ready.
     ⊎_elim (λ there. inl there)
-    (λ has. inr (subst (λ (q : List (ℕ × Out Global)). HasFrame (happenings q)) (sym c.pop_first-2.ensures.rest)
-    (frame_left c.args.self.now.queue c.in-Some.field-0.now.0 c.in-Some.field-0.now.1 (subst (λ r. option_copied r ≡ slice_get c.args.self.now.queue 0) c.in-Some.is c.first.ensures) (c.is_frame.ensures.other c.if-is_frame.false) has)))
+    (λ has. inr (subst (λ (q : List (ℕ × Out Global)). HasFrame (happenings q)) (sym c.pop_oldest-2.ensures.rest)
+    (frame_left c.args.self.now.reports.items c.in-Some.field-0.now.0 c.in-Some.field-0.now.1 (subst (λ r. option_copied r ≡ slice_get c.args.self.now.reports.items 0) c.in-Some.is c.oldest.ensures) (c.is_frame.ensures.other c.if-is_frame.false) has)))
     ready
