@@ -74,9 +74,9 @@
  * refusal, and ND_NO_ROOM: nd_poll has written `out` then, and a question for all rows those that
  * fit, and `count`. If several hold, the first in this order is returned: ND_INVALID, ND_CLOSED,
  * ND_PAST, ND_NO_MEMORY while what is due is done, a refusal, ND_NO_MEMORY for what the event
- * itself adds. Three requests precede a refusal: for the frame of nd_receive_message, before what
- * is due; for the copy of a payload of nd_send, before ND_REFUSAL_FULL; and for the record of the
- * refusal, if other records were not polled.
+ * itself adds. Three requests precede a refusal: for the frame of nd_receive_message; for the copy
+ * of a payload of nd_send, before ND_REFUSAL_FULL; and for the record of the refusal, if other
+ * records were not polled.
  *   That a frame was dropped is no status: nd_receive returns ND_DONE for it too, and the record
  *   ND_OUT_DROPPED says so, and why.
  *   A refusal is ND_REFUSED(refusal, limit), -16 or below: time has passed up to the event, what
@@ -84,7 +84,7 @@
  *   ND_NO_MEMORY: the event has added nothing. A part of what was due may have been done, and is
  *   reported. Poll until ND_NOTHING, and make the same call again: if memory is not refused then,
  *   the node is as if it had not been refused before. Time passes whatever memory there is: if
- *   nothing was left to poll, nd_pass has done at least the first thing that was due, so polling
+ *   nothing was left to poll, the call has done at least the first thing that was due, so polling
  *   and calling it again ends. Another event may be refused memory for what it adds itself, however
  *   often it is called; then give it up: a frame is as if the link had lost it.
  *
@@ -163,8 +163,9 @@
  *     nd_next_due and nd_lease_version ask for no memory.
  *   - ND_BUFFER_BYTES, nd_node_bytes and nd_pool_bytes are enough, and a row costs what its index
  *     is.
- *   - nd_pass and nd_poll pass on what is proved below them: time passes whatever memory there is
- *     (STATUS).
+ *   - The frame that nd_poll takes gives its block back, into which the next frame that is due is
+ *     written, if the node has no other room for that. All else of `time passes whatever memory
+ *     there is` (STATUS) is proved.
  * TRUSTED: the duties above, enough stack, the three memory functions, and the toolchain; of nd.c
  * also what translates it to C, and your compiler.
  * bindings/check compares this header with the library's source.
