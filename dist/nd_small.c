@@ -312,12 +312,12 @@ typedef struct { u8 f0; u64 f1; } s_u8_u64;
 static inline s_u8_u64 s_u8_u64_set0(s_u8_u64 s, u8 e) { s.f0 = e; return s; }
 static inline s_u8_u64 s_u8_u64_set1(s_u8_u64 s, u64 e) { s.f1 = e; return s; }
 static inline s_u8_u64 s_u8_u64_frozen(s_u8_u64 s) { s.f0 = u8_frozen(s.f0); s.f1 = u64_frozen(s.f1); return s; }
-typedef struct { u8 f0; Q f1; } s_u8_Q;
-static inline s_u8_Q s_u8_Q_set0(s_u8_Q s, u8 e) { s.f0 = e; return s; }
-static inline s_u8_Q s_u8_Q_set1(s_u8_Q s, Q e) { s.f1 = e; return s; }
 typedef struct { Q f0; u64 f1; } s_Q_u64;
 static inline s_Q_u64 s_Q_u64_set0(s_Q_u64 s, Q e) { s.f0 = e; return s; }
 static inline s_Q_u64 s_Q_u64_set1(s_Q_u64 s, u64 e) { s.f1 = e; return s; }
+typedef struct { u8 f0; Q f1; } s_u8_Q;
+static inline s_u8_Q s_u8_Q_set0(s_u8_Q s, u8 e) { s.f0 = e; return s; }
+static inline s_u8_Q s_u8_Q_set1(s_u8_Q s, Q e) { s.f1 = e; return s; }
 typedef struct { u32 f0; u32 f1; } s_u32_u32;
 static inline s_u32_u32 s_u32_u32_set0(s_u32_u32 s, u32 e) { s.f0 = e; return s; }
 static inline s_u32_u32 s_u32_u32_set1(s_u32_u32 s, u32 e) { s.f1 = e; return s; }
@@ -348,261 +348,253 @@ static void f15(Q, Q);
 static u64 f16(Q);
 static s_u8_u64 f17(Q, u8);
 static void f18(Q, Q);
-static s_u8_Q f19(Q);
-static s_Q_u64 f20(Q);
-static void f21(Q, Q);
-static void f22(Q);
-static void f23(Q, Q, u64);
-static void f24(Q, Q);
+static s_Q_u64 f19(Q);
+static void f20(Q, Q);
+static void f21(Q, Q, u64);
+static void f22(Q, Q);
+static void f23(Q, Q);
+static u64 f24(Q, u64, u64);
 static void f25(Q, Q);
-static u64 f26(Q, u64, u64);
-static void f27(Q, Q);
-static s_u8_Q f28(Q);
+static s_u8_Q f26(Q);
+static u8 f27(Q, u64);
+static void f28(Q, u64);
 static void f29(Q, u64);
-static u8 f30(Q, u64);
-static void f31(Q, u64);
-static void f32(Q, u64);
-static void f33(Q);
-static u8 f34(Q, u64);
-static void f35(Q, Q, Q);
-static u8 f36(Q);
-static void f37(Q);
-static void f38(Q, u64, u64);
-static void f39(Q, u64, u64);
+static void f30(Q);
+static u8 f31(Q, u64);
+static void f32(Q, Q, Q);
+static u8 f33(Q);
+static void f34(Q);
+static void f35(Q, u64, u64);
+static void f36(Q, u64, u64);
+static u8 f37(Q, u64);
+static u8 f38(Q, u64);
+static u8 f39(Q, u64);
 static u8 f40(Q, u64);
 static u8 f41(Q, u64);
-static u8 f42(Q, u64);
-static u8 f43(Q, u64);
-static u8 f44(Q, u64);
-static void f45(Q);
-static Q f46(Q, u64);
-static void f47(Q, u64, u64);
-static u8 f48(Q, u64);
-static u8 f49(Q, u64);
-static void f50(Q, u64, Q, u64);
-static s_u32_u32 f51(Q, u64, u64, u32);
-static u32 f52(Q, u8);
+static void f42(Q);
+static Q f43(Q, u64);
+static void f44(Q, u64, u64);
+static u8 f45(Q, u64);
+static u8 f46(Q, u64);
+static void f47(Q, u64, Q, u64);
+static s_u32_u32 f48(Q, u64, u64, u32);
+static u32 f49(Q, u8);
+static u8 f50(Q, u64);
+static u8 f51(Q, u64);
+static u8 f52(Q, u64);
 static u8 f53(Q, u64);
-static u8 f54(Q, u64);
-static u8 f55(Q, u64);
-static u8 f56(Q, u64);
+static void f54(Q);
+static void f55(Q);
+static void f56(Q);
 static void f57(Q);
-static void f58(Q);
-static void f59(Q);
-static void f60(Q);
-static u64 f61(Q, u64, u64);
-static u8 f62(Q, Q);
-static u8 f63(Q, Q);
-static s_u8_u64 f64(Q, u64, Q);
-static u8 f65(Q, u64);
-static void f66(Q, u64, Q);
-static u8 f67(Q, Q, u64);
-static void f68(Q, u64, Q);
-static void f69(Q, u64);
-static void f70(Q, u64, u64);
-static void f71(Q, u64, u64, u64);
-static void f72(Q, u64, Q);
-static void f73(Q, u64, u64, u64);
-static void f74(Q, u64, Q, u64);
-static void f75(Q, u64);
+static u64 f58(Q, u64, u64);
+static u8 f59(Q, Q);
+static u8 f60(Q, Q);
+static s_u8_u64 f61(Q, u64, Q);
+static u8 f62(Q, u64);
+static void f63(Q, u64, Q);
+static u8 f64(Q, Q, u64);
+static void f65(Q, u64, Q);
+static void f66(Q, u64);
+static void f67(Q, u64, u64);
+static void f68(Q, u64, u64, u64);
+static void f69(Q, u64, Q);
+static void f70(Q, u64, u64, u64);
+static void f71(Q, u64, Q, u64);
+static void f72(Q, u64);
+static u8 f73(Q, u64);
+static Q f74(Q, u64);
+static void f75(Q);
 static u8 f76(Q, u64);
-static Q f77(Q, u64);
-static void f78(Q);
-static void f79(Q);
-static u8 f80(Q, u64);
-static s_u8_u8 f81(Q, u64, Q, Q);
-static s_u8_u8 f82(Q, u64, Q, Q);
-static u8 f83(Q, u64);
-static void f84(Q, Q, u64, Q, Q);
-static void f85(Q, u8, u64, u8, u64, Q);
-static void f86(Q, Q);
-static u64 f87(Q, Q);
-static u64 f88(Q, Q);
-static u8 f89(Q, u64);
-static u8 f90(Q, Q, u64);
-static u8 f91(Q);
-static void f92(Q, u64);
+static s_u8_u8 f77(Q, u64, Q, Q);
+static u8 f78(Q, u64);
+static void f79(Q, Q, u64, Q, Q);
+static void f80(Q, u8, u64, u8, u64, Q);
+static void f81(Q, Q);
+static u64 f82(Q, Q);
+static u64 f83(Q, Q);
+static u8 f84(Q, u64);
+static u8 f85(Q, Q, u64);
+static u8 f86(Q);
+static void f87(Q, u64);
+static void f88(Q, Q);
+static void f89(Q, u64, Q);
+static void f90(Q, Q);
+static void f91(Q, Q);
+static void f92(Q, Q);
 static void f93(Q, Q);
-static void f94(Q, u64, Q);
-static void f95(Q, Q);
-static void f96(Q, Q);
-static void f97(Q, Q);
-static void f98(Q, Q);
-static void f99(Q);
-static void f100(Q, Q, Q);
-static void f101(Q, Q, Q, Q, u64);
-static s_u8_u64 f102(Q, u64, Q);
-static void f103(Q, Q, u64);
-static void f104(Q, Q);
-static void f105(Q, Q, Q, Q, Q, Q, Q, Q, u64);
-static s_u8_u64 f106(Q);
-static s_u8_u64 f107(Q, u64);
-static s_u8_u64 f108(Q, u64);
-static u8 f109(Q, u64);
-static u8 f110(u8, Q, u64);
-static void f111(Q, Q, Q, Q, u16);
-static u8 f112(Q, Q, u64);
-static u8 f113(Q, u64);
-static void f114(Q, Q);
-static void f115(u8, Q, Q);
-static void f116(Q, Q);
-static void f117(Q, u64, Q);
-static void f118(u32, Q);
-static void f119(u32, Q, u64, Q);
-static void f120(u8, Q, u64, Q);
-static u16 f121(Q, Q, Q, u64);
-static void f122(Q, Q, Q, Q, Q);
-static void f123(Q, Q, Q, Q, Q, Q, Q);
-static void f124(Q, Q, Q);
-static void f125(Q, u64, Q, Q);
-static void f126(Q, u64, u8, Q);
-static void f127(Q, Q, Q, u32);
-static void f128(Q, Q);
-static void f129(Q, Q, Q, Q, Q, Q, u64);
-static void f130(Q);
-static void f131(Q, u64, Q);
-static u8 f132(Q, u64, Q);
-static void f133(Q);
-static void f134(Q, Q, u64, Q);
-static void f135(Q, Q, Q);
-static void f136(Q);
-static void f137(Q, Q, u64, Q, u64, Q);
-static u8 f138(Q, u8, Q);
-static u8 f139(Q, u8, Q);
-static u8 f140(Q, u64, u64);
-static u8 f141(Q, u64, Q, u64);
-static u8 f142(Q);
-static void f143(Q, Q, Q, u8);
-static void f144(Q, Q, Q, u8);
-static void f145(Q, Q, Q);
-static u8 f146(Q, Q);
-static void f147(Q, Q, u64, u8, Q, Q);
-static void f148(Q, Q, Q, Q, u64);
-static void f149(Q, Q, Q, Q, Q, u64);
-static void f150(Q, Q, u64, Q, u8, Q, Q, u64, Q);
-static u8 f151(Q, u64, u64, u64, Q, Q, u64);
-static s_u8_u64 f152(Q, u64, Q, u64);
-static s_u8_u64 f153(Q, u64, u64);
-static void f154(Q, Q, Q);
-static void f155(Q, Q, u64, Q, Q, Q);
-static void f156(Q, Q, Q, Q);
-static void f157(Q);
-static u8 f158(Q, u64);
-static void f159(Q, u64, Q, Q, Q, Q);
-static void f160(Q, Q, Q);
-static void f161(Q, Q);
-static void f162(Q, Q, u64, u64, u64, Q);
-static void f163(Q, Q, Q);
-static u8 f164(Q, u64);
+static void f94(Q);
+static void f95(Q, Q, Q);
+static void f96(Q, Q, Q, Q, u64);
+static s_u8_u64 f97(Q, u64, Q);
+static void f98(Q, Q, u64);
+static void f99(Q, Q);
+static void f100(Q, Q, Q, Q, Q, Q, Q, Q, u64);
+static s_u8_u64 f101(Q);
+static s_u8_u64 f102(Q, u64);
+static s_u8_u64 f103(Q, u64);
+static u8 f104(Q, u64);
+static u8 f105(u8, Q, u64);
+static void f106(Q, Q, Q, Q, u16);
+static u8 f107(Q, Q, u64);
+static u8 f108(Q, u64);
+static void f109(Q, Q);
+static void f110(u8, Q, Q);
+static void f111(Q, Q);
+static void f112(Q, u64, Q);
+static void f113(u32, Q);
+static void f114(u32, Q, u64, Q);
+static void f115(u8, Q, u64, Q);
+static u16 f116(Q, Q, Q, u64);
+static void f117(Q, Q, Q, Q, Q);
+static void f118(Q, Q, Q, Q, Q, Q, Q);
+static void f119(Q, Q, Q);
+static void f120(Q, u64, Q, Q);
+static void f121(Q, u64, u8, Q);
+static void f122(Q, Q, Q, u32);
+static void f123(Q, Q);
+static void f124(Q, Q, Q, Q, Q, Q, u64);
+static void f125(Q);
+static void f126(Q, u64, Q);
+static u8 f127(Q, u64, Q);
+static void f128(Q);
+static void f129(Q, Q, u64, Q);
+static u8 f130(Q, Q);
+static void f131(Q, Q, u64, Q, u64, Q);
+static u8 f132(Q, u8, Q);
+static u8 f133(Q, u8, Q);
+static u8 f134(Q, u64, u64);
+static u8 f135(Q, u64, Q, u64);
+static u8 f136(Q);
+static void f137(Q, Q, Q, u8);
+static void f138(Q, Q, Q, u8);
+static void f139(Q, Q, Q);
+static u8 f140(Q, Q);
+static void f141(Q, Q, u64, u8, Q, Q);
+static void f142(Q, Q, Q, Q, u64);
+static void f143(Q, Q, Q, Q, Q, u64);
+static u8 f144(Q, u64, u8, Q, Q);
+static void f145(Q, Q, u64, Q, u8, Q, Q, u64, Q);
+static u8 f146(Q, u64, u64, u64, Q, Q, u64);
+static s_u8_u64 f147(Q, u64, Q, u64);
+static s_u8_u64 f148(Q, u64, u64);
+static void f149(Q, Q, u64, Q, Q);
+static void f150(Q, Q, Q);
+static void f151(Q, Q, u64, Q, Q, Q);
+static void f152(Q, Q, Q, Q);
+static void f153(Q);
+static u8 f154(Q, u64);
+static void f155(Q, u64, Q, Q, Q, Q);
+static void f156(Q, Q, Q);
+static void f157(Q, Q);
+static void f158(Q, Q, u64, u64, u64, Q);
+static void f159(Q, Q, Q);
+static u8 f160(Q, u64);
+static void f161(Q);
+static void f162(Q, Q, Q);
+static u8 f163(Q);
+static s_u8_u64 f164(Q, Q, u64);
 static void f165(Q);
-static void f166(Q, Q, Q);
-static u8 f167(Q);
-static s_u8_u64 f168(Q, Q, u64);
-static void f169(Q);
-static void f170(Q, Q, u64, Q);
-static void f171(Q, Q, Q);
-static void f172(Q, Q, Q, Q);
-static u8 f173(Q, u64, Q);
-static void f174(Q, Q, u64, Q, Q);
-static void f175(Q, Q, u64, Q);
-static u8 f176(Q, Q);
-static void f177(Q, Q, u64, Q);
-static void f178(Q, Q, Q);
-static u8 f179(Q, u64, Q);
-static void f180(Q, Q, u64);
-static u8 f181(Q, u64, Q);
-static void f182(Q, Q, u8);
-static void f183(Q, Q, Q, u64, Q, u8, Q);
-static void f184(Q, Q, Q, Q);
-static u8 f185(Q, Q, u64, Q, u64, Q);
-static u8 f186(Q, Q);
-static void f187(Q, Q, u64, Q, Q, u8, u64);
-static void f188(Q, Q, Q);
-static void f189(Q, Q, u64, Q, Q, Q);
-static void f190(Q, Q, u64);
-static void f191(Q, Q);
-static void f192(Q, Q);
-static u8 f193(Q, u64, u64, Q);
-static u8 f194(Q, Q);
-static u8 f195(Q, u64, Q, u16);
+static void f166(Q, Q, u64, Q);
+static void f167(Q, Q, Q);
+static void f168(Q, Q, Q, Q);
+static u8 f169(Q, u64, Q);
+static void f170(Q, Q, u64, Q, Q);
+static void f171(Q, Q, u64, Q);
+static u8 f172(Q, Q);
+static void f173(Q, Q, u64, Q);
+static void f174(Q, Q, Q);
+static u8 f175(Q, u64, Q);
+static void f176(Q, Q, u64);
+static u8 f177(Q, u64, Q);
+static void f178(Q, Q, u8);
+static void f179(Q, Q, Q, u64, Q, u8, Q);
+static void f180(Q, Q, Q, Q);
+static u8 f181(Q, Q, u64, Q, u64, Q);
+static u8 f182(Q, Q);
+static void f183(Q, Q, u64, Q, Q, u8, u64);
+static void f184(Q, Q, Q);
+static void f185(Q, Q, u64, Q, Q, Q);
+static void f186(Q, Q, u64);
+static void f187(Q, Q);
+static void f188(Q, Q);
+static u8 f189(Q, u64, u64, Q);
+static u8 f190(Q, Q);
+static u8 f191(Q, u64, Q, u16);
+static u8 f192(Q, u64, u64, Q);
+static u8 f193(Q, u64, Q, u64);
+static void f194(Q, Q);
+static void f195(Q, Q);
 static u8 f196(Q, u64, u64, Q);
-static u8 f197(Q, u64, Q, u64);
-static void f198(Q, Q);
-static void f199(Q, Q);
-static u8 f200(Q, u64, u64, Q);
-static u8 f201(Q, Q, u64);
-static u8 f202(Q, u64, Q, Q);
-static u8 f203(Q, u64, Q, u64);
-static void f204(Q, Q);
-static u8 f205(Q, u64, u64, Q);
-static u8 f206(Q, u64, Q, u64);
-static s_u8_u8 f207(Q, Q, Q, u64, u32);
-static void f208(Q, Q, u64, Q);
-static u8 f209(Q, u8);
-static void f210(Q, Q, Q);
-static u8 f211(Q);
-static u8 f212(Q);
-static s_u8_Q f213(Q, u64, u64, u64);
+static u8 f197(Q, Q, u64);
+static u8 f198(Q, u64, Q, Q);
+static u8 f199(Q, u64, Q, u64);
+static void f200(Q, Q);
+static u8 f201(Q, u64, u64, Q);
+static u8 f202(Q, u64, Q, u64);
+static s_u8_u8 f203(Q, Q, Q, u64, u32);
+static void f204(Q, Q, u64, Q);
+static void f205(Q, Q, Q);
+static u8 f206(Q);
+static u8 f207(Q);
+static s_u8_Q f208(Q, u64, u64, u64);
+static void f209(Q, Q);
+static u64 f210(Q, Q);
+static void f211(Q);
+static void f212(Q, u64, Q, Q, Q, Q, Q, u8, Q);
+static s_u8_u64 f213(Q, u64, Q);
 static void f214(Q, Q);
-static u64 f215(Q, Q);
-static void f216(Q);
-static void f217(Q, u64, Q, Q, Q, Q, Q, u8, Q);
-static s_u8_u64 f218(Q, u64, Q);
-static void f219(Q, Q);
-static void f220(Q, Q, Q, u64, Q);
-static u8 f221(Q);
-static void f222(Q, u64, Q);
-static s_u8_u64 f223(Q, u64);
-static void f224(Q, Q, u64, Q, Q, Q);
-static u8 f225(Q, Q);
-static void f226(Q, Q, Q, Q, Q, u8, u8, Q);
-static void f227(Q, Q, u64, Q, Q, Q);
-static void f228(Q, Q, u64, Q, Q, Q);
-static u8 f229(Q);
-static u8 f230(Q);
-static u8 f231(Q, u64);
-static u8 f232(Q, u64);
-static void f233(Q, u128, Q, Q, Q);
-static void f234(Q, u32);
+static void f215(Q, Q, Q, u64, Q);
+static u8 f216(Q);
+static void f217(Q, u64, Q);
+static s_u8_u64 f218(Q, u64);
+static void f219(Q, Q, u64, Q, Q, Q);
+static u8 f220(Q, Q);
+static void f221(Q, Q, Q, Q, Q, u8, u8, Q);
+static void f222(Q, Q, u64, Q, Q, Q);
+static void f223(Q, Q, u64, Q, Q, Q);
+static u8 f224(Q);
+static u8 f225(Q);
+static u8 f226(Q, u64);
+static u8 f227(Q, u64);
+static void f228(Q, u128, Q, Q, Q);
+static void f229(Q, u32);
+static void f230(Q, Q, u64, Q, Q);
+static void f231(Q, Q, u64, Q);
+static s_u8_Q f232(Q, Q);
+static u8 f233(Q, u64);
+static void f234(Q, Q, Q, Q, u8);
 static void f235(Q, Q, u64, Q, Q);
-static void f236(Q, Q, u64, Q);
-static s_u8_Q f237(Q, Q);
-static u8 f238(Q, u64);
-static void f239(Q, Q, Q, Q, u8);
-static void f240(Q, Q, u64, Q, Q);
-static void f241(Q, Q);
+static void f236(Q, Q);
+static void f237(Q, Q, u64, Q, Q);
+static void f238(Q, Q, u64, Q, Q);
+static void f239(Q, Q, u64, Q, Q);
+static void f240(Q, Q, u64, u8, Q);
+static void f241(Q);
 static void f242(Q, Q, u64, Q, Q);
 static void f243(Q, Q, u64, Q, Q);
-static void f244(Q, Q, u64, Q, Q);
-static void f245(Q, Q, u64, u8, Q);
-static void f246(Q);
-static void f247(Q, Q, u64);
-static u8 f248(Q, u64, Q, Q);
-static void f249(Q, Q, u64, Q, Q);
+static u64 f244(Q, Q);
+static u8 f245(Q, u64);
+static u8 f246(Q);
+static u8 f247(Q);
+static u8 f248(Q, u64);
+static void f249(Q, u32);
 static void f250(Q, Q, u64, Q, Q);
-static u64 f251(Q, Q);
-static u8 f252(Q, u64);
-static u8 f253(Q);
-static u8 f254(Q);
-static u8 f255(Q, u64);
-static void f256(Q, u32);
-static void f257(Q, Q, u64, Q, Q);
-static u8 f258(Q);
+static u8 f251(Q);
+static void f252(Q, Q, u64, Q, Q);
+static void f253(Q, Q, u64, Q, Q);
+static void f254(Q, Q, u64, Q, Q, u8, Q, u64, Q);
+static u32 f255(Q);
+static void f256(Q, Q, u64, Q);
+static void f257(Q, Q, u64, Q);
+static void f258(Q, Q, u64, Q);
 static void f259(Q, Q, u64, Q);
-static void f260(Q, Q, u64, Q, Q);
+static void f260(Q, Q, u8, u64, u64, Q, Q);
 static void f261(Q, Q, u64, Q, Q);
-static void f262(Q, Q, u64, Q, Q, u8, Q, u64, Q);
-static u32 f263(Q);
-static u8 f264(Q, u64);
-static void f265(Q, Q, u64);
-static u8 f266(Q, u64);
-static void f267(Q, Q, u64, Q);
-static void f268(Q, Q, u64, Q);
-static void f269(Q, Q, u64, Q);
-static void f270(Q, Q, u64, Q);
-static void f271(Q, Q, u8, u64, u64, Q, Q);
-static void f272(Q, Q, u64, Q, Q);
-static u64 f273(Q);
+static u64 f262(Q);
+static u8 f263(Q, u64);
+static void f264(Q, Q, u64);
+static u8 f265(Q, u64);
 static u32 m_nd_addresses(Q, u64, Q, u64, Q);
 static void m_nd_close(Q);
 static u32 m_nd_hear(Q, u64, u32, Q);
@@ -634,10 +626,10 @@ static u32 m_nd_receive(Q, u64, Q, u64);
 static u32 m_nd_remove_address(Q, u64, Q);
 static u32 m_nd_send(Q, u64, Q, Q, u8, Q, u64);
 static u32 m_nd_stop_advertising(Q, u64);
-static u32 m_nd_receive_message(Q, u64, Q, Q, u64);
 static u32 m_nd_confirm_to(Q, u64, Q, u64);
 static u32 m_nd_resolve(Q, u64, Q, Q);
 static u64 m_nd_node_bytes(Q);
+static u32 m_nd_receive_message(Q, u64, Q, Q, u64);
 static u64 m_nd_pool_bytes(Q, u64);
 static u32 m_nd_next_hop(Q, u64, Q, Q);
 static u32 m_nd_address_at(Q, u64, u64, Q);
@@ -768,7 +760,7 @@ b5:;
   { x3 = x1; goto b6; }
 b6:;
   x40 = FAR(x32, (u64)((u64)((u64)x3 << 6)));
-  x4 = f52(x40, x37);
+  x4 = f49(x40, x37);
   if (((u8)(x4 == 0u))) goto b7; else goto b8;
 b8:;
   x41 = FAR(x40, 16);
@@ -849,7 +841,7 @@ b19:;
   os_rattle_dealloc(x12);
   goto b20;
 b20:;
-  f45(ADD(x13, 64));
+  f42(ADD(x13, 64));
   os_rattle_dealloc(x67);
   os_rattle_dealloc(x68);
   return;
@@ -1898,32 +1890,7 @@ b0:;
   goto b13;
 }
 
-static s_u8_Q f19(Q x0)
-{
-  Q x4, x7, x1, x9, x3, x11, x2;
-  u8 x6, x13, x5;
-  u64 x8, x10, x12;
-  x7 = ldp_8(x0);
-  x8 = ld64_8(FAR(x0, 8));
-  x1 = FAR(FAR(x7, (u64)((u64)((u64)x8 * 80u))), -80);
-  if (((u8)(x8 == 0u))) goto b0; else { x4 = x1; x6 = 1u; goto b1; }
-b0:;
-  x9 = ldp_8(FAR(x0, 24));
-  x10 = ld64_8(FAR(x0, 32));
-  x3 = FAR(FAR(x9, (u64)((u64)((u64)x10 * 80u))), -80);
-  if (((u8)(x10 == 0u))) goto b2; else { x4 = x3; x6 = 1u; goto b1; }
-b2:;
-  x11 = ldp_8(FAR(x0, 48));
-  x12 = ld64_8(FAR(x0, 56));
-  x13 = (u8)(x12 != 0u);
-  x5 = (u8)x13;
-  x2 = (x13 ? x11 : Q_NULL);
-  { x4 = x2; x6 = x5; goto b1; }
-b1:;
-  return s_u8_Q_set1(s_u8_Q_set0(((s_u8_Q){0u, Q_NULL}), x6), x4);
-}
-
-static s_Q_u64 f20(Q x0)
+static s_Q_u64 f19(Q x0)
 {
   u64 x4, x1, x2, x12, x3;
   Q x9, x5, x6, x11, x7, x8;
@@ -1953,63 +1920,57 @@ b5:;
   UNREACHABLE();
 }
 
-static void f21(Q x0, Q x1)
+static void f20(Q x0, Q x1)
 {
-  _Alignas(8) u8 y0_[24];
-  Q const x2 = Q_OF(y0_);
-  MEMCPY(x2, x0, 24);
-  MEMMOVE(x0, x1, 24);
-  MEMCPY(x1, x2, 24);
-  f22(x0);
-  return;
-}
-
-static void f22(Q x0)
-{
-  u64 x2, x5, x4, x7, x8, x3, x1;
-  Q x6, x9, x10, x12, x13;
+  u64 x3, x6, x5, x9, x10, x4, x2;
+  Q x8, x11, x12, x14, x15;
   _Alignas(8) u8 y0_[80];
-  Q const x14 = Q_OF(y0_);
-  Q const x11 = Q_OF(y0_);
-  x6 = ldp_8(x0);
-  x4 = ld64_8(FAR(x0, 8));
-  if (((u8)(x4 > 15u))) goto b0; else goto b1;
+  Q const x16 = Q_OF(y0_);
+  Q const x13 = Q_OF(y0_);
+  _Alignas(8) u8 y1_[24];
+  Q const x7 = Q_OF(y1_);
+  MEMCPY(x7, x0, 24);
+  MEMMOVE(x0, x1, 24);
+  MEMCPY(x1, x7, 24);
+  x8 = ldp_8(x0);
+  x5 = ld64_8(FAR(x0, 8));
+  if (((u8)(x5 > 15u))) goto b0; else goto b1;
 b1:;
-  if (((u8)(x4 > 1u))) goto b2; else goto b3;
+  if (((u8)(x5 > 1u))) goto b2; else goto b3;
 b2:;
-  x7 = (u64)((u64)((u64)((u64)x4 + UINT64_C(18446744073709551614))) >> 1);
-  { x2 = 0u; x5 = x4; goto b4; }
+  x9 = (u64)((u64)((u64)((u64)x5 + UINT64_C(18446744073709551614))) >> 1);
+  { x3 = 0u; x6 = x5; goto b4; }
 b0:;
-  x8 = (u64)((u64)x4 >> 1);
-  f23(x6, FAR(x6, (u64)((u64)((u64)((u64)((u64)x4 - x8)) * 80u))), x8);
+  x10 = (u64)((u64)x5 >> 1);
+  f21(x8, FAR(x8, (u64)((u64)((u64)((u64)((u64)x5 - x10)) * 80u))), x10);
   goto b3;
 b4:;
-  x3 = (u64)((u64)x5 + UINT64_C(18446744073709551615));
-  if (((u8)(x2 < x3))) goto b5; else goto b6;
+  x4 = (u64)((u64)x6 + UINT64_C(18446744073709551615));
+  if (((u8)(x3 < x4))) goto b5; else goto b6;
 b5:;
-  x9 = ADD(x6, (u64)((u64)((u64)x2 * 80u)));
-  x10 = ADD(x6, (u64)((u64)((u64)x3 * 80u)));
-  MEMCPY(x11, x9, 80);
-  MEMMOVE(x9, x10, 80);
-  MEMCPY(x10, x11, 80);
+  x11 = ADD(x8, (u64)((u64)((u64)x3 * 80u)));
+  x12 = ADD(x8, (u64)((u64)((u64)x4 * 80u)));
+  MEMCPY(x13, x11, 80);
+  MEMMOVE(x11, x12, 80);
+  MEMCPY(x12, x13, 80);
   goto b7;
 b6:;
-  if (((u8)(x3 < x2))) goto b8; else goto b7;
+  if (((u8)(x4 < x3))) goto b8; else goto b7;
 b8:;
-  x12 = ADD(x6, (u64)((u64)((u64)x3 * 80u)));
-  x13 = ADD(x6, (u64)((u64)((u64)x2 * 80u)));
-  MEMCPY(x14, x12, 80);
-  MEMMOVE(x12, x13, 80);
-  MEMCPY(x13, x14, 80);
+  x14 = ADD(x8, (u64)((u64)((u64)x4 * 80u)));
+  x15 = ADD(x8, (u64)((u64)((u64)x3 * 80u)));
+  MEMCPY(x16, x14, 80);
+  MEMMOVE(x14, x15, 80);
+  MEMCPY(x15, x16, 80);
   goto b7;
 b7:;
-  x1 = (u64)((u64)x2 + 1u);
-  if (((u8)(x2 == x7))) goto b3; else { x2 = x1; x5 = x3; goto b4; }
+  x2 = (u64)((u64)x3 + 1u);
+  if (((u8)(x3 == x9))) goto b3; else { x3 = x2; x6 = x4; goto b4; }
 b3:;
   return;
 }
 
-static void f23(Q x0, Q x1, u64 x2)
+static void f21(Q x0, Q x1, u64 x2)
 {
   u64 x4, x3;
   Q x5, x6;
@@ -2028,7 +1989,7 @@ b1:;
   return;
 }
 
-static void f24(Q x0, Q x1)
+static void f22(Q x0, Q x1)
 {
   u64 x4, x3, x8, x2, x9;
   Q x5, x6, x7, x10, x11;
@@ -2083,7 +2044,7 @@ b1:;
   goto b4;
 }
 
-static void f25(Q x0, Q x1)
+static void f23(Q x0, Q x1)
 {
   u64 x4, x3, x12, x2, x14, x16, x17;
   Q x7, x8, x6, x9, x10, x11, x13, x5;
@@ -2134,7 +2095,7 @@ b1:;
   goto b5;
 }
 
-static u64 f26(Q x0, u64 x1, u64 x2)
+static u64 f24(Q x0, u64 x1, u64 x2)
 {
   u64 x4, x6, x8, x10, x12, x14, x16, x18, x3, x20, x5, x22, x7, x24, x9, x26, x11, x28, x13, x30, x15, x32, x17;
   u8 x19, x21, x23, x25, x27, x29, x31, x33;
@@ -2196,7 +2157,7 @@ b15:;
   return (((((x6 | x8) | x10) | x12) | x14) | (x18 & UINT64_C(18446744073692774400)));
 }
 
-static void f27(Q x0, Q x1)
+static void f25(Q x0, Q x1)
 {
   u16 x2, x3, x4, x5, x6, x7, x8, x9, x10, x11, x12, x13, x14, x15, x16, x17, x18, x19, x20, x21, x22, x23, x24, x25, x26, x27, x28;
   x2 = ld16_2(FAR(x1, 22));
@@ -2311,1225 +2272,1272 @@ b28:;
   goto b6;
 }
 
-static s_u8_Q f28(Q x0)
+static s_u8_Q f26(Q x0)
 {
-  u64 x3, x5, x10, x12, x14, x15, x20, x40, x44, x47, x48, x50, x52, x55, x57, x60, x66, x73, x75, x88, x90, x94, x96, x98, x100, x102, x105, x109, x110, x114, x116, x118, x119, x122, x123, x126, x130, x135, x139, x141, x145, x147, x149, x153, x155, x159, x161, x165, x167, x171, x173, x175, x177, x179, x183, x185, x189, x191, x195, x197, x201, x203, x205, x207, x211, x212, x215, x216, x217, x220, x221, x222, x226, x229, x232, x239, x240, x242, x244, x246, x247, x249, x250, x252, x253, x254, x255, x256, x258, x259, x261, x262, x264, x265, x267, x268, x269, x270, x271, x273, x274, x276, x277, x279, x280, x282, x283, x284, x285, x287, x288, x290, x291, x293, x294, x295, x298, x299, x300, x304, x307, x310, x317, x318, x320, x322, x324, x325, x327, x328, x330, x331, x332, x333, x334, x336, x337, x339, x340, x342, x343, x345, x346, x347, x348, x349, x351, x352, x354, x355, x357, x358, x360, x361, x362, x363, x365, x366, x368, x369, x371, x372, x373, x376, x377, x378, x382, x385, x388, x395, x396, x398, x400, x402, x403, x405, x406, x408, x409, x410, x411, x412, x414, x415, x417, x418, x420, x421, x423, x424, x425, x426, x427, x429, x430, x432, x433, x435, x436, x438, x439, x440, x441, x443, x444, x446, x448, x449, x451, x452, x453, x456, x457, x458, x462, x465, x468, x475, x476, x478, x480, x482, x483, x485, x486, x488, x489, x490, x491, x492, x494, x495, x497, x498, x500, x501, x503, x504, x505, x506, x507, x509, x510, x512, x513, x515, x516, x518, x519, x520, x521, x523, x524, x525, x606, x101, x117, x611, x1, x2, x4, x618, x619, x11, x9, x673, x13, x674, x19, x121, x679, x680, x716, x93, x125, x129, x95, x134, x138, x140, x755, x99, x758, x144, x146, x148, x152, x154, x158, x160, x164, x166, x170, x172, x174, x176, x178, x182, x184, x188, x190, x194, x196, x200, x202, x204, x206, x763, x39, x104, x87, x89, x770, x46, x51, x775, x45, x43, x49, x54, x53, x786, x789, x790, x792, x793, x798, x799, x800, x803, x113, x115, x97, x72, x74, x806, x56, x810, x823, x824, x826, x827, x58, x830, x834, x836, x837, x59, x841, x844, x845, x846, x848, x853, x854, x857, x864, x877, x878, x880, x881, x64, x884, x888, x890, x891, x65, x895, x898, x899, x900, x902, x907, x908, x911, x445;
-  u32 x6, x8, x38, x42, x63, x69, x103, x106, x107, x111, x112, x218, x219, x224, x225, x227, x296, x297, x302, x303, x305, x374, x375, x380, x381, x383, x454, x455, x460, x461, x463, x605, x607, x608, x609, x7, x616, x617, x762, x37, x764, x41, x765, x829, x61, x833, x835, x62, x840, x843, x847, x883, x67, x887, x889, x68, x894, x897, x901;
-  Q x18, x23, x26, x28, x30, x32, x34, x36, x71, x120, x124, x127, x128, x131, x132, x133, x137, x143, x151, x157, x163, x169, x181, x187, x193, x199, x209, x210, x214, x228, x230, x231, x233, x243, x245, x248, x251, x257, x260, x263, x266, x272, x275, x278, x281, x286, x289, x292, x306, x308, x309, x311, x321, x323, x326, x329, x335, x338, x341, x344, x350, x353, x356, x359, x364, x367, x370, x384, x386, x387, x389, x399, x401, x404, x407, x413, x416, x419, x422, x428, x431, x434, x437, x442, x447, x450, x464, x466, x467, x469, x479, x481, x484, x487, x493, x496, x499, x502, x508, x511, x514, x517, x522, x528, x612, x668, x672, x16, x17, x24, x27, x22, x21, x29, x31, x33, x745, x35, x753, x136, x754, x759, x760, x142, x150, x156, x162, x168, x180, x186, x192, x198, x772, x779, x781, x782, x791, x794, x796, x70, x208, x805, x807, x809, x811, x812, x813, x814, x815, x816, x817, x818, x819, x821, x822, x831, x832, x838, x842, x849, x850, x851, x852, x856, x859, x860, x861, x863, x865, x866, x867, x868, x869, x870, x871, x872, x873, x875, x876, x885, x886, x892, x896, x903, x904, x905, x906, x910, x913, x914, x915, x527;
-  u8 x76, x78, x80, x82, x84, x92, x108, x213, x223, x234, x235, x236, x237, x241, x301, x312, x313, x314, x315, x319, x379, x390, x391, x392, x393, x397, x459, x470, x471, x472, x473, x477, x526, x91, x613, x614, x667, x670, x77, x79, x81, x730, x733, x734, x737, x741, x743, x744, x746, x748, x750, x751, x752, x756, x757, x761, x83, x773, x776, x777, x778, x783, x788, x797, x801, x804, x828, x855, x858, x882, x909, x912;
-  u16 x86, x238, x316, x394, x474, x610, x85;
-  s_u64_u64 x675, x676, x677, x678, x731, x732, x735, x738, x742, x749, x949;
-  s_u8_u64 x784;
-  u128 x820, x825, x839, x874, x879, x893;
+  u64 x3, x5, x10, x12, x14, x15, x20, x40, x44, x47, x48, x50, x52, x55, x57, x60, x66, x73, x75, x88, x90, x94, x96, x98, x100, x102, x105, x109, x110, x114, x116, x118, x119, x123, x124, x127, x131, x136, x140, x142, x146, x148, x150, x154, x156, x160, x162, x166, x168, x172, x174, x176, x178, x180, x184, x186, x190, x192, x196, x198, x202, x204, x206, x208, x212, x213, x216, x217, x218, x221, x222, x223, x227, x230, x233, x240, x241, x243, x245, x247, x248, x250, x251, x253, x254, x255, x256, x257, x259, x260, x262, x263, x265, x266, x268, x269, x270, x271, x272, x274, x275, x277, x278, x280, x281, x283, x284, x285, x286, x289, x290, x292, x293, x295, x296, x297, x300, x301, x302, x306, x309, x312, x319, x320, x322, x324, x326, x327, x329, x330, x332, x333, x334, x335, x336, x338, x339, x341, x342, x344, x345, x347, x348, x349, x350, x351, x353, x354, x356, x357, x359, x360, x362, x363, x364, x365, x368, x369, x371, x372, x374, x375, x376, x379, x380, x381, x385, x388, x391, x398, x399, x401, x403, x405, x406, x408, x409, x411, x412, x413, x414, x415, x417, x418, x420, x421, x423, x424, x426, x427, x428, x429, x430, x432, x433, x435, x436, x438, x439, x441, x442, x443, x444, x447, x448, x450, x452, x453, x455, x456, x457, x460, x461, x462, x466, x469, x472, x479, x480, x482, x484, x486, x487, x489, x490, x492, x493, x494, x495, x496, x498, x499, x501, x502, x504, x505, x507, x508, x509, x510, x511, x513, x514, x516, x517, x519, x520, x522, x523, x524, x525, x528, x529, x530, x616, x101, x117, x621, x1, x2, x4, x628, x629, x11, x9, x686, x690, x13, x691, x19, x122, x696, x697, x733, x93, x126, x130, x95, x135, x139, x141, x772, x99, x775, x145, x147, x149, x153, x155, x159, x161, x165, x167, x171, x173, x175, x177, x179, x183, x185, x189, x191, x195, x197, x201, x203, x205, x207, x780, x39, x104, x87, x89, x787, x46, x51, x792, x45, x43, x49, x54, x53, x803, x806, x807, x809, x810, x815, x816, x817, x820, x113, x115, x97, x72, x74, x823, x56, x827, x840, x841, x843, x844, x58, x847, x851, x853, x854, x59, x858, x861, x862, x863, x865, x870, x871, x874, x881, x894, x895, x897, x898, x64, x901, x905, x907, x908, x65, x912, x915, x916, x917, x919, x924, x925, x928, x449;
+  u32 x6, x8, x38, x42, x63, x69, x103, x106, x107, x111, x112, x219, x220, x225, x226, x228, x298, x299, x304, x305, x307, x377, x378, x383, x384, x386, x458, x459, x464, x465, x467, x615, x617, x618, x619, x7, x626, x627, x779, x37, x781, x41, x782, x846, x61, x850, x852, x62, x857, x860, x864, x900, x67, x904, x906, x68, x911, x914, x918;
+  Q x18, x23, x26, x28, x30, x32, x34, x36, x71, x120, x121, x125, x128, x129, x132, x133, x134, x138, x144, x152, x158, x164, x170, x182, x188, x194, x200, x210, x211, x215, x229, x231, x232, x234, x244, x246, x249, x252, x258, x261, x264, x267, x273, x276, x279, x282, x287, x288, x291, x294, x308, x310, x311, x313, x323, x325, x328, x331, x337, x340, x343, x346, x352, x355, x358, x361, x366, x367, x370, x373, x387, x389, x390, x392, x402, x404, x407, x410, x416, x419, x422, x425, x431, x434, x437, x440, x445, x446, x451, x454, x468, x470, x471, x473, x483, x485, x488, x491, x497, x500, x503, x506, x512, x515, x518, x521, x526, x527, x533, x622, x687, x689, x16, x17, x24, x27, x22, x21, x29, x31, x33, x762, x35, x770, x137, x771, x776, x777, x143, x151, x157, x163, x169, x181, x187, x193, x199, x789, x796, x798, x799, x808, x811, x813, x70, x209, x822, x824, x826, x828, x829, x830, x831, x832, x833, x834, x835, x836, x838, x839, x848, x849, x855, x859, x866, x867, x868, x869, x873, x876, x877, x878, x880, x882, x883, x884, x885, x886, x887, x888, x889, x890, x892, x893, x902, x903, x909, x913, x920, x921, x922, x923, x927, x930, x931, x932, x532;
+  u8 x76, x78, x80, x82, x84, x92, x108, x214, x224, x235, x236, x237, x238, x242, x303, x314, x315, x316, x317, x321, x382, x393, x394, x395, x396, x400, x463, x474, x475, x476, x477, x481, x531, x91, x623, x624, x685, x77, x79, x81, x747, x750, x751, x754, x758, x760, x761, x763, x765, x767, x768, x769, x773, x774, x778, x83, x790, x793, x794, x795, x800, x805, x814, x818, x821, x845, x872, x875, x899, x926, x929;
+  u16 x86, x239, x318, x397, x478, x620, x85;
+  s_u64_u64 x692, x693, x694, x695, x748, x749, x752, x755, x759, x766, x970;
+  s_u8_u64 x801;
+  u128 x837, x842, x856, x891, x896, x910;
   _Alignas(8) u8 y0_[376];
-  Q const x725 = Q_OF(y0_);
-  Q const x942 = Q_OF(y0_);
-  Q const x926 = Q_OF(y0_);
-  Q const x862 = Q_OF(y0_);
-  Q const x808 = Q_OF(y0_);
-  Q const x948 = Q_OF(y0_);
-  Q const x671 = Q_OF(y0_);
-  Q const x766 = Q_OF(y0_);
-  Q const x802 = Q_OF(y0_);
+  Q const x742 = Q_OF(y0_);
+  Q const x960 = Q_OF(y0_);
+  Q const x943 = Q_OF(y0_);
+  Q const x879 = Q_OF(y0_);
+  Q const x825 = Q_OF(y0_);
+  Q const x783 = Q_OF(y0_);
+  Q const x819 = Q_OF(y0_);
   _Alignas(8) u8 y1_[360];
-  Q const x724 = Q_OF(y1_);
-  Q const x943 = Q_OF(y1_);
-  Q const x927 = Q_OF(y1_);
-  Q const x767 = Q_OF(y1_);
-  Q const x665 = Q_OF(y1_);
+  Q const x741 = Q_OF(y1_);
+  Q const x961 = Q_OF(y1_);
+  Q const x944 = Q_OF(y1_);
+  Q const x784 = Q_OF(y1_);
   _Alignas(8) u8 y2_[168];
-  Q const x690 = Q_OF(y2_);
-  Q const x945 = Q_OF(y2_);
-  Q const x929 = Q_OF(y2_);
-  Q const x666 = Q_OF(y2_);
+  Q const x707 = Q_OF(y2_);
+  Q const x963 = Q_OF(y2_);
+  Q const x946 = Q_OF(y2_);
   _Alignas(8) u8 y3_[168];
-  Q const x691 = Q_OF(y3_);
-  Q const x947 = Q_OF(y3_);
-  Q const x931 = Q_OF(y3_);
+  Q const x708 = Q_OF(y3_);
+  Q const x953 = Q_OF(y3_);
+  Q const x936 = Q_OF(y3_);
   _Alignas(8) u8 y4_[168];
-  Q const x698 = Q_OF(y4_);
-  Q const x935 = Q_OF(y4_);
-  Q const x919 = Q_OF(y4_);
+  Q const x715 = Q_OF(y4_);
+  Q const x954 = Q_OF(y4_);
+  Q const x937 = Q_OF(y4_);
   _Alignas(8) u8 y5_[168];
-  Q const x699 = Q_OF(y5_);
-  Q const x936 = Q_OF(y5_);
-  Q const x920 = Q_OF(y5_);
+  Q const x716 = Q_OF(y5_);
+  Q const x955 = Q_OF(y5_);
+  Q const x938 = Q_OF(y5_);
   _Alignas(8) u8 y6_[168];
-  Q const x706 = Q_OF(y6_);
-  Q const x937 = Q_OF(y6_);
-  Q const x921 = Q_OF(y6_);
+  Q const x723 = Q_OF(y6_);
+  Q const x956 = Q_OF(y6_);
+  Q const x939 = Q_OF(y6_);
   _Alignas(8) u8 y7_[168];
-  Q const x707 = Q_OF(y7_);
-  Q const x938 = Q_OF(y7_);
-  Q const x922 = Q_OF(y7_);
+  Q const x724 = Q_OF(y7_);
+  Q const x957 = Q_OF(y7_);
+  Q const x940 = Q_OF(y7_);
   _Alignas(8) u8 y8_[168];
-  Q const x630 = Q_OF(y8_);
-  Q const x939 = Q_OF(y8_);
-  Q const x923 = Q_OF(y8_);
+  Q const x641 = Q_OF(y8_);
+  Q const x958 = Q_OF(y8_);
+  Q const x941 = Q_OF(y8_);
   _Alignas(8) u8 y9_[168];
-  Q const x631 = Q_OF(y9_);
-  Q const x940 = Q_OF(y9_);
-  Q const x924 = Q_OF(y9_);
+  Q const x642 = Q_OF(y9_);
   _Alignas(8) u8 y10_[168];
-  Q const x642 = Q_OF(y10_);
+  Q const x648 = Q_OF(y10_);
   _Alignas(8) u8 y11_[168];
-  Q const x643 = Q_OF(y11_);
-  _Alignas(1) u8 y12_[168];
-  Q const x656 = Q_OF(y12_);
-  _Alignas(1) u8 y13_[168];
-  Q const x657 = Q_OF(y13_);
+  Q const x649 = Q_OF(y11_);
+  _Alignas(8) u8 y12_[168];
+  Q const x660 = Q_OF(y12_);
+  _Alignas(8) u8 y13_[168];
+  Q const x661 = Q_OF(y13_);
   _Alignas(1) u8 y14_[168];
-  Q const x583 = Q_OF(y14_);
+  Q const x674 = Q_OF(y14_);
   _Alignas(1) u8 y15_[168];
-  Q const x584 = Q_OF(y15_);
-  _Alignas(8) u8 y16_[168];
-  Q const x599 = Q_OF(y16_);
-  _Alignas(8) u8 y17_[168];
-  Q const x600 = Q_OF(y17_);
+  Q const x675 = Q_OF(y15_);
+  _Alignas(1) u8 y16_[168];
+  Q const x591 = Q_OF(y16_);
+  _Alignas(1) u8 y17_[168];
+  Q const x592 = Q_OF(y17_);
   _Alignas(8) u8 y18_[168];
-  Q const x539 = Q_OF(y18_);
+  Q const x608 = Q_OF(y18_);
   _Alignas(8) u8 y19_[168];
-  Q const x540 = Q_OF(y19_);
+  Q const x609 = Q_OF(y19_);
   _Alignas(8) u8 y20_[168];
-  Q const x555 = Q_OF(y20_);
+  Q const x544 = Q_OF(y20_);
   _Alignas(8) u8 y21_[168];
-  Q const x556 = Q_OF(y21_);
+  Q const x545 = Q_OF(y21_);
   _Alignas(8) u8 y22_[168];
-  Q const x566 = Q_OF(y22_);
+  Q const x561 = Q_OF(y22_);
   _Alignas(8) u8 y23_[168];
-  Q const x567 = Q_OF(y23_);
-  _Alignas(1) u8 y24_[119];
-  Q const x692 = Q_OF(y24_);
-  _Alignas(1) u8 y25_[119];
-  Q const x715 = Q_OF(y25_);
+  Q const x562 = Q_OF(y23_);
+  _Alignas(8) u8 y24_[168];
+  Q const x573 = Q_OF(y24_);
+  _Alignas(8) u8 y25_[168];
+  Q const x574 = Q_OF(y25_);
   _Alignas(1) u8 y26_[119];
-  Q const x644 = Q_OF(y26_);
+  Q const x709 = Q_OF(y26_);
   _Alignas(1) u8 y27_[119];
-  Q const x659 = Q_OF(y27_);
+  Q const x732 = Q_OF(y27_);
   _Alignas(1) u8 y28_[119];
-  Q const x586 = Q_OF(y28_);
+  Q const x662 = Q_OF(y28_);
   _Alignas(1) u8 y29_[119];
-  Q const x602 = Q_OF(y29_);
+  Q const x677 = Q_OF(y29_);
   _Alignas(1) u8 y30_[119];
-  Q const x542 = Q_OF(y30_);
+  Q const x594 = Q_OF(y30_);
   _Alignas(1) u8 y31_[119];
-  Q const x558 = Q_OF(y31_);
-  _Alignas(8) u8 y32_[112];
-  Q const x700 = Q_OF(y32_);
-  _Alignas(8) u8 y33_[112];
-  Q const x708 = Q_OF(y33_);
-  _Alignas(8) u8 y34_[88];
-  Q const x561 = Q_OF(y34_);
-  _Alignas(1) u8 y35_[79];
-  Q const x632 = Q_OF(y35_);
+  Q const x611 = Q_OF(y31_);
+  _Alignas(1) u8 y32_[119];
+  Q const x547 = Q_OF(y32_);
+  _Alignas(1) u8 y33_[119];
+  Q const x564 = Q_OF(y33_);
+  _Alignas(8) u8 y34_[112];
+  Q const x717 = Q_OF(y34_);
+  _Alignas(8) u8 y35_[112];
+  Q const x725 = Q_OF(y35_);
   _Alignas(8) u8 y36_[72];
-  Q const x723 = Q_OF(y36_);
-  _Alignas(8) u8 y37_[72];
-  Q const x626 = Q_OF(y37_);
-  _Alignas(1) u8 y38_[72];
-  Q const x661 = Q_OF(y38_);
-  _Alignas(1) u8 y39_[72];
-  Q const x588 = Q_OF(y39_);
-  _Alignas(8) u8 y40_[72];
-  Q const x604 = Q_OF(y40_);
-  _Alignas(1) u8 y41_[72];
-  Q const x544 = Q_OF(y41_);
-  _Alignas(8) u8 y42_[72];
-  Q const x560 = Q_OF(y42_);
-  _Alignas(8) u8 y43_[72];
-  Q const x562 = Q_OF(y43_);
-  _Alignas(8) u8 y44_[64];
-  Q const x747 = Q_OF(y44_);
-  Q const x739 = Q_OF(y44_);
-  Q const x729 = Q_OF(y44_);
-  _Alignas(8) u8 y45_[64];
-  Q const x740 = Q_OF(y45_);
+  Q const x740 = Q_OF(y36_);
+  _Alignas(8) u8 y37_[64];
+  Q const x764 = Q_OF(y37_);
+  Q const x756 = Q_OF(y37_);
+  Q const x746 = Q_OF(y37_);
+  _Alignas(8) u8 y38_[64];
+  Q const x757 = Q_OF(y38_);
+  _Alignas(8) u8 y39_[56];
+  Q const x753 = Q_OF(y39_);
+  _Alignas(8) u8 y40_[56];
+  Q const x734 = Q_OF(y40_);
+  _Alignas(8) u8 y41_[56];
+  Q const x735 = Q_OF(y41_);
+  _Alignas(8) u8 y42_[56];
+  Q const x736 = Q_OF(y42_);
+  _Alignas(8) u8 y43_[56];
+  Q const x737 = Q_OF(y43_);
+  _Alignas(8) u8 y44_[56];
+  Q const x738 = Q_OF(y44_);
+  _Alignas(8) u8 y45_[56];
+  Q const x739 = Q_OF(y45_);
   _Alignas(8) u8 y46_[56];
-  Q const x736 = Q_OF(y46_);
+  Q const x700 = Q_OF(y46_);
   _Alignas(8) u8 y47_[56];
-  Q const x717 = Q_OF(y47_);
+  Q const x701 = Q_OF(y47_);
   _Alignas(8) u8 y48_[56];
-  Q const x718 = Q_OF(y48_);
+  Q const x702 = Q_OF(y48_);
   _Alignas(8) u8 y49_[56];
-  Q const x719 = Q_OF(y49_);
+  Q const x703 = Q_OF(y49_);
   _Alignas(8) u8 y50_[56];
-  Q const x720 = Q_OF(y50_);
+  Q const x711 = Q_OF(y50_);
   _Alignas(8) u8 y51_[56];
-  Q const x721 = Q_OF(y51_);
+  Q const x719 = Q_OF(y51_);
   _Alignas(8) u8 y52_[56];
-  Q const x722 = Q_OF(y52_);
+  Q const x720 = Q_OF(y52_);
   _Alignas(8) u8 y53_[56];
-  Q const x683 = Q_OF(y53_);
+  Q const x721 = Q_OF(y53_);
   _Alignas(8) u8 y54_[56];
-  Q const x684 = Q_OF(y54_);
+  Q const x728 = Q_OF(y54_);
   _Alignas(8) u8 y55_[56];
-  Q const x685 = Q_OF(y55_);
+  Q const x729 = Q_OF(y55_);
   _Alignas(8) u8 y56_[56];
-  Q const x686 = Q_OF(y56_);
+  Q const x730 = Q_OF(y56_);
   _Alignas(8) u8 y57_[56];
-  Q const x694 = Q_OF(y57_);
+  Q const x634 = Q_OF(y57_);
   _Alignas(8) u8 y58_[56];
-  Q const x702 = Q_OF(y58_);
+  Q const x635 = Q_OF(y58_);
   _Alignas(8) u8 y59_[56];
-  Q const x703 = Q_OF(y59_);
+  Q const x636 = Q_OF(y59_);
   _Alignas(8) u8 y60_[56];
-  Q const x704 = Q_OF(y60_);
+  Q const x637 = Q_OF(y60_);
   _Alignas(8) u8 y61_[56];
-  Q const x711 = Q_OF(y61_);
+  Q const x645 = Q_OF(y61_);
   _Alignas(8) u8 y62_[56];
-  Q const x712 = Q_OF(y62_);
+  Q const x646 = Q_OF(y62_);
   _Alignas(8) u8 y63_[56];
-  Q const x713 = Q_OF(y63_);
+  Q const x647 = Q_OF(y63_);
   _Alignas(8) u8 y64_[56];
-  Q const x624 = Q_OF(y64_);
+  Q const x653 = Q_OF(y64_);
   _Alignas(8) u8 y65_[56];
-  Q const x625 = Q_OF(y65_);
+  Q const x654 = Q_OF(y65_);
   _Alignas(8) u8 y66_[56];
-  Q const x627 = Q_OF(y66_);
+  Q const x655 = Q_OF(y66_);
   _Alignas(8) u8 y67_[56];
-  Q const x628 = Q_OF(y67_);
-  _Alignas(8) u8 y68_[56];
-  Q const x629 = Q_OF(y68_);
-  _Alignas(8) u8 y69_[56];
-  Q const x635 = Q_OF(y69_);
-  _Alignas(8) u8 y70_[56];
-  Q const x636 = Q_OF(y70_);
-  _Alignas(8) u8 y71_[56];
-  Q const x637 = Q_OF(y71_);
-  _Alignas(8) u8 y72_[56];
-  Q const x638 = Q_OF(y72_);
+  Q const x656 = Q_OF(y67_);
+  _Alignas(1) u8 y68_[56];
+  Q const x667 = Q_OF(y68_);
+  _Alignas(1) u8 y69_[56];
+  Q const x668 = Q_OF(y69_);
+  _Alignas(1) u8 y70_[56];
+  Q const x669 = Q_OF(y70_);
+  _Alignas(1) u8 y71_[56];
+  Q const x670 = Q_OF(y71_);
+  _Alignas(1) u8 y72_[56];
+  Q const x584 = Q_OF(y72_);
   _Alignas(1) u8 y73_[56];
-  Q const x649 = Q_OF(y73_);
+  Q const x585 = Q_OF(y73_);
   _Alignas(1) u8 y74_[56];
-  Q const x650 = Q_OF(y74_);
+  Q const x586 = Q_OF(y74_);
   _Alignas(1) u8 y75_[56];
-  Q const x651 = Q_OF(y75_);
-  _Alignas(1) u8 y76_[56];
-  Q const x652 = Q_OF(y76_);
-  _Alignas(1) u8 y77_[56];
-  Q const x576 = Q_OF(y77_);
-  _Alignas(1) u8 y78_[56];
-  Q const x577 = Q_OF(y78_);
-  _Alignas(1) u8 y79_[56];
-  Q const x578 = Q_OF(y79_);
-  _Alignas(1) u8 y80_[56];
-  Q const x579 = Q_OF(y80_);
+  Q const x587 = Q_OF(y75_);
+  _Alignas(8) u8 y76_[56];
+  Q const x601 = Q_OF(y76_);
+  _Alignas(8) u8 y77_[56];
+  Q const x602 = Q_OF(y77_);
+  _Alignas(8) u8 y78_[56];
+  Q const x603 = Q_OF(y78_);
+  _Alignas(8) u8 y79_[56];
+  Q const x604 = Q_OF(y79_);
+  _Alignas(8) u8 y80_[56];
+  Q const x537 = Q_OF(y80_);
   _Alignas(8) u8 y81_[56];
-  Q const x592 = Q_OF(y81_);
+  Q const x538 = Q_OF(y81_);
   _Alignas(8) u8 y82_[56];
-  Q const x593 = Q_OF(y82_);
+  Q const x539 = Q_OF(y82_);
   _Alignas(8) u8 y83_[56];
-  Q const x594 = Q_OF(y83_);
+  Q const x540 = Q_OF(y83_);
   _Alignas(8) u8 y84_[56];
-  Q const x595 = Q_OF(y84_);
+  Q const x554 = Q_OF(y84_);
   _Alignas(8) u8 y85_[56];
-  Q const x532 = Q_OF(y85_);
+  Q const x555 = Q_OF(y85_);
   _Alignas(8) u8 y86_[56];
-  Q const x533 = Q_OF(y86_);
+  Q const x556 = Q_OF(y86_);
   _Alignas(8) u8 y87_[56];
-  Q const x534 = Q_OF(y87_);
+  Q const x557 = Q_OF(y87_);
   _Alignas(8) u8 y88_[56];
-  Q const x535 = Q_OF(y88_);
+  Q const x570 = Q_OF(y88_);
   _Alignas(8) u8 y89_[56];
-  Q const x548 = Q_OF(y89_);
+  Q const x571 = Q_OF(y89_);
   _Alignas(8) u8 y90_[56];
-  Q const x549 = Q_OF(y90_);
+  Q const x572 = Q_OF(y90_);
   _Alignas(8) u8 y91_[56];
-  Q const x550 = Q_OF(y91_);
+  Q const x575 = Q_OF(y91_);
   _Alignas(8) u8 y92_[56];
-  Q const x551 = Q_OF(y92_);
+  Q const x576 = Q_OF(y92_);
   _Alignas(8) u8 y93_[56];
-  Q const x563 = Q_OF(y93_);
-  _Alignas(8) u8 y94_[56];
-  Q const x564 = Q_OF(y94_);
-  _Alignas(8) u8 y95_[56];
-  Q const x565 = Q_OF(y95_);
-  _Alignas(8) u8 y96_[56];
-  Q const x568 = Q_OF(y96_);
-  _Alignas(8) u8 y97_[56];
-  Q const x569 = Q_OF(y97_);
-  _Alignas(8) u8 y98_[56];
-  Q const x570 = Q_OF(y98_);
+  Q const x577 = Q_OF(y93_);
+  _Alignas(1) u8 y94_[39];
+  Q const x704 = Q_OF(y94_);
+  _Alignas(1) u8 y95_[39];
+  Q const x705 = Q_OF(y95_);
+  _Alignas(1) u8 y96_[39];
+  Q const x712 = Q_OF(y96_);
+  _Alignas(1) u8 y97_[39];
+  Q const x713 = Q_OF(y97_);
+  _Alignas(1) u8 y98_[39];
+  Q const x638 = Q_OF(y98_);
   _Alignas(1) u8 y99_[39];
-  Q const x687 = Q_OF(y99_);
+  Q const x639 = Q_OF(y99_);
   _Alignas(1) u8 y100_[39];
-  Q const x688 = Q_OF(y100_);
+  Q const x657 = Q_OF(y100_);
   _Alignas(1) u8 y101_[39];
-  Q const x695 = Q_OF(y101_);
+  Q const x658 = Q_OF(y101_);
   _Alignas(1) u8 y102_[39];
-  Q const x696 = Q_OF(y102_);
+  Q const x671 = Q_OF(y102_);
   _Alignas(1) u8 y103_[39];
-  Q const x639 = Q_OF(y103_);
+  Q const x672 = Q_OF(y103_);
   _Alignas(1) u8 y104_[39];
-  Q const x640 = Q_OF(y104_);
+  Q const x588 = Q_OF(y104_);
   _Alignas(1) u8 y105_[39];
-  Q const x653 = Q_OF(y105_);
+  Q const x589 = Q_OF(y105_);
   _Alignas(1) u8 y106_[39];
-  Q const x654 = Q_OF(y106_);
+  Q const x605 = Q_OF(y106_);
   _Alignas(1) u8 y107_[39];
-  Q const x580 = Q_OF(y107_);
+  Q const x606 = Q_OF(y107_);
   _Alignas(1) u8 y108_[39];
-  Q const x581 = Q_OF(y108_);
+  Q const x541 = Q_OF(y108_);
   _Alignas(1) u8 y109_[39];
-  Q const x596 = Q_OF(y109_);
+  Q const x542 = Q_OF(y109_);
   _Alignas(1) u8 y110_[39];
-  Q const x597 = Q_OF(y110_);
+  Q const x558 = Q_OF(y110_);
   _Alignas(1) u8 y111_[39];
-  Q const x536 = Q_OF(y111_);
-  _Alignas(1) u8 y112_[39];
-  Q const x537 = Q_OF(y112_);
-  _Alignas(1) u8 y113_[39];
-  Q const x552 = Q_OF(y113_);
-  _Alignas(1) u8 y114_[39];
-  Q const x553 = Q_OF(y114_);
+  Q const x559 = Q_OF(y111_);
+  _Alignas(1) u8 y112_[31];
+  Q const x688 = Q_OF(y112_);
+  _Alignas(1) u8 y113_[25];
+  Q const x962 = Q_OF(y113_);
+  _Alignas(1) u8 y114_[25];
+  Q const x945 = Q_OF(y114_);
   _Alignas(1) u8 y115_[25];
-  Q const x944 = Q_OF(y115_);
+  Q const x676 = Q_OF(y115_);
   _Alignas(1) u8 y116_[25];
-  Q const x928 = Q_OF(y116_);
-  _Alignas(1) u8 y117_[25];
-  Q const x658 = Q_OF(y117_);
-  _Alignas(1) u8 y118_[25];
-  Q const x585 = Q_OF(y118_);
+  Q const x593 = Q_OF(y116_);
+  _Alignas(8) u8 y117_[25];
+  Q const x610 = Q_OF(y117_);
+  _Alignas(8) u8 y118_[25];
+  Q const x546 = Q_OF(y118_);
   _Alignas(8) u8 y119_[25];
-  Q const x601 = Q_OF(y119_);
-  _Alignas(8) u8 y120_[25];
-  Q const x541 = Q_OF(y120_);
-  _Alignas(8) u8 y121_[25];
-  Q const x557 = Q_OF(y121_);
-  _Alignas(8) u8 y122_[24];
-  Q const x774 = Q_OF(y122_);
+  Q const x563 = Q_OF(y119_);
+  _Alignas(8) u8 y120_[24];
+  Q const x969 = Q_OF(y120_);
+  _Alignas(1) u8 y121_[24];
+  Q const x966 = Q_OF(y121_);
+  _Alignas(1) u8 y122_[24];
+  Q const x949 = Q_OF(y122_);
   _Alignas(8) u8 y123_[24];
-  Q const x795 = Q_OF(y123_);
+  Q const x791 = Q_OF(y123_);
   _Alignas(8) u8 y124_[24];
-  Q const x785 = Q_OF(y124_);
+  Q const x812 = Q_OF(y124_);
   _Alignas(8) u8 y125_[24];
-  Q const x787 = Q_OF(y125_);
+  Q const x802 = Q_OF(y125_);
   _Alignas(8) u8 y126_[24];
-  Q const x780 = Q_OF(y126_);
+  Q const x804 = Q_OF(y126_);
   _Alignas(8) u8 y127_[24];
-  Q const x771 = Q_OF(y127_);
+  Q const x797 = Q_OF(y127_);
   _Alignas(8) u8 y128_[24];
-  Q const x726 = Q_OF(y128_);
+  Q const x788 = Q_OF(y128_);
   _Alignas(8) u8 y129_[24];
-  Q const x727 = Q_OF(y129_);
+  Q const x743 = Q_OF(y129_);
   _Alignas(8) u8 y130_[24];
-  Q const x728 = Q_OF(y130_);
+  Q const x744 = Q_OF(y130_);
   _Alignas(8) u8 y131_[24];
-  Q const x669 = Q_OF(y131_);
+  Q const x745 = Q_OF(y131_);
   _Alignas(8) u8 y132_[24];
-  Q const x662 = Q_OF(y132_);
+  Q const x684 = Q_OF(y132_);
   _Alignas(8) u8 y133_[24];
-  Q const x663 = Q_OF(y133_);
+  Q const x644 = Q_OF(y133_);
   _Alignas(8) u8 y134_[24];
-  Q const x664 = Q_OF(y134_);
-  _Alignas(8) u8 y135_[24];
-  Q const x571 = Q_OF(y135_);
+  Q const x650 = Q_OF(y134_);
+  _Alignas(1) u8 y135_[24];
+  Q const x680 = Q_OF(y135_);
   _Alignas(8) u8 y136_[24];
-  Q const x572 = Q_OF(y136_);
-  _Alignas(1) u8 y137_[16];
-  Q const x941 = Q_OF(y137_);
-  _Alignas(1) u8 y138_[16];
-  Q const x946 = Q_OF(y138_);
-  _Alignas(1) u8 y139_[16];
-  Q const x925 = Q_OF(y139_);
-  _Alignas(1) u8 y140_[16];
-  Q const x930 = Q_OF(y140_);
-  _Alignas(8) u8 y141_[16];
-  Q const x769 = Q_OF(y141_);
-  _Alignas(1) u8 y142_[16];
-  Q const x768 = Q_OF(y142_);
-  _Alignas(8) u8 y143_[16];
-  Q const x689 = Q_OF(y143_);
-  _Alignas(1) u8 y144_[16];
-  Q const x693 = Q_OF(y144_);
-  _Alignas(8) u8 y145_[16];
-  Q const x697 = Q_OF(y145_);
-  _Alignas(8) u8 y146_[16];
-  Q const x701 = Q_OF(y146_);
+  Q const x681 = Q_OF(y136_);
+  _Alignas(8) u8 y137_[24];
+  Q const x682 = Q_OF(y137_);
+  _Alignas(8) u8 y138_[24];
+  Q const x683 = Q_OF(y138_);
+  _Alignas(1) u8 y139_[24];
+  Q const x597 = Q_OF(y139_);
+  _Alignas(8) u8 y140_[24];
+  Q const x614 = Q_OF(y140_);
+  _Alignas(1) u8 y141_[24];
+  Q const x550 = Q_OF(y141_);
+  _Alignas(8) u8 y142_[24];
+  Q const x567 = Q_OF(y142_);
+  _Alignas(8) u8 y143_[24];
+  Q const x569 = Q_OF(y143_);
+  _Alignas(8) u8 y144_[24];
+  Q const x578 = Q_OF(y144_);
+  _Alignas(8) u8 y145_[24];
+  Q const x579 = Q_OF(y145_);
+  _Alignas(8) u8 y146_[24];
+  Q const x580 = Q_OF(y146_);
   _Alignas(8) u8 y147_[16];
-  Q const x705 = Q_OF(y147_);
+  Q const x967 = Q_OF(y147_);
   _Alignas(8) u8 y148_[16];
-  Q const x709 = Q_OF(y148_);
-  _Alignas(8) u8 y149_[16];
-  Q const x641 = Q_OF(y149_);
+  Q const x968 = Q_OF(y148_);
+  _Alignas(1) u8 y149_[16];
+  Q const x959 = Q_OF(y149_);
   _Alignas(1) u8 y150_[16];
-  Q const x645 = Q_OF(y150_);
+  Q const x964 = Q_OF(y150_);
   _Alignas(1) u8 y151_[16];
-  Q const x655 = Q_OF(y151_);
+  Q const x965 = Q_OF(y151_);
   _Alignas(1) u8 y152_[16];
-  Q const x660 = Q_OF(y152_);
-  _Alignas(8) u8 y153_[16];
-  Q const x615 = Q_OF(y153_);
+  Q const x942 = Q_OF(y152_);
+  _Alignas(1) u8 y153_[16];
+  Q const x947 = Q_OF(y153_);
   _Alignas(1) u8 y154_[16];
-  Q const x582 = Q_OF(y154_);
-  _Alignas(1) u8 y155_[16];
-  Q const x587 = Q_OF(y155_);
-  _Alignas(8) u8 y156_[16];
-  Q const x598 = Q_OF(y156_);
+  Q const x948 = Q_OF(y154_);
+  _Alignas(8) u8 y155_[16];
+  Q const x786 = Q_OF(y155_);
+  _Alignas(1) u8 y156_[16];
+  Q const x785 = Q_OF(y156_);
   _Alignas(8) u8 y157_[16];
-  Q const x603 = Q_OF(y157_);
-  _Alignas(8) u8 y158_[16];
-  Q const x538 = Q_OF(y158_);
-  _Alignas(1) u8 y159_[16];
-  Q const x543 = Q_OF(y159_);
+  Q const x706 = Q_OF(y157_);
+  _Alignas(1) u8 y158_[16];
+  Q const x710 = Q_OF(y158_);
+  _Alignas(8) u8 y159_[16];
+  Q const x714 = Q_OF(y159_);
   _Alignas(8) u8 y160_[16];
-  Q const x554 = Q_OF(y160_);
+  Q const x718 = Q_OF(y160_);
   _Alignas(8) u8 y161_[16];
-  Q const x559 = Q_OF(y161_);
-  _Alignas(1) u8 y162_[5];
-  Q const x932 = Q_OF(y162_);
-  _Alignas(1) u8 y163_[5];
-  Q const x933 = Q_OF(y163_);
-  _Alignas(1) u8 y164_[5];
-  Q const x916 = Q_OF(y164_);
-  _Alignas(1) u8 y165_[5];
-  Q const x917 = Q_OF(y165_);
-  _Alignas(1) u8 y166_[5];
-  Q const x681 = Q_OF(y166_);
-  _Alignas(1) u8 y167_[5];
-  Q const x714 = Q_OF(y167_);
-  _Alignas(1) u8 y168_[5];
-  Q const x621 = Q_OF(y168_);
-  _Alignas(1) u8 y169_[5];
-  Q const x622 = Q_OF(y169_);
-  _Alignas(1) u8 y170_[5];
-  Q const x620 = Q_OF(y170_);
-  _Alignas(1) u8 y171_[5];
-  Q const x633 = Q_OF(y171_);
-  _Alignas(1) u8 y172_[5];
-  Q const x646 = Q_OF(y172_);
-  _Alignas(1) u8 y173_[5];
-  Q const x647 = Q_OF(y173_);
-  _Alignas(1) u8 y174_[5];
-  Q const x573 = Q_OF(y174_);
-  _Alignas(1) u8 y175_[5];
-  Q const x574 = Q_OF(y175_);
-  _Alignas(2) u8 y176_[5];
-  Q const x589 = Q_OF(y176_);
-  _Alignas(1) u8 y177_[5];
-  Q const x590 = Q_OF(y177_);
-  _Alignas(2) u8 y178_[5];
-  Q const x529 = Q_OF(y178_);
-  _Alignas(1) u8 y179_[5];
-  Q const x530 = Q_OF(y179_);
-  _Alignas(2) u8 y180_[5];
-  Q const x545 = Q_OF(y180_);
-  _Alignas(1) u8 y181_[5];
-  Q const x546 = Q_OF(y181_);
-  _Alignas(1) u8 y182_[3];
-  Q const x934 = Q_OF(y182_);
-  _Alignas(1) u8 y183_[3];
-  Q const x918 = Q_OF(y183_);
-  _Alignas(1) u8 y184_[3];
-  Q const x682 = Q_OF(y184_);
-  _Alignas(1) u8 y185_[3];
-  Q const x710 = Q_OF(y185_);
-  _Alignas(1) u8 y186_[3];
-  Q const x623 = Q_OF(y186_);
-  _Alignas(1) u8 y187_[3];
-  Q const x634 = Q_OF(y187_);
-  _Alignas(1) u8 y188_[3];
-  Q const x648 = Q_OF(y188_);
-  _Alignas(1) u8 y189_[3];
-  Q const x575 = Q_OF(y189_);
-  _Alignas(1) u8 y190_[3];
-  Q const x591 = Q_OF(y190_);
-  _Alignas(1) u8 y191_[3];
-  Q const x531 = Q_OF(y191_);
-  _Alignas(1) u8 y192_[3];
-  Q const x547 = Q_OF(y192_);
-  _Alignas(8) u8 y193_[1];
-  Q const x25 = Q_OF(y193_);
-  MEMSET(x529, 0u, 5);
-  MEMSET(x530, 0u, 5);
-  MEMSET(x531, 0u, 3);
-  MEMSET(x532, 0u, 56);
-  MEMSET(x533, 0u, 56);
-  MEMSET(x534, 0u, 56);
-  MEMSET(x535, 0u, 56);
-  MEMSET(x536, 0u, 39);
-  MEMSET(x537, 0u, 39);
-  MEMSET(x538, 0u, 16);
-  MEMSET(x539, 0u, 168);
-  MEMSET(x540, 0u, 168);
-  MEMSET(x541, 0u, 25);
-  MEMSET(x542, 0u, 119);
+  Q const x722 = Q_OF(y161_);
+  _Alignas(8) u8 y162_[16];
+  Q const x726 = Q_OF(y162_);
+  _Alignas(8) u8 y163_[16];
+  Q const x640 = Q_OF(y163_);
+  _Alignas(8) u8 y164_[16];
+  Q const x643 = Q_OF(y164_);
+  _Alignas(8) u8 y165_[16];
+  Q const x659 = Q_OF(y165_);
+  _Alignas(1) u8 y166_[16];
+  Q const x663 = Q_OF(y166_);
+  _Alignas(1) u8 y167_[16];
+  Q const x673 = Q_OF(y167_);
+  _Alignas(1) u8 y168_[16];
+  Q const x678 = Q_OF(y168_);
+  _Alignas(1) u8 y169_[16];
+  Q const x679 = Q_OF(y169_);
+  _Alignas(8) u8 y170_[16];
+  Q const x625 = Q_OF(y170_);
+  _Alignas(1) u8 y171_[16];
+  Q const x590 = Q_OF(y171_);
+  _Alignas(1) u8 y172_[16];
+  Q const x595 = Q_OF(y172_);
+  _Alignas(1) u8 y173_[16];
+  Q const x596 = Q_OF(y173_);
+  _Alignas(8) u8 y174_[16];
+  Q const x607 = Q_OF(y174_);
+  _Alignas(8) u8 y175_[16];
+  Q const x612 = Q_OF(y175_);
+  _Alignas(8) u8 y176_[16];
+  Q const x613 = Q_OF(y176_);
+  _Alignas(8) u8 y177_[16];
+  Q const x543 = Q_OF(y177_);
+  _Alignas(1) u8 y178_[16];
+  Q const x548 = Q_OF(y178_);
+  _Alignas(1) u8 y179_[16];
+  Q const x549 = Q_OF(y179_);
+  _Alignas(8) u8 y180_[16];
+  Q const x560 = Q_OF(y180_);
+  _Alignas(8) u8 y181_[16];
+  Q const x565 = Q_OF(y181_);
+  _Alignas(8) u8 y182_[16];
+  Q const x566 = Q_OF(y182_);
+  _Alignas(8) u8 y183_[16];
+  Q const x568 = Q_OF(y183_);
+  _Alignas(1) u8 y184_[5];
+  Q const x950 = Q_OF(y184_);
+  _Alignas(1) u8 y185_[5];
+  Q const x951 = Q_OF(y185_);
+  _Alignas(1) u8 y186_[5];
+  Q const x933 = Q_OF(y186_);
+  _Alignas(1) u8 y187_[5];
+  Q const x934 = Q_OF(y187_);
+  _Alignas(1) u8 y188_[5];
+  Q const x698 = Q_OF(y188_);
+  _Alignas(1) u8 y189_[5];
+  Q const x731 = Q_OF(y189_);
+  _Alignas(1) u8 y190_[5];
+  Q const x631 = Q_OF(y190_);
+  _Alignas(1) u8 y191_[5];
+  Q const x632 = Q_OF(y191_);
+  _Alignas(1) u8 y192_[5];
+  Q const x630 = Q_OF(y192_);
+  _Alignas(1) u8 y193_[5];
+  Q const x651 = Q_OF(y193_);
+  _Alignas(1) u8 y194_[5];
+  Q const x664 = Q_OF(y194_);
+  _Alignas(1) u8 y195_[5];
+  Q const x665 = Q_OF(y195_);
+  _Alignas(1) u8 y196_[5];
+  Q const x581 = Q_OF(y196_);
+  _Alignas(1) u8 y197_[5];
+  Q const x582 = Q_OF(y197_);
+  _Alignas(2) u8 y198_[5];
+  Q const x598 = Q_OF(y198_);
+  _Alignas(1) u8 y199_[5];
+  Q const x599 = Q_OF(y199_);
+  _Alignas(2) u8 y200_[5];
+  Q const x534 = Q_OF(y200_);
+  _Alignas(1) u8 y201_[5];
+  Q const x535 = Q_OF(y201_);
+  _Alignas(2) u8 y202_[5];
+  Q const x551 = Q_OF(y202_);
+  _Alignas(1) u8 y203_[5];
+  Q const x552 = Q_OF(y203_);
+  _Alignas(1) u8 y204_[3];
+  Q const x952 = Q_OF(y204_);
+  _Alignas(1) u8 y205_[3];
+  Q const x935 = Q_OF(y205_);
+  _Alignas(1) u8 y206_[3];
+  Q const x699 = Q_OF(y206_);
+  _Alignas(1) u8 y207_[3];
+  Q const x727 = Q_OF(y207_);
+  _Alignas(1) u8 y208_[3];
+  Q const x633 = Q_OF(y208_);
+  _Alignas(1) u8 y209_[3];
+  Q const x652 = Q_OF(y209_);
+  _Alignas(1) u8 y210_[3];
+  Q const x666 = Q_OF(y210_);
+  _Alignas(1) u8 y211_[3];
+  Q const x583 = Q_OF(y211_);
+  _Alignas(1) u8 y212_[3];
+  Q const x600 = Q_OF(y212_);
+  _Alignas(1) u8 y213_[3];
+  Q const x536 = Q_OF(y213_);
+  _Alignas(1) u8 y214_[3];
+  Q const x553 = Q_OF(y214_);
+  _Alignas(8) u8 y215_[1];
+  Q const x25 = Q_OF(y215_);
+  MEMSET(x534, 0u, 5);
+  MEMSET(x535, 0u, 5);
+  MEMSET(x536, 0u, 3);
+  MEMSET(x537, 0u, 56);
+  MEMSET(x538, 0u, 56);
+  MEMSET(x539, 0u, 56);
+  MEMSET(x540, 0u, 56);
+  MEMSET(x541, 0u, 39);
+  MEMSET(x542, 0u, 39);
   MEMSET(x543, 0u, 16);
-  MEMSET(x544, 0u, 72);
-  MEMSET(x545, 0u, 5);
-  MEMSET(x546, 0u, 5);
-  MEMSET(x547, 0u, 3);
-  MEMSET(x548, 0u, 56);
-  MEMSET(x549, 0u, 56);
-  MEMSET(x550, 0u, 56);
-  MEMSET(x551, 0u, 56);
-  MEMSET(x552, 0u, 39);
-  MEMSET(x553, 0u, 39);
-  MEMSET(x554, 0u, 16);
-  MEMSET(x555, 0u, 168);
-  MEMSET(x556, 0u, 168);
-  MEMSET(x557, 0u, 25);
-  MEMSET(x558, 0u, 119);
-  MEMSET(x559, 0u, 16);
-  MEMSET(x560, 0u, 72);
-  MEMSET(x561, 0u, 88);
-  MEMSET(x562, 0u, 72);
-  MEMSET(x563, 0u, 56);
-  MEMSET(x564, 0u, 56);
-  MEMSET(x565, 0u, 56);
-  MEMSET(x566, 0u, 168);
-  MEMSET(x567, 0u, 168);
-  MEMSET(x568, 0u, 56);
-  MEMSET(x569, 0u, 56);
+  MEMSET(x544, 0u, 168);
+  MEMSET(x545, 0u, 168);
+  MEMSET(x546, 0u, 25);
+  MEMSET(x547, 0u, 119);
+  MEMSET(x548, 0u, 16);
+  MEMSET(x549, 0u, 16);
+  MEMSET(x550, 0u, 24);
+  MEMSET(x551, 0u, 5);
+  MEMSET(x552, 0u, 5);
+  MEMSET(x553, 0u, 3);
+  MEMSET(x554, 0u, 56);
+  MEMSET(x555, 0u, 56);
+  MEMSET(x556, 0u, 56);
+  MEMSET(x557, 0u, 56);
+  MEMSET(x558, 0u, 39);
+  MEMSET(x559, 0u, 39);
+  MEMSET(x560, 0u, 16);
+  MEMSET(x561, 0u, 168);
+  MEMSET(x562, 0u, 168);
+  MEMSET(x563, 0u, 25);
+  MEMSET(x564, 0u, 119);
+  MEMSET(x565, 0u, 16);
+  MEMSET(x566, 0u, 16);
+  MEMSET(x567, 0u, 24);
+  MEMSET(x568, 0u, 16);
+  MEMSET(x569, 0u, 24);
   MEMSET(x570, 0u, 56);
-  MEMSET(x571, 0u, 24);
-  MEMSET(x572, 0u, 24);
-  MEMSET(x573, 0u, 5);
-  MEMSET(x574, 0u, 5);
-  MEMSET(x575, 0u, 3);
+  MEMSET(x571, 0u, 56);
+  MEMSET(x572, 0u, 56);
+  MEMSET(x573, 0u, 168);
+  MEMSET(x574, 0u, 168);
+  MEMSET(x575, 0u, 56);
   MEMSET(x576, 0u, 56);
   MEMSET(x577, 0u, 56);
-  MEMSET(x578, 0u, 56);
-  MEMSET(x579, 0u, 56);
-  MEMSET(x580, 0u, 39);
-  MEMSET(x581, 0u, 39);
-  MEMSET(x582, 0u, 16);
-  MEMSET(x583, 0u, 168);
-  MEMSET(x584, 0u, 168);
-  MEMSET(x585, 0u, 25);
-  MEMSET(x586, 0u, 119);
-  MEMSET(x587, 0u, 16);
-  MEMSET(x588, 0u, 72);
-  MEMSET(x589, 0u, 5);
-  MEMSET(x590, 0u, 5);
-  MEMSET(x591, 0u, 3);
-  MEMSET(x592, 0u, 56);
-  MEMSET(x593, 0u, 56);
-  MEMSET(x594, 0u, 56);
-  MEMSET(x595, 0u, 56);
-  MEMSET(x596, 0u, 39);
-  MEMSET(x597, 0u, 39);
-  MEMSET(x598, 0u, 16);
-  MEMSET(x599, 0u, 168);
-  MEMSET(x600, 0u, 168);
-  MEMSET(x601, 0u, 25);
-  MEMSET(x602, 0u, 119);
-  MEMSET(x603, 0u, 16);
-  MEMSET(x604, 0u, 72);
-  x605 = ld32_1(x0);
-  x606 = (u64)x605;
-  x607 = (u32)((u32)x605 >> 8);
-  x608 = (u32)((ldn(FAR(x0, 4), 3)) & 16777215u);
+  MEMSET(x578, 0u, 24);
+  MEMSET(x579, 0u, 24);
+  MEMSET(x580, 0u, 24);
+  MEMSET(x581, 0u, 5);
+  MEMSET(x582, 0u, 5);
+  MEMSET(x583, 0u, 3);
+  MEMSET(x584, 0u, 56);
+  MEMSET(x585, 0u, 56);
+  MEMSET(x586, 0u, 56);
+  MEMSET(x587, 0u, 56);
+  MEMSET(x588, 0u, 39);
+  MEMSET(x589, 0u, 39);
+  MEMSET(x590, 0u, 16);
+  MEMSET(x591, 0u, 168);
+  MEMSET(x592, 0u, 168);
+  MEMSET(x593, 0u, 25);
+  MEMSET(x594, 0u, 119);
+  MEMSET(x595, 0u, 16);
+  MEMSET(x596, 0u, 16);
+  MEMSET(x597, 0u, 24);
+  MEMSET(x598, 0u, 5);
+  MEMSET(x599, 0u, 5);
+  MEMSET(x600, 0u, 3);
+  MEMSET(x601, 0u, 56);
+  MEMSET(x602, 0u, 56);
+  MEMSET(x603, 0u, 56);
+  MEMSET(x604, 0u, 56);
+  MEMSET(x605, 0u, 39);
+  MEMSET(x606, 0u, 39);
+  MEMSET(x607, 0u, 16);
+  MEMSET(x608, 0u, 168);
+  MEMSET(x609, 0u, 168);
+  MEMSET(x610, 0u, 25);
+  MEMSET(x611, 0u, 119);
+  MEMSET(x612, 0u, 16);
+  MEMSET(x613, 0u, 16);
+  MEMSET(x614, 0u, 24);
+  x615 = ld32_1(x0);
+  x616 = (u64)x615;
+  x617 = (u32)((u32)x615 >> 8);
+  x618 = (u32)((ldn(FAR(x0, 4), 3)) & 16777215u);
   x101 = ld64_8(FAR(x0, 8));
   x91 = ld8_1(FAR(x0, 16));
   x117 = ld64_2(FAR(x0, 18));
-  x609 = ld32_2(FAR(x0, 26));
-  x610 = ld16_2(FAR(x0, 30));
-  x611 = ld64_8(FAR(x0, 32));
-  x612 = FAR(x0, 40);
-  x613 = ld8_1(FAR(x0, 48));
+  x619 = ld32_2(FAR(x0, 26));
+  x620 = ld16_2(FAR(x0, 30));
+  x621 = ld64_8(FAR(x0, 32));
+  x622 = FAR(x0, 40);
+  x623 = ld8_1(FAR(x0, 48));
   x7 = ld32_4(FAR(x0, 52));
-  x614 = (u8)(x613 == 0u);
-  if (x614) goto b0; else { x6 = 1u; x8 = x7; x10 = 0u; x12 = 0u; goto b1; }
+  x624 = (u8)(x623 == 0u);
+  if (x624) goto b0; else { x6 = 1u; x8 = x7; x10 = 0u; x12 = 0u; goto b1; }
 b0:;
   x1 = ld64_1(FAR(x0, 56));
-  MEMSET(x615, 0u, 16);
+  MEMSET(x625, 0u, 16);
   { x3 = x1; x5 = 0u; goto b2; }
 b2:;
   x2 = (u64)((u64)((u64)((u64)x3 * UINT64_C(6364136223846793005))) + UINT64_C(11634580027462260723));
-  x616 = (u32)((((u64)((u64)x2 >> 45)) ^ ((u64)((u64)x2 >> 27))));
-  x617 = fshr32(x616, x616, ((u32)(((u64)((u64)x2 >> 59)))));
-  st32_4(FAR(x615, (u64)((u64)((u64)x5 << 2))), x617);
+  x626 = (u32)((((u64)((u64)x2 >> 45)) ^ ((u64)((u64)x2 >> 27))));
+  x627 = fshr32(x626, x626, ((u32)(((u64)((u64)x2 >> 59)))));
+  st32_4(FAR(x625, (u64)((u64)((u64)x5 << 2))), x627);
   x4 = (u64)((u64)x5 + 1u);
   if (((u8)(x4 == 4u))) goto b3; else { x3 = x2; x5 = x4; goto b2; }
 b3:;
-  x618 = ld64_8(x615);
-  x619 = ld64_8(ADD(x615, 8));
-  x11 = (x619 | 1u);
-  x9 = (u64)((u64)((u64)((u64)((u64)((u64)x11 + x618)) * UINT64_C(6364136223846793005))) + x11);
+  x628 = ld64_8(x625);
+  x629 = ld64_8(ADD(x625, 8));
+  x11 = (x629 | 1u);
+  x9 = (u64)((u64)((u64)((u64)((u64)((u64)x11 + x628)) * UINT64_C(6364136223846793005))) + x11);
   { x6 = 0u; x8 = 0u; x10 = x9; x12 = x11; goto b1; }
 b1:;
-  MEMCPY(x620, x612, 5);
-  MEMSET(x621, 0u, 5);
-  MEMSET(x622, 0u, 5);
-  MEMSET(x623, 0u, 3);
-  MEMSET(x624, 0u, 56);
-  MEMSET(x625, 0u, 56);
-  MEMSET(x626, 0u, 72);
-  MEMSET(x627, 0u, 56);
-  MEMSET(x628, 0u, 56);
-  MEMSET(x629, 0u, 56);
-  MEMSET(x630, 0u, 168);
-  MEMSET(x631, 0u, 168);
-  MEMSET(x632, 0u, 79);
-  MEMSET(x633, 0u, 5);
-  MEMSET(x634, 0u, 3);
+  MEMCPY(x630, x622, 5);
+  MEMSET(x631, 0u, 5);
+  MEMSET(x632, 0u, 5);
+  MEMSET(x633, 0u, 3);
+  MEMSET(x634, 0u, 56);
   MEMSET(x635, 0u, 56);
   MEMSET(x636, 0u, 56);
   MEMSET(x637, 0u, 56);
-  MEMSET(x638, 0u, 56);
+  MEMSET(x638, 0u, 39);
   MEMSET(x639, 0u, 39);
-  MEMSET(x640, 0u, 39);
-  MEMSET(x641, 0u, 16);
+  MEMSET(x640, 0u, 16);
+  MEMSET(x641, 0u, 168);
   MEMSET(x642, 0u, 168);
-  MEMSET(x643, 0u, 168);
-  MEMSET(x644, 0u, 119);
-  MEMSET(x645, 0u, 16);
-  MEMSET(x646, 0u, 5);
-  MEMSET(x647, 0u, 5);
-  MEMSET(x648, 0u, 3);
-  MEMSET(x649, 0u, 56);
-  MEMSET(x650, 0u, 56);
-  MEMSET(x651, 0u, 56);
-  MEMSET(x652, 0u, 56);
-  MEMSET(x653, 0u, 39);
-  MEMSET(x654, 0u, 39);
-  MEMSET(x655, 0u, 16);
-  MEMSET(x656, 0u, 168);
-  MEMSET(x657, 0u, 168);
-  MEMSET(x658, 0u, 25);
-  MEMSET(x659, 0u, 119);
-  MEMSET(x660, 0u, 16);
-  MEMSET(x661, 0u, 72);
-  MEMSET(x662, 0u, 24);
-  MEMSET(x663, 0u, 24);
-  MEMSET(x664, 0u, 24);
-  MEMSET(x665, 0u, 32);
-  MEMSET(x666, 0u, 32);
-  f29(x665, 9u);
-  x667 = ld8_1(x665);
-  if (((u8)(x667 == 0u))) goto b4; else goto b5;
-b4:;
-  x668 = ADD(x665, 8);
-  stp_8(x669, x25);
-  MEMSET(ADD(x669, 8), 0u, 16);
-  f29(x666, 12u);
-  x670 = ld8_1(x666);
-  if (((u8)(x670 == 0u))) goto b6; else goto b7;
+  MEMSET(x643, 0u, 16);
+  MEMSET(x644, 0u, 24);
+  MEMSET(x645, 0u, 56);
+  MEMSET(x646, 0u, 56);
+  MEMSET(x647, 0u, 56);
+  MEMSET(x648, 0u, 168);
+  MEMSET(x649, 0u, 168);
+  MEMSET(x650, 0u, 24);
+  MEMSET(x651, 0u, 5);
+  MEMSET(x652, 0u, 3);
+  MEMSET(x653, 0u, 56);
+  MEMSET(x654, 0u, 56);
+  MEMSET(x655, 0u, 56);
+  MEMSET(x656, 0u, 56);
+  MEMSET(x657, 0u, 39);
+  MEMSET(x658, 0u, 39);
+  MEMSET(x659, 0u, 16);
+  MEMSET(x660, 0u, 168);
+  MEMSET(x661, 0u, 168);
+  MEMSET(x662, 0u, 119);
+  MEMSET(x663, 0u, 16);
+  MEMSET(x664, 0u, 5);
+  MEMSET(x665, 0u, 5);
+  MEMSET(x666, 0u, 3);
+  MEMSET(x667, 0u, 56);
+  MEMSET(x668, 0u, 56);
+  MEMSET(x669, 0u, 56);
+  MEMSET(x670, 0u, 56);
+  MEMSET(x671, 0u, 39);
+  MEMSET(x672, 0u, 39);
+  MEMSET(x673, 0u, 16);
+  MEMSET(x674, 0u, 168);
+  MEMSET(x675, 0u, 168);
+  MEMSET(x676, 0u, 25);
+  MEMSET(x677, 0u, 119);
+  MEMSET(x678, 0u, 16);
+  MEMSET(x679, 0u, 16);
+  MEMSET(x680, 0u, 24);
+  MEMSET(x681, 0u, 24);
+  MEMSET(x682, 0u, 24);
+  MEMSET(x683, 0u, 24);
+  stp_8(x684, x25);
+  MEMSET(ADD(x684, 8), 0u, 16);
+  x685 = f27(x684, 12u);
+  if (x685) goto b4; else goto b5;
+b5:;
+  x686 = ld64_8(ADD(x684, 16));
+  if (((u8)(x686 == 0u))) goto b6; else goto b7;
 b7:;
-  f78(x669);
-  f78(x668);
-  goto b5;
-b6:;
-  MEMCPY(x671, x668, 24);
-  MEMCPY(ADD(x671, 24), x669, 24);
-  MEMCPY(ADD(x671, 48), ADD(x666, 8), 24);
-  x672 = ADD(x632, 7);
-  MEMCPY(x672, x671, 72);
-  MEMCPY(x626, x672, 72);
-  x673 = (x611 & 65535u);
-  if (((u8)(x673 < 2u))) goto b8; else goto b9;
+  x687 = ldp_8(x684);
+  os_rattle_dealloc(x687);
+  goto b6;
+b4:;
+  x689 = ADD(x688, 7);
+  MEMCPY(x689, x684, 24);
+  MEMCPY(x650, x689, 24);
+  MEMSET(x643, 0u, 16);
+  MEMCPY(x644, x650, 24);
+  x690 = (x621 & 65535u);
+  if (((u8)(x690 < 2u))) goto b8; else goto b9;
 b9:;
-  if (((u8)(x673 < 4u))) { x14 = 2u; goto b10; } else goto b11;
+  if (((u8)(x690 < 4u))) { x14 = 2u; goto b10; } else goto b11;
 b11:;
-  if (((u8)(x673 < 8u))) { x14 = 4u; goto b10; } else goto b12;
+  if (((u8)(x690 < 8u))) { x14 = 4u; goto b10; } else goto b12;
 b12:;
-  if (((u8)(x673 < 16u))) { x14 = 8u; goto b10; } else goto b13;
+  if (((u8)(x690 < 16u))) { x14 = 8u; goto b10; } else goto b13;
 b13:;
-  if (((u8)(x673 < 32u))) { x14 = 16u; goto b10; } else goto b14;
+  if (((u8)(x690 < 32u))) { x14 = 16u; goto b10; } else goto b14;
 b14:;
-  if (((u8)(x673 < 64u))) { x14 = 32u; goto b10; } else goto b15;
+  if (((u8)(x690 < 64u))) { x14 = 32u; goto b10; } else goto b15;
 b15:;
-  if (((u8)(x673 < 128u))) { x14 = 64u; goto b10; } else goto b16;
+  if (((u8)(x690 < 128u))) { x14 = 64u; goto b10; } else goto b16;
 b16:;
-  x13 = (((u8)(x673 < 256u)) ? 128u : 256u);
+  x13 = (((u8)(x690 < 256u)) ? 128u : 256u);
   { x14 = x13; goto b10; }
 b10:;
-  x674 = (u64)((u64)x14 * 72u);
-  x675 = os_rattle_alloc(x674, 8u);
-  x676 = s_u64_u64_frozen(x675);
-  if (((u8)(((x676.f0)) & 1u))) goto b17; else goto b18;
+  x691 = (u64)((u64)x14 * 72u);
+  x692 = os_rattle_alloc(x691, 8u);
+  x693 = s_u64_u64_frozen(x692);
+  if (((u8)(((x693.f0)) & 1u))) goto b17; else goto b18;
 b8:;
-  x677 = os_rattle_alloc(72u, 8u);
-  x678 = s_u64_u64_frozen(x677);
-  x16 = (Q)(u64)(x678.f1);
-  if (((u8)(((x678.f0)) & 1u))) { x15 = 1u; x18 = x16; x20 = 0u; goto b19; } else goto b18;
+  x694 = os_rattle_alloc(72u, 8u);
+  x695 = s_u64_u64_frozen(x694);
+  x16 = (Q)(u64)(x695.f1);
+  if (((u8)(((x695.f0)) & 1u))) { x15 = 1u; x18 = x16; x20 = 0u; goto b19; } else goto b18;
 b17:;
-  x17 = (Q)(u64)(x676.f1);
-  memset_n(x17, 0u, ((u64)((u64)x674 + UINT64_C(18446744073709551544))));
+  x17 = (Q)(u64)(x693.f1);
+  memset_n(x17, 0u, ((u64)((u64)x691 + UINT64_C(18446744073709551544))));
   x19 = (u64)((u64)x14 + UINT64_C(18446744073709551615));
   { x15 = x14; x18 = x17; x20 = x19; goto b19; }
-b5:;
-  MEMSET(x589, 0u, 5);
-  MEMSET(x590, 0u, 5);
-  MEMSET(x591, 0u, 3);
-  MEMSET(x592, 0u, 56);
-  MEMSET(x593, 0u, 56);
-  MEMSET(x594, 0u, 56);
-  MEMSET(x595, 0u, 56);
-  MEMSET(x596, 0u, 39);
-  MEMSET(x597, 0u, 39);
-  MEMSET(x598, 0u, 16);
-  MEMSET(x599, 0u, 168);
-  MEMSET(x600, 0u, 168);
-  MEMSET(x601, 0u, 25);
-  MEMSET(x602, 0u, 119);
-  MEMSET(x603, 0u, 16);
-  MEMSET(x604, 0u, 72);
-  { x210 = Q_NULL; x211 = 0u; x212 = 0u; x213 = 0u; x214 = Q_NULL; x215 = 0u; x216 = 0u; x217 = 0u; x218 = 0u; x219 = 0u; x220 = 0u; x221 = 0u; x222 = 0u; x223 = 0u; x224 = 0u; x225 = 0u; x226 = 0u; x227 = 0u; x228 = Q_NULL; x229 = 0u; x230 = Q_NULL; x231 = Q_NULL; x232 = 0u; x233 = Q_NULL; x234 = 0u; x235 = 0u; x236 = 0u; x237 = 0u; x238 = 0u; x239 = 0u; x240 = 0u; x241 = 0u; x242 = 0u; x243 = Q_NULL; x244 = 0u; x245 = Q_NULL; x246 = 0u; x247 = 0u; x248 = Q_NULL; x249 = 0u; x250 = 0u; x251 = Q_NULL; x252 = 0u; x253 = 0u; x254 = 0u; x255 = 0u; x256 = 0u; x257 = Q_NULL; x258 = 0u; x259 = 0u; x260 = Q_NULL; x261 = 0u; x262 = 0u; x263 = Q_NULL; x264 = 0u; x265 = 0u; x266 = Q_NULL; x267 = 0u; x268 = 0u; x269 = 0u; x270 = 0u; x271 = 0u; x272 = Q_NULL; x273 = 0u; x274 = 0u; x275 = Q_NULL; x276 = 0u; x277 = 0u; x278 = Q_NULL; x279 = 0u; x280 = 0u; x281 = Q_NULL; x282 = 0u; x283 = 0u; x284 = 0u; x285 = 0u; x286 = Q_NULL; x287 = 0u; x288 = 0u; goto b20; }
+b6:;
+  MEMSET(x598, 0u, 5);
+  MEMSET(x599, 0u, 5);
+  MEMSET(x600, 0u, 3);
+  MEMSET(x601, 0u, 56);
+  MEMSET(x602, 0u, 56);
+  MEMSET(x603, 0u, 56);
+  MEMSET(x604, 0u, 56);
+  MEMSET(x605, 0u, 39);
+  MEMSET(x606, 0u, 39);
+  MEMSET(x607, 0u, 16);
+  MEMSET(x608, 0u, 168);
+  MEMSET(x609, 0u, 168);
+  MEMSET(x610, 0u, 25);
+  MEMSET(x611, 0u, 119);
+  MEMSET(x612, 0u, 16);
+  MEMSET(x613, 0u, 16);
+  MEMSET(x614, 0u, 24);
+  { x211 = Q_NULL; x212 = 0u; x213 = 0u; x214 = 0u; x215 = Q_NULL; x216 = 0u; x217 = 0u; x218 = 0u; x219 = 0u; x220 = 0u; x221 = 0u; x222 = 0u; x223 = 0u; x224 = 0u; x225 = 0u; x226 = 0u; x227 = 0u; x228 = 0u; x229 = Q_NULL; x230 = 0u; x231 = Q_NULL; x232 = Q_NULL; x233 = 0u; x234 = Q_NULL; x235 = 0u; x236 = 0u; x237 = 0u; x238 = 0u; x239 = 0u; x240 = 0u; x241 = 0u; x242 = 0u; x243 = 0u; x244 = Q_NULL; x245 = 0u; x246 = Q_NULL; x247 = 0u; x248 = 0u; x249 = Q_NULL; x250 = 0u; x251 = 0u; x252 = Q_NULL; x253 = 0u; x254 = 0u; x255 = 0u; x256 = 0u; x257 = 0u; x258 = Q_NULL; x259 = 0u; x260 = 0u; x261 = Q_NULL; x262 = 0u; x263 = 0u; x264 = Q_NULL; x265 = 0u; x266 = 0u; x267 = Q_NULL; x268 = 0u; x269 = 0u; x270 = 0u; x271 = 0u; x272 = 0u; x273 = Q_NULL; x274 = 0u; x275 = 0u; x276 = Q_NULL; x277 = 0u; x278 = 0u; x279 = Q_NULL; x280 = 0u; x281 = 0u; x282 = Q_NULL; x283 = 0u; x284 = 0u; x285 = 0u; x286 = 0u; x287 = Q_NULL; x288 = Q_NULL; x289 = 0u; x290 = 0u; goto b20; }
 b19:;
-  x121 = (u64)((u64)x20 + 1u);
+  x122 = (u64)((u64)x20 + 1u);
   MEMSET(ADD(x18, (u64)((u64)((u64)x20 * 72u))), 0u, 72);
-  x77 = (u8)(x607);
-  x79 = (u8)(((u32)((u32)x605 >> 16)));
-  x81 = (u8)(((u32)((u32)x605 >> 24)));
-  x679 = (u64)x609;
-  x680 = (u64)((u32)((u32)x609 >> 16));
-  MEMSET(x681, 0u, 5);
-  MEMSET(x682, 0u, 3);
-  MEMSET(x683, 0u, 56);
-  MEMSET(x684, 0u, 56);
-  MEMSET(x685, 0u, 56);
-  MEMSET(x686, 0u, 56);
-  MEMSET(x687, 0u, 39);
-  MEMSET(x688, 0u, 39);
-  MEMSET(x689, 0u, 16);
-  MEMSET(x690, 0u, 168);
-  MEMSET(x691, 0u, 168);
-  MEMSET(x692, 0u, 119);
-  MEMSET(x693, 0u, 16);
-  MEMSET(x694, 0u, 56);
-  MEMSET(x695, 0u, 39);
-  MEMSET(x696, 0u, 39);
-  MEMSET(x697, 0u, 16);
-  MEMSET(x698, 0u, 168);
-  MEMSET(x699, 0u, 168);
-  MEMSET(x700, 0u, 112);
-  MEMSET(x701, 0u, 16);
+  x77 = (u8)(x617);
+  x79 = (u8)(((u32)((u32)x615 >> 16)));
+  x81 = (u8)(((u32)((u32)x615 >> 24)));
+  x696 = (u64)x619;
+  x697 = (u64)((u32)((u32)x619 >> 16));
+  MEMSET(x698, 0u, 5);
+  MEMSET(x699, 0u, 3);
+  MEMSET(x700, 0u, 56);
+  MEMSET(x701, 0u, 56);
   MEMSET(x702, 0u, 56);
   MEMSET(x703, 0u, 56);
-  MEMSET(x704, 0u, 56);
-  MEMSET(x705, 0u, 16);
-  MEMSET(x706, 0u, 168);
+  MEMSET(x704, 0u, 39);
+  MEMSET(x705, 0u, 39);
+  MEMSET(x706, 0u, 16);
   MEMSET(x707, 0u, 168);
-  MEMSET(x708, 0u, 112);
-  MEMSET(x709, 0u, 16);
-  MEMSET(x710, 0u, 3);
+  MEMSET(x708, 0u, 168);
+  MEMSET(x709, 0u, 119);
+  MEMSET(x710, 0u, 16);
   MEMSET(x711, 0u, 56);
-  MEMSET(x712, 0u, 56);
-  MEMSET(x713, 0u, 56);
-  MEMSET(x714, 0u, 5);
-  MEMSET(x715, 0u, 119);
-  x716 = (u64)((u64)x117 >> 32);
-  x93 = (u64)((u64)x117 >> 48);
-  MEMSET(x717, 0u, 56);
-  MEMSET(x718, 0u, 56);
+  MEMSET(x712, 0u, 39);
+  MEMSET(x713, 0u, 39);
+  MEMSET(x714, 0u, 16);
+  MEMSET(x715, 0u, 168);
+  MEMSET(x716, 0u, 168);
+  MEMSET(x717, 0u, 112);
+  MEMSET(x718, 0u, 16);
   MEMSET(x719, 0u, 56);
   MEMSET(x720, 0u, 56);
   MEMSET(x721, 0u, 56);
-  MEMSET(x722, 0u, 56);
-  MEMSET(x723, 0u, 72);
-  MEMSET(x724, 0u, 360);
-  MEMSET(x725, 0u, 376);
-  MEMSET(x726, 0u, 24);
-  MEMSET(x727, 0u, 24);
-  MEMSET(x728, 0u, 24);
-  x125 = (((u64)((u64)x117 >> 16)) & 65535u);
-  MEMSET(x729, 0u, 64);
-  x730 = (u8)(x125 == 0u);
-  if (x730) goto b21; else goto b22;
+  MEMSET(x722, 0u, 16);
+  MEMSET(x723, 0u, 168);
+  MEMSET(x724, 0u, 168);
+  MEMSET(x725, 0u, 112);
+  MEMSET(x726, 0u, 16);
+  MEMSET(x727, 0u, 3);
+  MEMSET(x728, 0u, 56);
+  MEMSET(x729, 0u, 56);
+  MEMSET(x730, 0u, 56);
+  MEMSET(x731, 0u, 5);
+  MEMSET(x732, 0u, 119);
+  x733 = (u64)((u64)x117 >> 32);
+  x93 = (u64)((u64)x117 >> 48);
+  MEMSET(x734, 0u, 56);
+  MEMSET(x735, 0u, 56);
+  MEMSET(x736, 0u, 56);
+  MEMSET(x737, 0u, 56);
+  MEMSET(x738, 0u, 56);
+  MEMSET(x739, 0u, 56);
+  MEMSET(x740, 0u, 72);
+  MEMSET(x741, 0u, 360);
+  MEMSET(x742, 0u, 376);
+  MEMSET(x743, 0u, 24);
+  MEMSET(x744, 0u, 24);
+  MEMSET(x745, 0u, 24);
+  x126 = (((u64)((u64)x117 >> 16)) & 65535u);
+  MEMSET(x746, 0u, 64);
+  x747 = (u8)(x126 == 0u);
+  if (x747) goto b21; else goto b22;
 b22:;
-  x731 = os_rattle_alloc(((u64)((u64)x125 << 5)), 8u);
-  if (((u8)(((x731.f0)) & 1u))) goto b23; else goto b24;
+  x748 = os_rattle_alloc(((u64)((u64)x126 << 5)), 8u);
+  if (((u8)(((x748.f0)) & 1u))) goto b23; else goto b24;
 b23:;
-  x24 = (Q)(u64)(x731.f1);
-  x732 = os_rattle_alloc(((u64)((u64)x125 * 17u)), 1u);
-  if (((u8)(((x732.f0)) & 1u))) goto b25; else goto b26;
+  x24 = (Q)(u64)(x748.f1);
+  x749 = os_rattle_alloc(((u64)((u64)x126 * 17u)), 1u);
+  if (((u8)(((x749.f0)) & 1u))) goto b25; else goto b26;
 b21:;
-  f31(x729, 0u);
-  x733 = ld8_1(x729);
-  if (((u8)(x733 == 0u))) goto b27; else goto b24;
+  f28(x746, 0u);
+  x750 = ld8_1(x746);
+  if (((u8)(x750 == 0u))) goto b27; else goto b24;
 b25:;
-  x27 = (Q)(u64)(x732.f1);
-  f31(x729, x125);
-  x734 = ld8_1(x729);
-  if (((u8)(x734 == 0u))) goto b28; else goto b29;
+  x27 = (Q)(u64)(x749.f1);
+  f28(x746, x126);
+  x751 = ld8_1(x746);
+  if (((u8)(x751 == 0u))) goto b28; else goto b29;
 b26:;
   os_rattle_dealloc(x24);
   goto b24;
 b27:;
-  x22 = ADD(x729, 8);
+  x22 = ADD(x746, 8);
   { x23 = x22; x26 = x25; x28 = x25; x30 = x25; goto b30; }
 b28:;
-  x21 = ADD(x729, 8);
-  x735 = os_rattle_alloc(((u64)((u64)x125 << 4)), 1u);
-  if (((u8)(((x735.f0)) & 1u))) goto b31; else goto b32;
+  x21 = ADD(x746, 8);
+  x752 = os_rattle_alloc(((u64)((u64)x126 << 4)), 1u);
+  if (((u8)(((x752.f0)) & 1u))) goto b31; else goto b32;
 b31:;
-  x29 = (Q)(u64)(x735.f1);
+  x29 = (Q)(u64)(x752.f1);
   { x23 = x21; x26 = x24; x28 = x27; x30 = x29; goto b30; }
 b29:;
   os_rattle_dealloc(x27);
   os_rattle_dealloc(x24);
   goto b24;
 b32:;
-  f37(x21);
-  f37(ADD(x729, 32));
+  f34(x21);
+  f34(ADD(x746, 32));
   os_rattle_dealloc(x27);
   os_rattle_dealloc(x24);
   goto b24;
 b30:;
-  MEMCPY(x736, x23, 56);
-  x129 = (x716 & 65535u);
-  x737 = (u8)(x129 == 0u);
-  if (x737) { x32 = x25; goto b33; } else goto b34;
+  MEMCPY(x753, x23, 56);
+  x130 = (x733 & 65535u);
+  x754 = (u8)(x130 == 0u);
+  if (x754) { x32 = x25; goto b33; } else goto b34;
 b34:;
-  x738 = os_rattle_alloc(((u64)((u64)x129 * 40u)), 8u);
-  if (((u8)(((x738.f0)) & 1u))) goto b35; else goto b36;
+  x755 = os_rattle_alloc(((u64)((u64)x130 * 40u)), 8u);
+  if (((u8)(((x755.f0)) & 1u))) goto b35; else goto b36;
 b35:;
-  x31 = (Q)(u64)(x738.f1);
+  x31 = (Q)(u64)(x755.f1);
   { x32 = x31; goto b33; }
 b24:;
   goto b37;
 b33:;
-  MEMSET(x739, 0u, 64);
-  MEMSET(x740, 0u, 64);
-  x741 = (u8)(x93 == 0u);
-  if (x741) goto b38; else goto b39;
+  MEMSET(x756, 0u, 64);
+  MEMSET(x757, 0u, 64);
+  x758 = (u8)(x93 == 0u);
+  if (x758) goto b38; else goto b39;
 b39:;
-  x742 = os_rattle_alloc(((u64)((u64)x93 * 72u)), 8u);
-  if (((u8)(((x742.f0)) & 1u))) goto b40; else goto b41;
+  x759 = os_rattle_alloc(((u64)((u64)x93 * 72u)), 8u);
+  if (((u8)(((x759.f0)) & 1u))) goto b40; else goto b41;
 b38:;
-  f31(x739, 0u);
-  x743 = ld8_1(x739);
-  if (((u8)(x743 == 0u))) { x34 = x25; goto b42; } else goto b41;
+  f28(x756, 0u);
+  x760 = ld8_1(x756);
+  if (((u8)(x760 == 0u))) { x34 = x25; goto b42; } else goto b41;
 b40:;
-  x33 = (Q)(u64)(x742.f1);
-  f31(x739, x93);
-  x744 = ld8_1(x739);
-  if (((u8)(x744 == 0u))) { x34 = x33; goto b42; } else goto b43;
+  x33 = (Q)(u64)(x759.f1);
+  f28(x756, x93);
+  x761 = ld8_1(x756);
+  if (((u8)(x761 == 0u))) { x34 = x33; goto b42; } else goto b43;
 b42:;
-  x745 = ADD(x739, 8);
-  f31(x740, x93);
-  x746 = ld8_1(x740);
-  if (((u8)(x746 == 0u))) goto b44; else goto b45;
+  x762 = ADD(x756, 8);
+  f28(x757, x93);
+  x763 = ld8_1(x757);
+  if (((u8)(x763 == 0u))) goto b44; else goto b45;
 b43:;
   os_rattle_dealloc(x33);
   goto b41;
 b44:;
-  MEMCPY(x719, x745, 56);
-  MEMCPY(x720, ADD(x740, 8), 56);
-  MEMCPY(x717, x719, 56);
-  MEMCPY(x718, x720, 56);
+  MEMCPY(x736, x762, 56);
+  MEMCPY(x737, ADD(x757, 8), 56);
+  MEMCPY(x734, x736, 56);
+  MEMCPY(x735, x737, 56);
   x95 = (x117 & 65535u);
-  x134 = (u64)((u64)x611 >> 48);
-  MEMSET(x747, 0u, 64);
-  x748 = (u8)(x95 == 0u);
-  if (x748) goto b46; else goto b47;
+  x135 = (u64)((u64)x621 >> 48);
+  MEMSET(x764, 0u, 64);
+  x765 = (u8)(x95 == 0u);
+  if (x765) goto b46; else goto b47;
 b45:;
-  f37(x745);
-  f37(ADD(x739, 32));
-  if (x741) goto b41; else goto b48;
+  f34(x762);
+  f34(ADD(x756, 32));
+  if (x758) goto b41; else goto b48;
 b48:;
   os_rattle_dealloc(x34);
   goto b41;
 b36:;
-  if (x730) goto b49; else goto b50;
+  if (x747) goto b49; else goto b50;
 b50:;
   os_rattle_dealloc(x26);
   os_rattle_dealloc(x28);
-  f37(x736);
-  f37(ADD(x736, 24));
+  f34(x753);
+  f34(ADD(x753, 24));
   os_rattle_dealloc(x30);
   goto b37;
 b49:;
-  f37(x736);
-  f37(ADD(x736, 24));
+  f34(x753);
+  f34(ADD(x753, 24));
   goto b37;
 b47:;
-  x749 = os_rattle_alloc(((u64)((u64)x95 * 72u)), 8u);
-  if (((u8)(((x749.f0)) & 1u))) goto b51; else goto b52;
+  x766 = os_rattle_alloc(((u64)((u64)x95 * 72u)), 8u);
+  if (((u8)(((x766.f0)) & 1u))) goto b51; else goto b52;
 b46:;
-  f31(x747, 0u);
-  x750 = ld8_1(x747);
-  if (((u8)(x750 == 0u))) { x36 = x25; goto b53; } else goto b52;
+  f28(x764, 0u);
+  x767 = ld8_1(x764);
+  if (((u8)(x767 == 0u))) { x36 = x25; goto b53; } else goto b52;
 b51:;
-  x35 = (Q)(u64)(x749.f1);
-  f31(x747, x95);
-  x751 = ld8_1(x747);
-  if (((u8)(x751 == 0u))) { x36 = x35; goto b53; } else goto b54;
+  x35 = (Q)(u64)(x766.f1);
+  f28(x764, x95);
+  x768 = ld8_1(x764);
+  if (((u8)(x768 == 0u))) { x36 = x35; goto b53; } else goto b54;
 b53:;
-  MEMCPY(x722, ADD(x747, 8), 56);
-  MEMCPY(x721, x722, 56);
-  f38(x723, ((u64)(x609 & 65535u)), x680);
-  x752 = ld8_1(x723);
-  if (((u8)(x752 == 0u))) goto b55; else goto b56;
+  MEMCPY(x739, ADD(x764, 8), 56);
+  MEMCPY(x738, x739, 56);
+  f35(x740, ((u64)(x619 & 65535u)), x697);
+  x769 = ld8_1(x740);
+  if (((u8)(x769 == 0u))) goto b55; else goto b56;
 b54:;
   os_rattle_dealloc(x35);
   goto b52;
 b41:;
-  if (x737) goto b57; else goto b58;
+  if (x754) goto b57; else goto b58;
 b58:;
   os_rattle_dealloc(x32);
   goto b57;
 b57:;
-  if (x730) goto b59; else goto b60;
+  if (x747) goto b59; else goto b60;
 b60:;
   os_rattle_dealloc(x26);
   os_rattle_dealloc(x28);
-  f37(x736);
-  f37(ADD(x736, 24));
+  f34(x753);
+  f34(ADD(x753, 24));
   os_rattle_dealloc(x30);
   goto b37;
 b59:;
-  f37(x736);
-  f37(ADD(x736, 24));
+  f34(x753);
+  f34(ADD(x753, 24));
   goto b37;
 b52:;
-  if (x741) goto b61; else goto b62;
+  if (x758) goto b61; else goto b62;
 b62:;
   os_rattle_dealloc(x34);
   goto b61;
 b61:;
-  f37(x719);
-  f37(ADD(x717, 24));
-  f37(x720);
-  f37(ADD(x718, 24));
-  if (x737) goto b63; else goto b64;
+  f34(x736);
+  f34(ADD(x734, 24));
+  f34(x737);
+  f34(ADD(x735, 24));
+  if (x754) goto b63; else goto b64;
 b64:;
   os_rattle_dealloc(x32);
   goto b63;
 b63:;
-  if (x730) goto b65; else goto b66;
+  if (x747) goto b65; else goto b66;
 b66:;
   os_rattle_dealloc(x26);
   os_rattle_dealloc(x28);
-  f37(x736);
-  f37(ADD(x736, 24));
+  f34(x753);
+  f34(ADD(x753, 24));
   os_rattle_dealloc(x30);
   goto b37;
 b65:;
-  f37(x736);
-  f37(ADD(x736, 24));
+  f34(x753);
+  f34(ADD(x753, 24));
   goto b37;
 b55:;
-  x753 = ADD(x723, 8);
-  x136 = ldp_8(ADD(x723, 24));
-  x138 = ld64_8(ADD(x723, 32));
-  x140 = ld64_8(ADD(x723, 40));
-  x754 = ADD(x723, 48);
-  x755 = (u64)x610;
-  f39(x724, x755, x673);
-  x756 = ld8_1(x724);
-  x757 = ld8_1(ADD(x724, 344));
-  x99 = ld64_8(ADD(x724, 352));
-  if (((u8)(x756 == 0u))) goto b67; else goto b68;
+  x770 = ADD(x740, 8);
+  x137 = ldp_8(ADD(x740, 24));
+  x139 = ld64_8(ADD(x740, 32));
+  x141 = ld64_8(ADD(x740, 40));
+  x771 = ADD(x740, 48);
+  x772 = (u64)x620;
+  f36(x741, x772, x690);
+  x773 = ld8_1(x741);
+  x774 = ld8_1(ADD(x741, 344));
+  x99 = ld64_8(ADD(x741, 352));
+  if (((u8)(x773 == 0u))) goto b67; else goto b68;
 b56:;
-  stp_8(x726, x36);
-  st64_8(ADD(x726, 8), 0u);
-  st64_8(ADD(x726, 16), x95);
-  f60(x726);
-  f37(x722);
-  f37(ADD(x722, 24));
-  if (x741) goto b69; else goto b70;
+  stp_8(x743, x36);
+  st64_8(ADD(x743, 8), 0u);
+  st64_8(ADD(x743, 16), x95);
+  f57(x743);
+  f34(x739);
+  f34(ADD(x739, 24));
+  if (x758) goto b69; else goto b70;
 b70:;
   os_rattle_dealloc(x34);
   goto b69;
 b69:;
-  f37(x719);
-  f37(ADD(x717, 24));
-  f37(x720);
-  f37(ADD(x718, 24));
-  if (x737) goto b71; else goto b72;
+  f34(x736);
+  f34(ADD(x734, 24));
+  f34(x737);
+  f34(ADD(x735, 24));
+  if (x754) goto b71; else goto b72;
 b72:;
   os_rattle_dealloc(x32);
   goto b71;
 b71:;
-  if (x730) goto b73; else goto b74;
+  if (x747) goto b73; else goto b74;
 b74:;
   os_rattle_dealloc(x26);
   os_rattle_dealloc(x28);
-  f37(x736);
-  f37(ADD(x736, 24));
+  f34(x753);
+  f34(ADD(x753, 24));
   os_rattle_dealloc(x30);
   goto b37;
 b73:;
-  f37(x736);
-  f37(ADD(x736, 24));
+  f34(x753);
+  f34(ADD(x753, 24));
   goto b37;
 b67:;
-  x758 = (u64)((u64)x611 >> 16);
-  x759 = ADD(x724, 176);
-  x760 = ADD(x724, 8);
-  f47(x725, (x758 & 65535u), (((u64)((u64)x611 >> 32)) & 65535u));
-  x761 = ld8_1(x725);
-  if (((u8)(x761 == 0u))) goto b75; else goto b76;
+  x775 = (u64)((u64)x621 >> 16);
+  x776 = ADD(x741, 176);
+  x777 = ADD(x741, 8);
+  f44(x742, (x775 & 65535u), (((u64)((u64)x621 >> 32)) & 65535u));
+  x778 = ld8_1(x742);
+  if (((u8)(x778 == 0u))) goto b75; else goto b76;
 b68:;
-  if (((u8)(x140 == 0u))) goto b77; else goto b78;
+  if (((u8)(x141 == 0u))) goto b77; else goto b78;
 b78:;
-  os_rattle_dealloc(x136);
+  os_rattle_dealloc(x137);
   goto b77;
 b77:;
-  f59(x754);
-  stp_8(x727, x36);
-  st64_8(ADD(x727, 8), 0u);
-  st64_8(ADD(x727, 16), x95);
-  f60(x727);
-  f37(x722);
-  f37(ADD(x721, 24));
-  if (x741) goto b79; else goto b80;
+  f56(x771);
+  stp_8(x744, x36);
+  st64_8(ADD(x744, 8), 0u);
+  st64_8(ADD(x744, 16), x95);
+  f57(x744);
+  f34(x739);
+  f34(ADD(x738, 24));
+  if (x758) goto b79; else goto b80;
 b80:;
   os_rattle_dealloc(x34);
   goto b79;
 b79:;
-  f37(x719);
-  f37(ADD(x717, 24));
-  f37(x720);
-  f37(ADD(x718, 24));
-  if (x737) goto b81; else goto b82;
+  f34(x736);
+  f34(ADD(x734, 24));
+  f34(x737);
+  f34(ADD(x735, 24));
+  if (x754) goto b81; else goto b82;
 b82:;
   os_rattle_dealloc(x32);
   goto b81;
 b81:;
-  if (x730) goto b83; else goto b84;
+  if (x747) goto b83; else goto b84;
 b84:;
   os_rattle_dealloc(x26);
   os_rattle_dealloc(x28);
-  f37(x736);
-  f37(ADD(x736, 24));
+  f34(x753);
+  f34(ADD(x753, 24));
   os_rattle_dealloc(x30);
   goto b37;
 b83:;
-  f37(x736);
-  f37(ADD(x736, 24));
+  f34(x753);
+  f34(ADD(x753, 24));
   goto b37;
 b76:;
-  f57(x760);
-  f58(x759);
-  if (((u8)(x140 == 0u))) goto b85; else goto b86;
+  f54(x777);
+  f55(x776);
+  if (((u8)(x141 == 0u))) goto b85; else goto b86;
 b86:;
-  os_rattle_dealloc(x136);
+  os_rattle_dealloc(x137);
   goto b85;
 b85:;
-  f59(x754);
-  stp_8(x728, x36);
-  st64_8(ADD(x728, 8), 0u);
-  st64_8(ADD(x728, 16), x95);
-  f60(x728);
-  f37(x722);
-  f37(ADD(x721, 24));
-  if (x741) goto b87; else goto b88;
+  f56(x771);
+  stp_8(x745, x36);
+  st64_8(ADD(x745, 8), 0u);
+  st64_8(ADD(x745, 16), x95);
+  f57(x745);
+  f34(x739);
+  f34(ADD(x738, 24));
+  if (x758) goto b87; else goto b88;
 b88:;
   os_rattle_dealloc(x34);
   goto b87;
 b87:;
-  f37(x719);
-  f37(ADD(x717, 24));
-  f37(x720);
-  f37(ADD(x718, 24));
-  if (x737) goto b89; else goto b90;
+  f34(x736);
+  f34(ADD(x734, 24));
+  f34(x737);
+  f34(ADD(x735, 24));
+  if (x754) goto b89; else goto b90;
 b90:;
   os_rattle_dealloc(x32);
   goto b89;
 b89:;
-  if (x730) goto b91; else goto b92;
+  if (x747) goto b91; else goto b92;
 b92:;
   os_rattle_dealloc(x26);
   os_rattle_dealloc(x28);
-  f37(x736);
-  f37(ADD(x736, 24));
+  f34(x753);
+  f34(ADD(x753, 24));
   os_rattle_dealloc(x30);
   goto b37;
 b91:;
-  f37(x736);
-  f37(ADD(x736, 24));
+  f34(x753);
+  f34(ADD(x753, 24));
   goto b37;
 b75:;
-  MEMCPY(x702, x719, 56);
-  MEMCPY(x703, x720, 56);
-  MEMCPY(x704, x722, 56);
-  MEMCPY(x705, x753, 16);
-  x142 = ldp_8(x754);
-  x144 = ld64_8(ADD(x723, 56));
-  x146 = ld64_8(ADD(x723, 64));
-  MEMCPY(x706, x760, 168);
-  MEMCPY(x707, x759, 168);
-  MEMCPY(x708, ADD(x725, 8), 112);
-  x148 = ld64_8(ADD(x725, 120));
-  x150 = ldp_8(ADD(x725, 128));
-  x152 = ld64_8(ADD(x725, 136));
-  x154 = ld64_8(ADD(x725, 144));
-  x156 = ldp_8(ADD(x725, 152));
-  x158 = ld64_8(ADD(x725, 160));
-  x160 = ld64_8(ADD(x725, 168));
-  x162 = ldp_8(ADD(x725, 176));
-  x164 = ld64_8(ADD(x725, 184));
-  x166 = ld64_8(ADD(x725, 192));
-  x168 = ldp_8(ADD(x725, 200));
-  x170 = ld64_8(ADD(x725, 208));
-  x172 = ld64_8(ADD(x725, 216));
-  x174 = ld64_8(ADD(x725, 224));
-  x176 = ld64_8(ADD(x725, 232));
-  x178 = ld64_8(ADD(x725, 240));
-  x180 = ldp_8(ADD(x725, 248));
-  x182 = ld64_8(ADD(x725, 256));
-  x184 = ld64_8(ADD(x725, 264));
-  x186 = ldp_8(ADD(x725, 272));
-  x188 = ld64_8(ADD(x725, 280));
-  x190 = ld64_8(ADD(x725, 288));
-  x192 = ldp_8(ADD(x725, 296));
-  x194 = ld64_8(ADD(x725, 304));
-  x196 = ld64_8(ADD(x725, 312));
-  x198 = ldp_8(ADD(x725, 320));
-  x200 = ld64_8(ADD(x725, 328));
-  x202 = ld64_8(ADD(x725, 336));
-  x204 = ld64_8(ADD(x725, 344));
-  x206 = ld64_8(ADD(x725, 352));
-  MEMCPY(x709, ADD(x725, 360), 16);
-  MEMCPY(x694, x704, 56);
-  MEMSET(x695, 0u, 39);
-  MEMSET(x696, 0u, 39);
-  MEMCPY(x697, x705, 16);
-  MEMCPY(x698, x706, 168);
-  MEMCPY(x699, x707, 168);
-  MEMCPY(x700, x708, 112);
-  MEMCPY(x701, x709, 16);
-  if (x614) goto b93; else { x38 = x8; x40 = x10; x42 = x8; goto b94; }
+  MEMCPY(x719, x736, 56);
+  MEMCPY(x720, x737, 56);
+  MEMCPY(x721, x739, 56);
+  MEMCPY(x722, x770, 16);
+  x143 = ldp_8(x771);
+  x145 = ld64_8(ADD(x740, 56));
+  x147 = ld64_8(ADD(x740, 64));
+  MEMCPY(x723, x777, 168);
+  MEMCPY(x724, x776, 168);
+  MEMCPY(x725, ADD(x742, 8), 112);
+  x149 = ld64_8(ADD(x742, 120));
+  x151 = ldp_8(ADD(x742, 128));
+  x153 = ld64_8(ADD(x742, 136));
+  x155 = ld64_8(ADD(x742, 144));
+  x157 = ldp_8(ADD(x742, 152));
+  x159 = ld64_8(ADD(x742, 160));
+  x161 = ld64_8(ADD(x742, 168));
+  x163 = ldp_8(ADD(x742, 176));
+  x165 = ld64_8(ADD(x742, 184));
+  x167 = ld64_8(ADD(x742, 192));
+  x169 = ldp_8(ADD(x742, 200));
+  x171 = ld64_8(ADD(x742, 208));
+  x173 = ld64_8(ADD(x742, 216));
+  x175 = ld64_8(ADD(x742, 224));
+  x177 = ld64_8(ADD(x742, 232));
+  x179 = ld64_8(ADD(x742, 240));
+  x181 = ldp_8(ADD(x742, 248));
+  x183 = ld64_8(ADD(x742, 256));
+  x185 = ld64_8(ADD(x742, 264));
+  x187 = ldp_8(ADD(x742, 272));
+  x189 = ld64_8(ADD(x742, 280));
+  x191 = ld64_8(ADD(x742, 288));
+  x193 = ldp_8(ADD(x742, 296));
+  x195 = ld64_8(ADD(x742, 304));
+  x197 = ld64_8(ADD(x742, 312));
+  x199 = ldp_8(ADD(x742, 320));
+  x201 = ld64_8(ADD(x742, 328));
+  x203 = ld64_8(ADD(x742, 336));
+  x205 = ld64_8(ADD(x742, 344));
+  x207 = ld64_8(ADD(x742, 352));
+  MEMCPY(x726, ADD(x742, 360), 16);
+  MEMCPY(x711, x721, 56);
+  MEMSET(x712, 0u, 39);
+  MEMSET(x713, 0u, 39);
+  MEMCPY(x714, x722, 16);
+  MEMCPY(x715, x723, 168);
+  MEMCPY(x716, x724, 168);
+  MEMCPY(x717, x725, 112);
+  MEMCPY(x718, x726, 16);
+  if (x624) goto b93; else { x38 = x8; x40 = x10; x42 = x8; goto b94; }
 b93:;
-  x762 = (u32)((((u64)((u64)x10 >> 45)) ^ ((u64)((u64)x10 >> 27))));
-  x37 = fshr32(x762, x762, ((u32)(((u64)((u64)x10 >> 59)))));
-  x763 = (u64)((u64)((u64)((u64)x10 * UINT64_C(6364136223846793005))) + x12);
-  x764 = (u32)((((u64)((u64)x763 >> 45)) ^ ((u64)((u64)x763 >> 27))));
-  x41 = fshr32(x764, x764, ((u32)(((u64)((u64)x763 >> 59)))));
-  x39 = (u64)((u64)((u64)((u64)x763 * UINT64_C(6364136223846793005))) + x12);
+  x779 = (u32)((((u64)((u64)x10 >> 45)) ^ ((u64)((u64)x10 >> 27))));
+  x37 = fshr32(x779, x779, ((u32)(((u64)((u64)x10 >> 59)))));
+  x780 = (u64)((u64)((u64)((u64)x10 * UINT64_C(6364136223846793005))) + x12);
+  x781 = (u32)((((u64)((u64)x780 >> 45)) ^ ((u64)((u64)x780 >> 27))));
+  x41 = fshr32(x781, x781, ((u32)(((u64)((u64)x780 >> 59)))));
+  x39 = (u64)((u64)((u64)((u64)x780 * UINT64_C(6364136223846793005))) + x12);
   { x38 = x37; x40 = x39; x42 = x41; goto b94; }
 b94:;
   x104 = (u64)((u32)((u32)(x38 % 30001u) + 15000u));
-  MEMSET(x710, 0u, 3);
-  MEMCPY(x711, x736, 56);
-  x83 = (u8)(x608);
-  x765 = (u32)(((u32)x608 >> 8) & 16777215u);
-  x85 = (u16)(x765);
-  MEMCPY(x766, x702, 56);
-  MEMCPY(x767, x703, 56);
-  st8_1(x768, 254u);
-  st8_1(ADD(x768, 1), 128u);
-  MEMSET(ADD(x768, 2), 0u, 14);
-  f12(x769, x768, 64u);
-  x87 = ld64_8(x769);
-  x89 = (((((u64)((u64)((u64)(x608 & 255u)) << 40)) | ((u64)(x607 ^ 2u))) | ((u64)((u64)((u64)x765) << 48))) | UINT64_C(1095199883264));
-  x770 = (u64)((u64)x101 + ((u64)(x42 % 1001u)));
+  MEMSET(x727, 0u, 3);
+  MEMCPY(x728, x753, 56);
+  x83 = (u8)(x618);
+  x782 = (u32)(((u32)x618 >> 8) & 16777215u);
+  x85 = (u16)(x782);
+  MEMCPY(x783, x719, 56);
+  MEMCPY(x784, x720, 56);
+  st8_1(x785, 254u);
+  st8_1(ADD(x785, 1), 128u);
+  MEMSET(ADD(x785, 2), 0u, 14);
+  f12(x786, x785, 64u);
+  x87 = ld64_8(x786);
+  x89 = (((((u64)((u64)((u64)(x618 & 255u)) << 40)) | ((u64)(x617 ^ 2u))) | ((u64)((u64)((u64)x782) << 48))) | UINT64_C(1095199883264));
+  x787 = (u64)((u64)x101 + ((u64)(x42 % 1001u)));
   st64_1(x34, x87);
   st64_1(ADD(x34, 8), x89);
   MEMSET(ADD(x34, 16), 0u, 36);
   st32_1(ADD(x34, 52), 1000u);
-  st64_1(ADD(x34, 56), x770);
+  st64_1(ADD(x34, 56), x787);
   st64_1(ADD(x34, 64), 0u);
-  st64_8(x771, x770);
-  st64_8(ADD(x771, 8), x87);
-  st64_8(ADD(x771, 16), x89);
-  x46 = ld64_8(ADD(x767, 8));
+  st64_8(x788, x787);
+  st64_8(ADD(x788, 8), x87);
+  st64_8(ADD(x788, 16), x89);
+  x46 = ld64_8(ADD(x784, 8));
   x51 = (u64)((u64)x46 + UINT64_C(18446744073709551615));
-  x772 = ldp_8(x767);
+  x789 = ldp_8(x784);
   if (((u8)(x51 == 0u))) { x52 = 0u; goto b95; } else goto b96;
 b96:;
-  x773 = f62(FAR(x772, (u64)((u64)((u64)x51 * 24u))), x771);
-  if (((u8)(x773 == 2u))) goto b97; else { x52 = x51; goto b95; }
+  x790 = f59(FAR(x789, (u64)((u64)((u64)x51 * 24u))), x788);
+  if (((u8)(x790 == 2u))) goto b97; else { x52 = x51; goto b95; }
 b97:;
-  st64_8(x774, x770);
-  st64_8(ADD(x774, 8), x87);
-  st64_8(ADD(x774, 16), x89);
+  st64_8(x791, x787);
+  st64_8(ADD(x791, 8), x87);
+  st64_8(ADD(x791, 16), x89);
   if (((u8)(x46 == 0u))) { x48 = 0u; goto b98; } else { x44 = 0u; x47 = x46; goto b99; }
 b99:;
-  x775 = (u64)((u64)((u64)((u64)((u64)((u64)x47 - x44)) >> 1)) + x44);
-  x776 = f62(FAR(x772, (u64)((u64)((u64)x775 * 24u))), x774);
-  x777 = (u8)(x776 == 0u);
-  x45 = (x777 ? x47 : x775);
-  x43 = (x777 ? ((u64)((u64)x775 + 1u)) : x44);
+  x792 = (u64)((u64)((u64)((u64)((u64)((u64)x47 - x44)) >> 1)) + x44);
+  x793 = f59(FAR(x789, (u64)((u64)((u64)x792 * 24u))), x791);
+  x794 = (u8)(x793 == 0u);
+  x45 = (x794 ? x47 : x792);
+  x43 = (x794 ? ((u64)((u64)x792 + 1u)) : x44);
   if (((u8)(x43 < x45))) { x44 = x43; x47 = x45; goto b99; } else { x48 = x43; goto b98; }
 b98:;
   if (((u8)(x48 < x46))) goto b100; else goto b101;
 b100:;
-  x778 = f62(FAR(x772, (u64)((u64)((u64)x48 * 24u))), x774);
-  if (((u8)(x778 == 1u))) { x50 = x48; goto b102; } else goto b101;
+  x795 = f59(FAR(x789, (u64)((u64)((u64)x48 * 24u))), x791);
+  if (((u8)(x795 == 1u))) { x50 = x48; goto b102; } else goto b101;
 b101:;
   x49 = usub_sat64(x48, 1u);
   { x50 = x49; goto b102; }
 b102:;
   { x52 = x50; goto b95; }
 b95:;
-  x779 = FAR(x772, (u64)((u64)((u64)x52 * 24u)));
-  st64_8(x780, x770);
-  st64_8(ADD(x780, 8), x87);
-  st64_8(ADD(x780, 16), x89);
-  x781 = ldp_8(x779);
-  x782 = FAR(x779, 8);
-  x54 = ld64_8(x782);
+  x796 = FAR(x789, (u64)((u64)((u64)x52 * 24u)));
+  st64_8(x797, x787);
+  st64_8(ADD(x797, 8), x87);
+  st64_8(ADD(x797, 16), x89);
+  x798 = ldp_8(x796);
+  x799 = FAR(x796, 8);
+  x54 = ld64_8(x799);
   if (((u8)(x54 == 0u))) goto b103; else goto b104;
 b104:;
-  x783 = f63(FAR(FAR(x781, (u64)((u64)((u64)x54 * 24u))), -24), x780);
-  if (((u8)(x783 == 0u))) { x55 = x54; goto b105; } else goto b103;
+  x800 = f60(FAR(FAR(x798, (u64)((u64)((u64)x54 * 24u))), -24), x797);
+  if (((u8)(x800 == 0u))) { x55 = x54; goto b105; } else goto b103;
 b103:;
-  x784 = f64(x781, x54, x780);
-  if (((u8)((x784.f0) == 1u))) goto b106; else goto b107;
+  x801 = f61(x798, x54, x797);
+  if (((u8)((x801.f0) == 1u))) goto b106; else goto b107;
 b106:;
-  x53 = x784.f1;
+  x53 = x801.f1;
   { x55 = x53; goto b105; }
 b107:;
   TRAP();
   UNREACHABLE();
 b105:;
-  st64_8(x785, x770);
-  st64_8(ADD(x785, 8), x87);
-  st64_8(ADD(x785, 16), x89);
-  x786 = ld64_8(FAR(x779, 16));
-  if (((u8)(x54 < x786))) goto b108; else goto b109;
+  st64_8(x802, x787);
+  st64_8(ADD(x802, 8), x87);
+  st64_8(ADD(x802, 16), x89);
+  x803 = ld64_8(FAR(x796, 16));
+  if (((u8)(x54 < x803))) goto b108; else goto b109;
 b108:;
-  st64_8(x787, x770);
-  st64_8(ADD(x787, 8), x87);
-  st64_8(ADD(x787, 16), x89);
-  f66(x779, x55, x787);
+  st64_8(x804, x787);
+  st64_8(ADD(x804, 8), x87);
+  st64_8(ADD(x804, 16), x89);
+  f63(x796, x55, x804);
   goto b110;
 b109:;
-  if (((u8)(x786 == x54))) goto b111; else goto b112;
+  if (((u8)(x803 == x54))) goto b111; else goto b112;
 b111:;
-  x788 = f65(x779, 1u);
-  if (x788) goto b112; else goto b113;
+  x805 = f62(x796, 1u);
+  if (x805) goto b112; else goto b113;
 b112:;
-  f66(x779, x55, x785);
+  f63(x796, x55, x802);
   goto b110;
 b113:;
   TRAP();
   UNREACHABLE();
 b110:;
-  x789 = ld64_8(x782);
-  if (((u8)(x789 == 32u))) goto b114; else goto b115;
+  x806 = ld64_8(x799);
+  if (((u8)(x806 == 32u))) goto b114; else goto b115;
 b114:;
-  x790 = umin64(((u64)((u64)x55 + 1u)), 31u);
-  x791 = ADD(x767, 32);
-  x792 = ld64_8(x791);
-  if (((u8)(x792 == 0u))) goto b116; else goto b117;
+  x807 = umin64(((u64)((u64)x55 + 1u)), 31u);
+  x808 = ADD(x784, 32);
+  x809 = ld64_8(x808);
+  if (((u8)(x809 == 0u))) goto b116; else goto b117;
 b117:;
-  x793 = (u64)((u64)x792 + UINT64_C(18446744073709551615));
-  st64_8(x791, x793);
-  x794 = ldp_8(ADD(x767, 24));
-  MEMCPY(x795, ADD(x794, (u64)((u64)((u64)x793 * 24u))), 24);
-  st64_8(ADD(x795, 8), 0u);
-  x796 = ldp_8(x779);
-  x797 = f67(x795, FAR(x796, (u64)((u64)((u64)x790 * 24u))), ((u64)((u64)32u - x790)));
-  if (((u8)((x797) & 1u))) goto b118; else goto b119;
+  x810 = (u64)((u64)x809 + UINT64_C(18446744073709551615));
+  st64_8(x808, x810);
+  x811 = ldp_8(ADD(x784, 24));
+  MEMCPY(x812, ADD(x811, (u64)((u64)((u64)x810 * 24u))), 24);
+  st64_8(ADD(x812, 8), 0u);
+  x813 = ldp_8(x796);
+  x814 = f64(x812, FAR(x813, (u64)((u64)((u64)x807 * 24u))), ((u64)((u64)32u - x807)));
+  if (((u8)((x814) & 1u))) goto b118; else goto b119;
 b118:;
   TRAP();
   UNREACHABLE();
 b119:;
-  x798 = ld64_8(x782);
-  if (((u8)(x798 > x790))) goto b120; else goto b121;
+  x815 = ld64_8(x799);
+  if (((u8)(x815 > x807))) goto b120; else goto b121;
 b120:;
-  st64_8(x782, x790);
+  st64_8(x799, x807);
   goto b121;
 b121:;
-  x799 = (u64)((u64)x52 + 1u);
-  x800 = ld64_8(ADD(x767, 16));
-  if (((u8)(x46 < x800))) goto b122; else goto b123;
+  x816 = (u64)((u64)x52 + 1u);
+  x817 = ld64_8(ADD(x784, 16));
+  if (((u8)(x46 < x817))) goto b122; else goto b123;
 b122:;
-  f68(x767, x799, x795);
+  f65(x784, x816, x812);
   goto b124;
 b123:;
-  if (((u8)(x800 == x46))) goto b125; else goto b126;
+  if (((u8)(x817 == x46))) goto b125; else goto b126;
 b125:;
-  x801 = f36(x767);
-  if (x801) goto b126; else goto b127;
+  x818 = f33(x784);
+  if (x818) goto b126; else goto b127;
 b126:;
-  f68(x767, x799, x795);
+  f65(x784, x816, x812);
   goto b124;
 b116:;
   TRAP();
@@ -3538,876 +3546,868 @@ b127:;
   TRAP();
   UNREACHABLE();
 b124:;
-  f69(x767, ((u64)((u64)x52 + 2u)));
-  f69(x767, x799);
-  f69(x767, x52);
+  f66(x784, ((u64)((u64)x52 + 2u)));
+  f66(x784, x816);
+  f66(x784, x52);
   goto b115;
 b18:;
-  MEMCPY(x662, x672, 24);
-  f78(x662);
-  MEMCPY(x663, ADD(x632, 31), 24);
-  f78(x663);
-  MEMCPY(x664, ADD(x632, 55), 24);
-  f78(x664);
-  MEMSET(x589, 0u, 5);
-  MEMSET(x590, 0u, 5);
-  MEMSET(x591, 0u, 3);
-  MEMSET(x592, 0u, 56);
-  MEMSET(x593, 0u, 56);
-  MEMSET(x594, 0u, 56);
-  MEMSET(x595, 0u, 56);
-  MEMSET(x596, 0u, 39);
-  MEMSET(x597, 0u, 39);
-  MEMSET(x598, 0u, 16);
-  MEMSET(x599, 0u, 168);
-  MEMSET(x600, 0u, 168);
-  MEMSET(x601, 0u, 25);
-  MEMSET(x602, 0u, 119);
-  MEMSET(x603, 0u, 16);
-  MEMSET(x604, 0u, 72);
-  { x210 = Q_NULL; x211 = 0u; x212 = 0u; x213 = 0u; x214 = Q_NULL; x215 = 0u; x216 = 0u; x217 = 0u; x218 = 0u; x219 = 0u; x220 = 0u; x221 = 0u; x222 = 0u; x223 = 0u; x224 = 0u; x225 = 0u; x226 = 0u; x227 = 0u; x228 = Q_NULL; x229 = 0u; x230 = Q_NULL; x231 = Q_NULL; x232 = 0u; x233 = Q_NULL; x234 = 0u; x235 = 0u; x236 = 0u; x237 = 0u; x238 = 0u; x239 = 0u; x240 = 0u; x241 = 0u; x242 = 0u; x243 = Q_NULL; x244 = 0u; x245 = Q_NULL; x246 = 0u; x247 = 0u; x248 = Q_NULL; x249 = 0u; x250 = 0u; x251 = Q_NULL; x252 = 0u; x253 = 0u; x254 = 0u; x255 = 0u; x256 = 0u; x257 = Q_NULL; x258 = 0u; x259 = 0u; x260 = Q_NULL; x261 = 0u; x262 = 0u; x263 = Q_NULL; x264 = 0u; x265 = 0u; x266 = Q_NULL; x267 = 0u; x268 = 0u; x269 = 0u; x270 = 0u; x271 = 0u; x272 = Q_NULL; x273 = 0u; x274 = 0u; x275 = Q_NULL; x276 = 0u; x277 = 0u; x278 = Q_NULL; x279 = 0u; x280 = 0u; x281 = Q_NULL; x282 = 0u; x283 = 0u; x284 = 0u; x285 = 0u; x286 = Q_NULL; x287 = 0u; x288 = 0u; goto b20; }
+  stp_8(x681, x25);
+  MEMSET(ADD(x681, 8), 0u, 16);
+  f75(x681);
+  f75(x650);
+  MEMSET(x598, 0u, 5);
+  MEMSET(x599, 0u, 5);
+  MEMSET(x600, 0u, 3);
+  MEMSET(x601, 0u, 56);
+  MEMSET(x602, 0u, 56);
+  MEMSET(x603, 0u, 56);
+  MEMSET(x604, 0u, 56);
+  MEMSET(x605, 0u, 39);
+  MEMSET(x606, 0u, 39);
+  MEMSET(x607, 0u, 16);
+  MEMSET(x608, 0u, 168);
+  MEMSET(x609, 0u, 168);
+  MEMSET(x610, 0u, 25);
+  MEMSET(x611, 0u, 119);
+  MEMSET(x612, 0u, 16);
+  MEMSET(x613, 0u, 16);
+  MEMSET(x614, 0u, 24);
+  { x211 = Q_NULL; x212 = 0u; x213 = 0u; x214 = 0u; x215 = Q_NULL; x216 = 0u; x217 = 0u; x218 = 0u; x219 = 0u; x220 = 0u; x221 = 0u; x222 = 0u; x223 = 0u; x224 = 0u; x225 = 0u; x226 = 0u; x227 = 0u; x228 = 0u; x229 = Q_NULL; x230 = 0u; x231 = Q_NULL; x232 = Q_NULL; x233 = 0u; x234 = Q_NULL; x235 = 0u; x236 = 0u; x237 = 0u; x238 = 0u; x239 = 0u; x240 = 0u; x241 = 0u; x242 = 0u; x243 = 0u; x244 = Q_NULL; x245 = 0u; x246 = Q_NULL; x247 = 0u; x248 = 0u; x249 = Q_NULL; x250 = 0u; x251 = 0u; x252 = Q_NULL; x253 = 0u; x254 = 0u; x255 = 0u; x256 = 0u; x257 = 0u; x258 = Q_NULL; x259 = 0u; x260 = 0u; x261 = Q_NULL; x262 = 0u; x263 = 0u; x264 = Q_NULL; x265 = 0u; x266 = 0u; x267 = Q_NULL; x268 = 0u; x269 = 0u; x270 = 0u; x271 = 0u; x272 = 0u; x273 = Q_NULL; x274 = 0u; x275 = 0u; x276 = Q_NULL; x277 = 0u; x278 = 0u; x279 = Q_NULL; x280 = 0u; x281 = 0u; x282 = Q_NULL; x283 = 0u; x284 = 0u; x285 = 0u; x286 = 0u; x287 = Q_NULL; x288 = Q_NULL; x289 = 0u; x290 = 0u; goto b20; }
 b115:;
-  MEMCPY(x712, x766, 56);
-  MEMCPY(x713, x767, 56);
-  MEMCPY(ADD(x715, 7), x700, 112);
-  MEMCPY(x633, x714, 5);
-  MEMCPY(x634, x710, 3);
-  MEMCPY(x635, x711, 56);
-  MEMCPY(x636, x712, 56);
-  MEMCPY(x637, x713, 56);
-  MEMCPY(x638, x694, 56);
-  MEMCPY(x639, x695, 39);
-  MEMCPY(x640, x696, 39);
-  MEMCPY(x641, x697, 16);
-  MEMCPY(x642, x698, 168);
-  MEMCPY(x643, x699, 168);
-  MEMCPY(x644, x715, 119);
-  MEMCPY(x645, x701, 16);
-  MEMCPY(x627, x636, 56);
-  MEMCPY(x628, x637, 56);
-  MEMCPY(x629, x638, 56);
-  MEMCPY(x630, x642, 168);
-  MEMCPY(x631, x643, 168);
-  MEMSET(x802, 0u, 32);
-  x803 = umax64(((u64)((u64)((u64)((u64)x148 << 5)) + 32u)), 32u);
-  f75(x802, (((u8)((x605 & 255u) == 0u)) ? 86u : ((u64)((u64)x803 + 54u))));
-  x804 = ld8_1(x802);
-  if (((u8)(x804 == 0u))) goto b128; else goto b129;
+  MEMCPY(x729, x783, 56);
+  MEMCPY(x730, x784, 56);
+  MEMCPY(ADD(x732, 7), x717, 112);
+  MEMCPY(x651, x731, 5);
+  MEMCPY(x652, x727, 3);
+  MEMCPY(x653, x728, 56);
+  MEMCPY(x654, x729, 56);
+  MEMCPY(x655, x730, 56);
+  MEMCPY(x656, x711, 56);
+  MEMCPY(x657, x712, 39);
+  MEMCPY(x658, x713, 39);
+  MEMCPY(x659, x714, 16);
+  MEMCPY(x660, x715, 168);
+  MEMCPY(x661, x716, 168);
+  MEMCPY(x662, x732, 119);
+  MEMCPY(x663, x718, 16);
+  MEMCPY(x645, x654, 56);
+  MEMCPY(x646, x655, 56);
+  MEMCPY(x647, x656, 56);
+  MEMCPY(x648, x660, 168);
+  MEMCPY(x649, x661, 168);
+  MEMSET(x819, 0u, 32);
+  x820 = umax64(((u64)((u64)((u64)((u64)x149 << 5)) + 32u)), 32u);
+  f72(x819, (((u8)((x615 & 255u) == 0u)) ? 86u : ((u64)((u64)x820 + 54u))));
+  x821 = ld8_1(x819);
+  if (((u8)(x821 == 0u))) goto b128; else goto b129;
 b128:;
-  x113 = (u64)((x758) & UINT64_C(281474976710655));
-  x115 = ((((u64)((u64)x755 << 32)) | x679) | ((u64)((u64)x611 << 48)));
-  x97 = (u64)x757;
-  x70 = ldp_8(ADD(x802, 8));
-  x72 = ld64_8(ADD(x802, 16));
-  x74 = ld64_8(ADD(x802, 24));
-  MEMCPY(x646, x620, 5);
-  MEMCPY(x647, x633, 5);
-  MEMCPY(x648, x634, 3);
-  MEMCPY(x649, x635, 56);
-  MEMCPY(x650, x636, 56);
-  MEMCPY(x651, x637, 56);
-  MEMCPY(x652, x638, 56);
-  MEMCPY(x653, x639, 39);
-  MEMCPY(x654, x640, 39);
-  MEMCPY(x655, x641, 16);
-  MEMCPY(x656, x642, 168);
-  MEMCPY(x657, x643, 168);
-  MEMSET(x658, 0u, 25);
-  MEMCPY(x659, x644, 119);
-  MEMCPY(x660, x645, 16);
-  MEMCPY(x661, x626, 72);
-  x208 = (Q)(u64)(((u64)((u64)((u64)x608) << 32)) | x606);
-  { x71 = x70; x73 = x72; x75 = x74; x76 = 1u; x78 = x77; x80 = x79; x82 = x81; x84 = x83; x86 = x85; x88 = x87; x90 = x89; x92 = x91; x94 = x93; x96 = x95; x98 = x97; x100 = x99; x102 = x101; x103 = 1000u; x105 = x104; x106 = 30000u; x107 = 1500u; x108 = 64u; x109 = x12; x110 = x40; x111 = x8; x112 = x6; x114 = x113; x116 = x115; x118 = x117; x119 = 1u; x120 = x18; x122 = x121; x123 = x15; x124 = x26; x126 = x125; x127 = x28; x128 = x30; x130 = x129; x131 = x32; x132 = x34; x133 = x36; x135 = x134; x137 = x136; x139 = x138; x141 = x140; x143 = x142; x145 = x144; x147 = x146; x149 = x148; x151 = x150; x153 = x152; x155 = x154; x157 = x156; x159 = x158; x161 = x160; x163 = x162; x165 = x164; x167 = x166; x169 = x168; x171 = x170; x173 = x172; x175 = x174; x177 = x176; x179 = x178; x181 = x180; x183 = x182; x185 = x184; x187 = x186; x189 = x188; x191 = x190; x193 = x192; x195 = x194; x197 = x196; x199 = x198; x201 = x200; x203 = x202; x205 = x204; x207 = x206; x209 = x208; goto b130; }
+  x113 = (u64)((x775) & UINT64_C(281474976710655));
+  x115 = ((((u64)((u64)x772 << 32)) | x696) | ((u64)((u64)x621 << 48)));
+  x97 = (u64)x774;
+  x70 = ldp_8(ADD(x819, 8));
+  x72 = ld64_8(ADD(x819, 16));
+  x74 = ld64_8(ADD(x819, 24));
+  MEMCPY(x664, x630, 5);
+  MEMCPY(x665, x651, 5);
+  MEMCPY(x666, x652, 3);
+  MEMCPY(x667, x653, 56);
+  MEMCPY(x668, x654, 56);
+  MEMCPY(x669, x655, 56);
+  MEMCPY(x670, x656, 56);
+  MEMCPY(x671, x657, 39);
+  MEMCPY(x672, x658, 39);
+  MEMCPY(x673, x659, 16);
+  MEMCPY(x674, x660, 168);
+  MEMCPY(x675, x661, 168);
+  MEMSET(x676, 0u, 25);
+  MEMCPY(x677, x662, 119);
+  MEMCPY(x678, x663, 16);
+  MEMCPY(x679, x643, 16);
+  MEMCPY(x680, x644, 24);
+  x209 = (Q)(u64)(((u64)((u64)((u64)x618) << 32)) | x616);
+  { x71 = x70; x73 = x72; x75 = x74; x76 = 1u; x78 = x77; x80 = x79; x82 = x81; x84 = x83; x86 = x85; x88 = x87; x90 = x89; x92 = x91; x94 = x93; x96 = x95; x98 = x97; x100 = x99; x102 = x101; x103 = 1000u; x105 = x104; x106 = 30000u; x107 = 1500u; x108 = 64u; x109 = x12; x110 = x40; x111 = x8; x112 = x6; x114 = x113; x116 = x115; x118 = x117; x119 = 1u; x120 = x25; x121 = x18; x123 = x122; x124 = x15; x125 = x26; x127 = x126; x128 = x28; x129 = x30; x131 = x130; x132 = x32; x133 = x34; x134 = x36; x136 = x135; x138 = x137; x140 = x139; x142 = x141; x144 = x143; x146 = x145; x148 = x147; x150 = x149; x152 = x151; x154 = x153; x156 = x155; x158 = x157; x160 = x159; x162 = x161; x164 = x163; x166 = x165; x168 = x167; x170 = x169; x172 = x171; x174 = x173; x176 = x175; x178 = x177; x180 = x179; x182 = x181; x184 = x183; x186 = x185; x188 = x187; x190 = x189; x192 = x191; x194 = x193; x196 = x195; x198 = x197; x200 = x199; x202 = x201; x204 = x203; x206 = x205; x208 = x207; x210 = x209; goto b130; }
 b129:;
-  MEMSET(x621, 0u, 5);
-  MEMSET(x622, 0u, 5);
-  MEMSET(x623, 0u, 3);
-  MEMSET(x624, 0u, 56);
-  MEMSET(x625, 0u, 56);
-  if (x730) goto b131; else goto b132;
+  MEMSET(x631, 0u, 5);
+  MEMSET(x632, 0u, 5);
+  MEMSET(x633, 0u, 3);
+  MEMSET(x634, 0u, 56);
+  MEMSET(x635, 0u, 56);
+  MEMSET(x636, 0u, 56);
+  MEMSET(x637, 0u, 56);
+  MEMSET(x638, 0u, 39);
+  MEMSET(x639, 0u, 39);
+  MEMSET(x640, 0u, 16);
+  MEMSET(x641, 0u, 168);
+  MEMSET(x642, 0u, 168);
+  if (x747) goto b131; else goto b132;
 b132:;
   os_rattle_dealloc(x26);
   os_rattle_dealloc(x28);
-  f37(x635);
-  f37(ADD(x635, 24));
+  f34(x653);
+  f34(ADD(x653, 24));
   os_rattle_dealloc(x30);
   goto b133;
 b131:;
-  f37(x635);
-  f37(ADD(x635, 24));
+  f34(x653);
+  f34(ADD(x653, 24));
   goto b133;
 b133:;
-  if (x737) goto b134; else goto b135;
+  if (x754) goto b134; else goto b135;
 b135:;
   os_rattle_dealloc(x32);
   goto b134;
 b134:;
-  if (x741) goto b136; else goto b137;
+  if (x758) goto b136; else goto b137;
 b137:;
   os_rattle_dealloc(x34);
   goto b136;
 b136:;
-  f37(x636);
-  f37(ADD(x627, 24));
-  f37(x637);
-  f37(ADD(x628, 24));
-  if (x748) goto b138; else goto b139;
+  f34(x645);
+  f34(ADD(x645, 24));
+  f34(x646);
+  f34(ADD(x646, 24));
+  if (x765) goto b138; else goto b139;
 b139:;
   os_rattle_dealloc(x36);
   goto b138;
 b138:;
-  f37(x629);
-  f37(ADD(x629, 24));
-  if (((u8)(x140 == 0u))) goto b140; else goto b141;
+  f34(x647);
+  f34(ADD(x647, 24));
+  if (((u8)(x141 == 0u))) goto b140; else goto b141;
 b141:;
-  os_rattle_dealloc(x136);
+  os_rattle_dealloc(x137);
   goto b140;
 b140:;
-  if (((u8)(x144 == 0u))) goto b142; else { x57 = 0u; goto b143; }
+  if (((u8)(x145 == 0u))) goto b142; else { x57 = 0u; goto b143; }
 b143:;
-  x805 = ADD(x142, (u64)((u64)((u64)x57 * 40u)));
-  x806 = ld64_1(ADD(x805, 16));
-  if (((u8)(x806 == 0u))) goto b144; else goto b145;
+  x822 = ADD(x143, (u64)((u64)((u64)x57 * 40u)));
+  x823 = ld64_1(ADD(x822, 16));
+  if (((u8)(x823 == 0u))) goto b144; else goto b145;
 b145:;
-  x807 = ldp_1(x805);
-  os_rattle_dealloc(x807);
+  x824 = ldp_1(x822);
+  os_rattle_dealloc(x824);
   goto b144;
 b144:;
   x56 = (u64)((u64)x57 + 1u);
-  if (((u8)(x56 == x144))) goto b142; else { x57 = x56; goto b143; }
+  if (((u8)(x56 == x145))) goto b142; else { x57 = x56; goto b143; }
 b142:;
-  if (((u8)(x146 == 0u))) goto b146; else goto b147;
+  if (((u8)(x147 == 0u))) goto b146; else goto b147;
 b147:;
-  os_rattle_dealloc(x142);
+  os_rattle_dealloc(x143);
   goto b146;
 b146:;
-  MEMCPY(x808, x630, 168);
-  x809 = ADD(x808, 8);
-  x810 = ld64_8(x809);
-  if (((u8)(x810 == 0u))) goto b148; else goto b149;
+  MEMCPY(x825, x648, 168);
+  x826 = ADD(x825, 8);
+  x827 = ld64_8(x826);
+  if (((u8)(x827 == 0u))) goto b148; else goto b149;
 b149:;
-  x811 = ADD(x808, 152);
-  x812 = ADD(x808, 136);
-  x813 = ADD(x808, 64);
-  x814 = ADD(x808, 72);
-  x815 = ADD(x808, 96);
-  x816 = ADD(x808, 128);
-  x817 = ADD(x808, 104);
+  x828 = ADD(x825, 152);
+  x829 = ADD(x825, 136);
+  x830 = ADD(x825, 64);
+  x831 = ADD(x825, 72);
+  x832 = ADD(x825, 96);
+  x833 = ADD(x825, 128);
+  x834 = ADD(x825, 104);
   goto b150;
 b150:;
-  x818 = ldp_8(x811);
-  x819 = ldp_8(x818);
-  x820 = ld128_8(FAR(x819, 16));
-  x821 = ldp_8(x808);
-  x822 = ldp_8(x813);
-  x823 = ld64_8(x814);
-  if (((u8)(x823 == 0u))) goto b151; else goto b152;
+  x835 = ldp_8(x828);
+  x836 = ldp_8(x835);
+  x837 = ld128_8(FAR(x836, 16));
+  x838 = ldp_8(x825);
+  x839 = ldp_8(x830);
+  x840 = ld64_8(x831);
+  if (((u8)(x840 == 0u))) goto b151; else goto b152;
 b152:;
-  x824 = ld64_8(x812);
-  x825 = u128_mul(u128_of(0, (((u64)((u64)x824 + 16u)) ^ ((u64)(u128_low(x820))))), u128_of(0, (((u64)(u128_low(u128_lshr(x820, (unsigned)u128_low(u128_of(0u, 64u)) & 127u)))) ^ UINT64_C(11400714819323198485))));
-  x826 = (u64)(u128_low(u128_xor(u128_lshr(x825, (unsigned)u128_low(u128_of(0u, 64u)) & 127u), x825)));
-  x827 = (((u64)((u64)x826 >> 32)) ^ x826);
-  x828 = umax8(((u8)(((u64)((u64)x827 >> 24)))), 1u);
-  x58 = ((((u64)((u64)x823 + 4294967295u)) & 4294967295u) & x827);
-  x829 = (u32)((u32)1u << (((u32)((u8)(x828 & 31u))) & 31u));
-  x830 = (u64)((u64)x823 + UINT64_C(18446744073709551615));
+  x841 = ld64_8(x829);
+  x842 = u128_mul(u128_of(0, (((u64)((u64)x841 + 16u)) ^ ((u64)(u128_low(x837))))), u128_of(0, (((u64)(u128_low(u128_lshr(x837, (unsigned)u128_low(u128_of(0u, 64u)) & 127u)))) ^ UINT64_C(11400714819323198485))));
+  x843 = (u64)(u128_low(u128_xor(u128_lshr(x842, (unsigned)u128_low(u128_of(0u, 64u)) & 127u), x842)));
+  x844 = (((u64)((u64)x843 >> 32)) ^ x843);
+  x845 = umax8(((u8)(((u64)((u64)x844 >> 24)))), 1u);
+  x58 = ((((u64)((u64)x840 + 4294967295u)) & 4294967295u) & x844);
+  x846 = (u32)((u32)1u << (((u32)((u8)(x845 & 31u))) & 31u));
+  x847 = (u64)((u64)x840 + UINT64_C(18446744073709551615));
   { x60 = x58; goto b153; }
 b153:;
-  x831 = FAR(x822, (u64)((u64)((u64)x60 << 6)));
-  x61 = f52(x831, x828);
+  x848 = FAR(x839, (u64)((u64)((u64)x60 << 6)));
+  x61 = f49(x848, x845);
   if (((u8)(x61 == 0u))) goto b154; else goto b155;
 b155:;
-  x832 = FAR(x831, 16);
+  x849 = FAR(x848, 16);
   { x63 = x61; goto b156; }
 b156:;
-  x833 = cttz32(x63);
-  x834 = (u64)x833;
-  x835 = ld32_4(ADD(x832, (u64)((u64)((u64)x834 << 2))));
-  x836 = (u64)x835;
-  x837 = (u64)((u64)x836 << 3);
-  x838 = ldp_8(FAR(x821, (u64)x837));
-  x839 = ld128_8(x838);
-  if (((u8)u128_eq(x820, x839))) goto b157; else goto b158;
+  x850 = cttz32(x63);
+  x851 = (u64)x850;
+  x852 = ld32_4(ADD(x849, (u64)((u64)((u64)x851 << 2))));
+  x853 = (u64)x852;
+  x854 = (u64)((u64)x853 << 3);
+  x855 = ldp_8(FAR(x838, (u64)x854));
+  x856 = ld128_8(x855);
+  if (((u8)u128_eq(x837, x856))) goto b157; else goto b158;
 b158:;
   x62 = (((u32)((u32)x63 + 4294967295u)) & x63);
   if (((u8)(x62 == 0u))) goto b154; else { x63 = x62; goto b156; }
 b154:;
-  x840 = ld32_1(ADD(x831, 12));
-  if (((u8)((x840 & x829) == 0u))) goto b151; else goto b159;
+  x857 = ld32_1(ADD(x848, 12));
+  if (((u8)((x857 & x846) == 0u))) goto b151; else goto b159;
 b159:;
-  x59 = (((u64)((u64)x60 + 1u)) & x830);
+  x59 = (((u64)((u64)x60 + 1u)) & x847);
   if (((u8)(x59 == x58))) goto b151; else { x60 = x59; goto b153; }
 b151:;
   TRAP();
   UNREACHABLE();
 b157:;
-  x841 = ld64_8(x817);
-  x842 = ldp_8(x815);
-  x843 = ld32_4(FAR(FAR(x842, (u64)((u64)((u64)x841 << 3))), -4));
-  x844 = (u64)((u64)((u64)x843) << 2);
-  st32_4(ADD(FAR(FAR(x822, (u64)(x844 & UINT64_C(17179869120))), 16), (u64)(x844 & 60u)), x835);
-  x845 = (u64)((u64)x841 + UINT64_C(18446744073709551615));
-  st64_8(x817, x845);
-  if (((u8)(x845 == x836))) goto b160; else goto b161;
+  x858 = ld64_8(x834);
+  x859 = ldp_8(x832);
+  x860 = ld32_4(FAR(FAR(x859, (u64)((u64)((u64)x858 << 3))), -4));
+  x861 = (u64)((u64)((u64)x860) << 2);
+  st32_4(ADD(FAR(FAR(x839, (u64)(x861 & UINT64_C(17179869120))), 16), (u64)(x861 & 60u)), x852);
+  x862 = (u64)((u64)x858 + UINT64_C(18446744073709551615));
+  st64_8(x834, x862);
+  if (((u8)(x862 == x853))) goto b160; else goto b161;
 b161:;
-  x846 = ld64_1(ADD(x842, (u64)((u64)((u64)x845 << 3))));
-  st64_1(ADD(x842, (u64)x837), x846);
+  x863 = ld64_1(ADD(x859, (u64)((u64)((u64)x862 << 3))));
+  st64_1(ADD(x859, (u64)x854), x863);
   goto b160;
 b160:;
-  st8_1(ADD(x831, (u64)x834), 0u);
-  x847 = ld32_1(ADD(x831, 12));
-  x848 = ld64_8(x816);
-  st64_8(x816, ((u64)((u64)x848 + ((u64)((u8)(x847 == 0u))))));
-  x849 = f77(x808, x836);
-  x850 = ldp_8(FAR(x849, 8));
-  x851 = ldp_8(x849);
-  stp_8(FAR(x851, 8), x850);
-  x852 = ldp_8(x849);
-  stp_8(x850, x852);
-  os_rattle_dealloc(x849);
-  x853 = ld64_8(x809);
-  if (((u8)(x853 == 0u))) goto b148; else goto b150;
+  st8_1(ADD(x848, (u64)x851), 0u);
+  x864 = ld32_1(ADD(x848, 12));
+  x865 = ld64_8(x833);
+  st64_8(x833, ((u64)((u64)x865 + ((u64)((u8)(x864 == 0u))))));
+  x866 = f74(x825, x853);
+  x867 = ldp_8(FAR(x866, 8));
+  x868 = ldp_8(x866);
+  stp_8(FAR(x868, 8), x867);
+  x869 = ldp_8(x866);
+  stp_8(x867, x869);
+  os_rattle_dealloc(x866);
+  x870 = ld64_8(x826);
+  if (((u8)(x870 == 0u))) goto b148; else goto b150;
 b148:;
-  x854 = ld64_8(ADD(x808, 16));
-  x855 = ld8_1(ADD(x808, 24));
-  x856 = ldp_8(ADD(x808, 32));
-  x857 = ld64_8(ADD(x808, 48));
-  x858 = ld8_1(ADD(x808, 56));
-  x859 = ldp_8(ADD(x808, 144));
-  x860 = ldp_8(ADD(x808, 152));
-  if ((((u8)(x854 != 0u)) ? ((u8)(x855 == 1u)) : 0u)) goto b162; else goto b163;
+  x871 = ld64_8(ADD(x825, 16));
+  x872 = ld8_1(ADD(x825, 24));
+  x873 = ldp_8(ADD(x825, 32));
+  x874 = ld64_8(ADD(x825, 48));
+  x875 = ld8_1(ADD(x825, 56));
+  x876 = ldp_8(ADD(x825, 144));
+  x877 = ldp_8(ADD(x825, 152));
+  if ((((u8)(x871 != 0u)) ? ((u8)(x872 == 1u)) : 0u)) goto b162; else goto b163;
 b162:;
-  x861 = ldp_8(x808);
-  os_rattle_dealloc(x861);
+  x878 = ldp_8(x825);
+  os_rattle_dealloc(x878);
   goto b163;
 b163:;
-  if ((((u8)(x857 != 0u)) ? ((u8)(x858 == 1u)) : 0u)) goto b164; else goto b165;
+  if ((((u8)(x874 != 0u)) ? ((u8)(x875 == 1u)) : 0u)) goto b164; else goto b165;
 b164:;
-  os_rattle_dealloc(x856);
+  os_rattle_dealloc(x873);
   goto b165;
 b165:;
-  f45(ADD(x808, 64));
-  os_rattle_dealloc(x859);
-  os_rattle_dealloc(x860);
-  MEMCPY(x862, x631, 168);
-  x863 = ADD(x862, 8);
-  x864 = ld64_8(x863);
-  if (((u8)(x864 == 0u))) goto b166; else goto b167;
+  f42(ADD(x825, 64));
+  os_rattle_dealloc(x876);
+  os_rattle_dealloc(x877);
+  MEMCPY(x879, x649, 168);
+  x880 = ADD(x879, 8);
+  x881 = ld64_8(x880);
+  if (((u8)(x881 == 0u))) goto b166; else goto b167;
 b167:;
-  x865 = ADD(x862, 152);
-  x866 = ADD(x862, 136);
-  x867 = ADD(x862, 64);
-  x868 = ADD(x862, 72);
-  x869 = ADD(x862, 96);
-  x870 = ADD(x862, 128);
-  x871 = ADD(x862, 104);
+  x882 = ADD(x879, 152);
+  x883 = ADD(x879, 136);
+  x884 = ADD(x879, 64);
+  x885 = ADD(x879, 72);
+  x886 = ADD(x879, 96);
+  x887 = ADD(x879, 128);
+  x888 = ADD(x879, 104);
   goto b168;
 b168:;
-  x872 = ldp_8(x865);
-  x873 = ldp_8(x872);
-  x874 = ld128_8(FAR(x873, 16));
-  x875 = ldp_8(x862);
-  x876 = ldp_8(x867);
-  x877 = ld64_8(x868);
-  if (((u8)(x877 == 0u))) goto b169; else goto b170;
+  x889 = ldp_8(x882);
+  x890 = ldp_8(x889);
+  x891 = ld128_8(FAR(x890, 16));
+  x892 = ldp_8(x879);
+  x893 = ldp_8(x884);
+  x894 = ld64_8(x885);
+  if (((u8)(x894 == 0u))) goto b169; else goto b170;
 b170:;
-  x878 = ld64_8(x866);
-  x879 = u128_mul(u128_of(0, (((u64)((u64)x878 + 16u)) ^ ((u64)(u128_low(x874))))), u128_of(0, (((u64)(u128_low(u128_lshr(x874, (unsigned)u128_low(u128_of(0u, 64u)) & 127u)))) ^ UINT64_C(11400714819323198485))));
-  x880 = (u64)(u128_low(u128_xor(u128_lshr(x879, (unsigned)u128_low(u128_of(0u, 64u)) & 127u), x879)));
-  x881 = (((u64)((u64)x880 >> 32)) ^ x880);
-  x882 = umax8(((u8)(((u64)((u64)x881 >> 24)))), 1u);
-  x64 = ((((u64)((u64)x877 + 4294967295u)) & 4294967295u) & x881);
-  x883 = (u32)((u32)1u << (((u32)((u8)(x882 & 31u))) & 31u));
-  x884 = (u64)((u64)x877 + UINT64_C(18446744073709551615));
+  x895 = ld64_8(x883);
+  x896 = u128_mul(u128_of(0, (((u64)((u64)x895 + 16u)) ^ ((u64)(u128_low(x891))))), u128_of(0, (((u64)(u128_low(u128_lshr(x891, (unsigned)u128_low(u128_of(0u, 64u)) & 127u)))) ^ UINT64_C(11400714819323198485))));
+  x897 = (u64)(u128_low(u128_xor(u128_lshr(x896, (unsigned)u128_low(u128_of(0u, 64u)) & 127u), x896)));
+  x898 = (((u64)((u64)x897 >> 32)) ^ x897);
+  x899 = umax8(((u8)(((u64)((u64)x898 >> 24)))), 1u);
+  x64 = ((((u64)((u64)x894 + 4294967295u)) & 4294967295u) & x898);
+  x900 = (u32)((u32)1u << (((u32)((u8)(x899 & 31u))) & 31u));
+  x901 = (u64)((u64)x894 + UINT64_C(18446744073709551615));
   { x66 = x64; goto b171; }
 b171:;
-  x885 = FAR(x876, (u64)((u64)((u64)x66 << 6)));
-  x67 = f52(x885, x882);
+  x902 = FAR(x893, (u64)((u64)((u64)x66 << 6)));
+  x67 = f49(x902, x899);
   if (((u8)(x67 == 0u))) goto b172; else goto b173;
 b173:;
-  x886 = FAR(x885, 16);
+  x903 = FAR(x902, 16);
   { x69 = x67; goto b174; }
 b174:;
-  x887 = cttz32(x69);
-  x888 = (u64)x887;
-  x889 = ld32_4(ADD(x886, (u64)((u64)((u64)x888 << 2))));
-  x890 = (u64)x889;
-  x891 = (u64)((u64)x890 << 3);
-  x892 = ldp_8(FAR(x875, (u64)x891));
-  x893 = ld128_8(x892);
-  if (((u8)u128_eq(x874, x893))) goto b175; else goto b176;
+  x904 = cttz32(x69);
+  x905 = (u64)x904;
+  x906 = ld32_4(ADD(x903, (u64)((u64)((u64)x905 << 2))));
+  x907 = (u64)x906;
+  x908 = (u64)((u64)x907 << 3);
+  x909 = ldp_8(FAR(x892, (u64)x908));
+  x910 = ld128_8(x909);
+  if (((u8)u128_eq(x891, x910))) goto b175; else goto b176;
 b176:;
   x68 = (((u32)((u32)x69 + 4294967295u)) & x69);
   if (((u8)(x68 == 0u))) goto b172; else { x69 = x68; goto b174; }
 b172:;
-  x894 = ld32_1(ADD(x885, 12));
-  if (((u8)((x894 & x883) == 0u))) goto b169; else goto b177;
+  x911 = ld32_1(ADD(x902, 12));
+  if (((u8)((x911 & x900) == 0u))) goto b169; else goto b177;
 b177:;
-  x65 = (((u64)((u64)x66 + 1u)) & x884);
+  x65 = (((u64)((u64)x66 + 1u)) & x901);
   if (((u8)(x65 == x64))) goto b169; else { x66 = x65; goto b171; }
 b169:;
   TRAP();
   UNREACHABLE();
 b175:;
-  x895 = ld64_8(x871);
-  x896 = ldp_8(x869);
-  x897 = ld32_4(FAR(FAR(x896, (u64)((u64)((u64)x895 << 3))), -4));
-  x898 = (u64)((u64)((u64)x897) << 2);
-  st32_4(ADD(FAR(FAR(x876, (u64)(x898 & UINT64_C(17179869120))), 16), (u64)(x898 & 60u)), x889);
-  x899 = (u64)((u64)x895 + UINT64_C(18446744073709551615));
-  st64_8(x871, x899);
-  if (((u8)(x899 == x890))) goto b178; else goto b179;
+  x912 = ld64_8(x888);
+  x913 = ldp_8(x886);
+  x914 = ld32_4(FAR(FAR(x913, (u64)((u64)((u64)x912 << 3))), -4));
+  x915 = (u64)((u64)((u64)x914) << 2);
+  st32_4(ADD(FAR(FAR(x893, (u64)(x915 & UINT64_C(17179869120))), 16), (u64)(x915 & 60u)), x906);
+  x916 = (u64)((u64)x912 + UINT64_C(18446744073709551615));
+  st64_8(x888, x916);
+  if (((u8)(x916 == x907))) goto b178; else goto b179;
 b179:;
-  x900 = ld64_1(ADD(x896, (u64)((u64)((u64)x899 << 3))));
-  st64_1(ADD(x896, (u64)x891), x900);
+  x917 = ld64_1(ADD(x913, (u64)((u64)((u64)x916 << 3))));
+  st64_1(ADD(x913, (u64)x908), x917);
   goto b178;
 b178:;
-  st8_1(ADD(x885, (u64)x888), 0u);
-  x901 = ld32_1(ADD(x885, 12));
-  x902 = ld64_8(x870);
-  st64_8(x870, ((u64)((u64)x902 + ((u64)((u8)(x901 == 0u))))));
-  x903 = f77(x862, x890);
-  x904 = ldp_8(FAR(x903, 8));
-  x905 = ldp_8(x903);
-  stp_8(FAR(x905, 8), x904);
-  x906 = ldp_8(x903);
-  stp_8(x904, x906);
-  os_rattle_dealloc(x903);
-  x907 = ld64_8(x863);
-  if (((u8)(x907 == 0u))) goto b166; else goto b168;
+  st8_1(ADD(x902, (u64)x905), 0u);
+  x918 = ld32_1(ADD(x902, 12));
+  x919 = ld64_8(x887);
+  st64_8(x887, ((u64)((u64)x919 + ((u64)((u8)(x918 == 0u))))));
+  x920 = f74(x879, x907);
+  x921 = ldp_8(FAR(x920, 8));
+  x922 = ldp_8(x920);
+  stp_8(FAR(x922, 8), x921);
+  x923 = ldp_8(x920);
+  stp_8(x921, x923);
+  os_rattle_dealloc(x920);
+  x924 = ld64_8(x880);
+  if (((u8)(x924 == 0u))) goto b166; else goto b168;
 b166:;
-  x908 = ld64_8(ADD(x862, 16));
-  x909 = ld8_1(ADD(x862, 24));
-  x910 = ldp_8(ADD(x862, 32));
-  x911 = ld64_8(ADD(x862, 48));
-  x912 = ld8_1(ADD(x862, 56));
-  x913 = ldp_8(ADD(x862, 144));
-  x914 = ldp_8(ADD(x862, 152));
-  if ((((u8)(x908 != 0u)) ? ((u8)(x909 == 1u)) : 0u)) goto b180; else goto b181;
+  x925 = ld64_8(ADD(x879, 16));
+  x926 = ld8_1(ADD(x879, 24));
+  x927 = ldp_8(ADD(x879, 32));
+  x928 = ld64_8(ADD(x879, 48));
+  x929 = ld8_1(ADD(x879, 56));
+  x930 = ldp_8(ADD(x879, 144));
+  x931 = ldp_8(ADD(x879, 152));
+  if ((((u8)(x925 != 0u)) ? ((u8)(x926 == 1u)) : 0u)) goto b180; else goto b181;
 b180:;
-  x915 = ldp_8(x862);
-  os_rattle_dealloc(x915);
+  x932 = ldp_8(x879);
+  os_rattle_dealloc(x932);
   goto b181;
 b181:;
-  if ((((u8)(x911 != 0u)) ? ((u8)(x912 == 1u)) : 0u)) goto b182; else goto b183;
+  if ((((u8)(x928 != 0u)) ? ((u8)(x929 == 1u)) : 0u)) goto b182; else goto b183;
 b182:;
-  os_rattle_dealloc(x910);
+  os_rattle_dealloc(x927);
   goto b183;
 b183:;
-  f45(ADD(x862, 64));
-  os_rattle_dealloc(x913);
-  os_rattle_dealloc(x914);
-  if (((u8)(x154 == 0u))) goto b184; else goto b185;
+  f42(ADD(x879, 64));
+  os_rattle_dealloc(x930);
+  os_rattle_dealloc(x931);
+  if (((u8)(x155 == 0u))) goto b184; else goto b185;
 b185:;
-  os_rattle_dealloc(x150);
+  os_rattle_dealloc(x151);
   goto b184;
 b184:;
-  if (((u8)(x160 == 0u))) goto b186; else goto b187;
+  if (((u8)(x161 == 0u))) goto b186; else goto b187;
 b187:;
-  os_rattle_dealloc(x156);
+  os_rattle_dealloc(x157);
   goto b186;
 b186:;
-  if (((u8)(x166 == 0u))) goto b188; else goto b189;
+  if (((u8)(x167 == 0u))) goto b188; else goto b189;
 b189:;
-  os_rattle_dealloc(x162);
+  os_rattle_dealloc(x163);
   goto b188;
 b188:;
-  if (((u8)(x172 == 0u))) goto b190; else goto b191;
+  if (((u8)(x173 == 0u))) goto b190; else goto b191;
 b191:;
-  os_rattle_dealloc(x168);
+  os_rattle_dealloc(x169);
   goto b190;
 b190:;
-  if (((u8)(x184 == 0u))) goto b192; else goto b193;
+  if (((u8)(x185 == 0u))) goto b192; else goto b193;
 b193:;
-  os_rattle_dealloc(x180);
+  os_rattle_dealloc(x181);
   goto b192;
 b192:;
-  if (((u8)(x190 == 0u))) goto b194; else goto b195;
+  if (((u8)(x191 == 0u))) goto b194; else goto b195;
 b195:;
-  os_rattle_dealloc(x186);
+  os_rattle_dealloc(x187);
   goto b194;
 b194:;
-  if (((u8)(x196 == 0u))) goto b196; else goto b197;
+  if (((u8)(x197 == 0u))) goto b196; else goto b197;
 b197:;
-  os_rattle_dealloc(x192);
+  os_rattle_dealloc(x193);
   goto b196;
 b196:;
-  if (((u8)(x202 == 0u))) goto b198; else goto b199;
+  if (((u8)(x203 == 0u))) goto b198; else goto b199;
 b199:;
-  os_rattle_dealloc(x198);
+  os_rattle_dealloc(x199);
   goto b198;
 b198:;
   os_rattle_dealloc(x18);
-  f78(x626);
-  f78(ADD(x626, 24));
-  f78(ADD(x626, 48));
-  MEMCPY(x589, x621, 5);
-  MEMCPY(x590, x622, 5);
-  MEMCPY(x591, x623, 3);
-  MEMCPY(x592, x624, 56);
-  MEMCPY(x593, x625, 56);
-  MEMSET(x594, 0u, 56);
-  MEMSET(x595, 0u, 56);
-  MEMSET(x596, 0u, 39);
-  MEMSET(x597, 0u, 39);
-  MEMSET(x598, 0u, 16);
-  MEMSET(x599, 0u, 168);
-  MEMSET(x600, 0u, 168);
-  MEMSET(x601, 0u, 25);
-  MEMSET(x602, 0u, 119);
-  MEMSET(x603, 0u, 16);
-  MEMSET(x604, 0u, 72);
-  { x210 = Q_NULL; x211 = 0u; x212 = 0u; x213 = 0u; x214 = Q_NULL; x215 = 0u; x216 = 0u; x217 = 0u; x218 = 0u; x219 = 0u; x220 = 0u; x221 = 0u; x222 = 0u; x223 = 0u; x224 = 0u; x225 = 0u; x226 = 0u; x227 = 0u; x228 = Q_NULL; x229 = 0u; x230 = Q_NULL; x231 = Q_NULL; x232 = 0u; x233 = Q_NULL; x234 = 0u; x235 = 0u; x236 = 0u; x237 = 0u; x238 = 0u; x239 = 0u; x240 = 0u; x241 = 0u; x242 = 0u; x243 = Q_NULL; x244 = 0u; x245 = Q_NULL; x246 = 0u; x247 = 0u; x248 = Q_NULL; x249 = 0u; x250 = 0u; x251 = Q_NULL; x252 = 0u; x253 = 0u; x254 = 0u; x255 = 0u; x256 = 0u; x257 = Q_NULL; x258 = 0u; x259 = 0u; x260 = Q_NULL; x261 = 0u; x262 = 0u; x263 = Q_NULL; x264 = 0u; x265 = 0u; x266 = Q_NULL; x267 = 0u; x268 = 0u; x269 = 0u; x270 = 0u; x271 = 0u; x272 = Q_NULL; x273 = 0u; x274 = 0u; x275 = Q_NULL; x276 = 0u; x277 = 0u; x278 = Q_NULL; x279 = 0u; x280 = 0u; x281 = Q_NULL; x282 = 0u; x283 = 0u; x284 = 0u; x285 = 0u; x286 = Q_NULL; x287 = 0u; x288 = 0u; goto b20; }
+  stp_8(x682, x25);
+  MEMCPY(ADD(x682, 8), x643, 16);
+  f75(x682);
+  f75(x644);
+  MEMCPY(x598, x631, 5);
+  MEMCPY(x599, x632, 5);
+  MEMCPY(x600, x633, 3);
+  MEMCPY(x601, x634, 56);
+  MEMCPY(x602, x635, 56);
+  MEMCPY(x603, x636, 56);
+  MEMCPY(x604, x637, 56);
+  MEMCPY(x605, x638, 39);
+  MEMCPY(x606, x639, 39);
+  MEMCPY(x607, x640, 16);
+  MEMCPY(x608, x641, 168);
+  MEMCPY(x609, x642, 168);
+  MEMSET(x610, 0u, 25);
+  MEMSET(x611, 0u, 119);
+  MEMSET(x612, 0u, 16);
+  MEMSET(x613, 0u, 16);
+  MEMSET(x614, 0u, 24);
+  { x211 = Q_NULL; x212 = 0u; x213 = 0u; x214 = 0u; x215 = Q_NULL; x216 = 0u; x217 = 0u; x218 = 0u; x219 = 0u; x220 = 0u; x221 = 0u; x222 = 0u; x223 = 0u; x224 = 0u; x225 = 0u; x226 = 0u; x227 = 0u; x228 = 0u; x229 = Q_NULL; x230 = 0u; x231 = Q_NULL; x232 = Q_NULL; x233 = 0u; x234 = Q_NULL; x235 = 0u; x236 = 0u; x237 = 0u; x238 = 0u; x239 = 0u; x240 = 0u; x241 = 0u; x242 = 0u; x243 = 0u; x244 = Q_NULL; x245 = 0u; x246 = Q_NULL; x247 = 0u; x248 = 0u; x249 = Q_NULL; x250 = 0u; x251 = 0u; x252 = Q_NULL; x253 = 0u; x254 = 0u; x255 = 0u; x256 = 0u; x257 = 0u; x258 = Q_NULL; x259 = 0u; x260 = 0u; x261 = Q_NULL; x262 = 0u; x263 = 0u; x264 = Q_NULL; x265 = 0u; x266 = 0u; x267 = Q_NULL; x268 = 0u; x269 = 0u; x270 = 0u; x271 = 0u; x272 = 0u; x273 = Q_NULL; x274 = 0u; x275 = 0u; x276 = Q_NULL; x277 = 0u; x278 = 0u; x279 = Q_NULL; x280 = 0u; x281 = 0u; x282 = Q_NULL; x283 = 0u; x284 = 0u; x285 = 0u; x286 = 0u; x287 = Q_NULL; x288 = Q_NULL; x289 = 0u; x290 = 0u; goto b20; }
 b37:;
-  MEMCPY(x633, x681, 5);
-  MEMCPY(x634, x682, 3);
-  MEMCPY(x635, x683, 56);
-  MEMCPY(x636, x684, 56);
-  MEMCPY(x637, x685, 56);
-  MEMCPY(x638, x686, 56);
-  MEMCPY(x639, x687, 39);
-  MEMCPY(x640, x688, 39);
-  MEMCPY(x641, x689, 16);
-  MEMCPY(x642, x690, 168);
-  MEMCPY(x643, x691, 168);
-  MEMCPY(x644, x692, 119);
-  MEMCPY(x645, x693, 16);
+  MEMCPY(x651, x698, 5);
+  MEMCPY(x652, x699, 3);
+  MEMCPY(x653, x700, 56);
+  MEMCPY(x654, x701, 56);
+  MEMCPY(x655, x702, 56);
+  MEMCPY(x656, x703, 56);
+  MEMCPY(x657, x704, 39);
+  MEMCPY(x658, x705, 39);
+  MEMCPY(x659, x706, 16);
+  MEMCPY(x660, x707, 168);
+  MEMCPY(x661, x708, 168);
+  MEMCPY(x662, x709, 119);
+  MEMCPY(x663, x710, 16);
   os_rattle_dealloc(x18);
-  f78(x626);
-  f78(ADD(x626, 24));
-  f78(ADD(x626, 48));
-  { x71 = Q_NULL; x73 = 0u; x75 = 0u; x76 = 0u; x78 = 0u; x80 = 0u; x82 = 0u; x84 = 0u; x86 = 0u; x88 = 0u; x90 = 0u; x92 = 0u; x94 = 0u; x96 = 0u; x98 = 0u; x100 = 0u; x102 = 0u; x103 = 0u; x105 = 0u; x106 = 0u; x107 = 0u; x108 = 0u; x109 = 0u; x110 = 0u; x111 = 0u; x112 = 0u; x114 = 0u; x116 = 0u; x118 = 0u; x119 = 0u; x120 = Q_NULL; x122 = 0u; x123 = 0u; x124 = Q_NULL; x126 = 0u; x127 = Q_NULL; x128 = Q_NULL; x130 = 0u; x131 = Q_NULL; x132 = Q_NULL; x133 = Q_NULL; x135 = 0u; x137 = Q_NULL; x139 = 0u; x141 = 0u; x143 = Q_NULL; x145 = 0u; x147 = 0u; x149 = 0u; x151 = Q_NULL; x153 = 0u; x155 = 0u; x157 = Q_NULL; x159 = 0u; x161 = 0u; x163 = Q_NULL; x165 = 0u; x167 = 0u; x169 = Q_NULL; x171 = 0u; x173 = 0u; x175 = 0u; x177 = 0u; x179 = 0u; x181 = Q_NULL; x183 = 0u; x185 = 0u; x187 = Q_NULL; x189 = 0u; x191 = 0u; x193 = Q_NULL; x195 = 0u; x197 = 0u; x199 = Q_NULL; x201 = 0u; x203 = 0u; x205 = 0u; x207 = 0u; x209 = Q_NULL; goto b130; }
+  stp_8(x683, x25);
+  MEMCPY(ADD(x683, 8), x643, 16);
+  f75(x683);
+  f75(x644);
+  { x71 = Q_NULL; x73 = 0u; x75 = 0u; x76 = 0u; x78 = 0u; x80 = 0u; x82 = 0u; x84 = 0u; x86 = 0u; x88 = 0u; x90 = 0u; x92 = 0u; x94 = 0u; x96 = 0u; x98 = 0u; x100 = 0u; x102 = 0u; x103 = 0u; x105 = 0u; x106 = 0u; x107 = 0u; x108 = 0u; x109 = 0u; x110 = 0u; x111 = 0u; x112 = 0u; x114 = 0u; x116 = 0u; x118 = 0u; x119 = 0u; x120 = Q_NULL; x121 = Q_NULL; x123 = 0u; x124 = 0u; x125 = Q_NULL; x127 = 0u; x128 = Q_NULL; x129 = Q_NULL; x131 = 0u; x132 = Q_NULL; x133 = Q_NULL; x134 = Q_NULL; x136 = 0u; x138 = Q_NULL; x140 = 0u; x142 = 0u; x144 = Q_NULL; x146 = 0u; x148 = 0u; x150 = 0u; x152 = Q_NULL; x154 = 0u; x156 = 0u; x158 = Q_NULL; x160 = 0u; x162 = 0u; x164 = Q_NULL; x166 = 0u; x168 = 0u; x170 = Q_NULL; x172 = 0u; x174 = 0u; x176 = 0u; x178 = 0u; x180 = 0u; x182 = Q_NULL; x184 = 0u; x186 = 0u; x188 = Q_NULL; x190 = 0u; x192 = 0u; x194 = Q_NULL; x196 = 0u; x198 = 0u; x200 = Q_NULL; x202 = 0u; x204 = 0u; x206 = 0u; x208 = 0u; x210 = Q_NULL; goto b130; }
 b130:;
-  MEMCPY(x589, x646, 5);
-  MEMCPY(x590, x647, 5);
-  MEMCPY(x591, x648, 3);
-  MEMCPY(x592, x649, 56);
-  MEMCPY(x593, x650, 56);
-  MEMCPY(x594, x651, 56);
-  MEMCPY(x595, x652, 56);
-  MEMCPY(x596, x653, 39);
-  MEMCPY(x597, x654, 39);
-  MEMCPY(x598, x655, 16);
-  MEMCPY(x599, x656, 168);
-  MEMCPY(x600, x657, 168);
-  MEMCPY(x601, x658, 25);
-  MEMCPY(x602, x659, 119);
-  MEMCPY(x603, x660, 16);
-  MEMCPY(x604, x661, 72);
-  { x210 = x71; x211 = x73; x212 = x75; x213 = x76; x214 = x209; x215 = x118; x216 = x116; x217 = x114; x218 = x112; x219 = x111; x220 = x110; x221 = x109; x222 = x102; x223 = x108; x224 = x107; x225 = x106; x226 = x105; x227 = x103; x228 = x124; x229 = x126; x230 = x127; x231 = x128; x232 = x130; x233 = x131; x234 = x78; x235 = x80; x236 = x82; x237 = x84; x238 = x86; x239 = x88; x240 = x90; x241 = x92; x242 = x94; x243 = x132; x244 = x119; x245 = x133; x246 = x96; x247 = x135; x248 = x137; x249 = x139; x250 = x141; x251 = x143; x252 = x145; x253 = x147; x254 = x98; x255 = x100; x256 = x149; x257 = x151; x258 = x153; x259 = x155; x260 = x157; x261 = x159; x262 = x161; x263 = x163; x264 = x165; x265 = x167; x266 = x169; x267 = x171; x268 = x173; x269 = x175; x270 = x177; x271 = x179; x272 = x181; x273 = x183; x274 = x185; x275 = x187; x276 = x189; x277 = x191; x278 = x193; x279 = x195; x280 = x197; x281 = x199; x282 = x201; x283 = x203; x284 = x205; x285 = x207; x286 = x120; x287 = x122; x288 = x123; goto b20; }
+  MEMCPY(x598, x664, 5);
+  MEMCPY(x599, x665, 5);
+  MEMCPY(x600, x666, 3);
+  MEMCPY(x601, x667, 56);
+  MEMCPY(x602, x668, 56);
+  MEMCPY(x603, x669, 56);
+  MEMCPY(x604, x670, 56);
+  MEMCPY(x605, x671, 39);
+  MEMCPY(x606, x672, 39);
+  MEMCPY(x607, x673, 16);
+  MEMCPY(x608, x674, 168);
+  MEMCPY(x609, x675, 168);
+  MEMCPY(x610, x676, 25);
+  MEMCPY(x611, x677, 119);
+  MEMCPY(x612, x678, 16);
+  MEMCPY(x613, x679, 16);
+  MEMCPY(x614, x680, 24);
+  { x211 = x71; x212 = x73; x213 = x75; x214 = x76; x215 = x210; x216 = x118; x217 = x116; x218 = x114; x219 = x112; x220 = x111; x221 = x110; x222 = x109; x223 = x102; x224 = x108; x225 = x107; x226 = x106; x227 = x105; x228 = x103; x229 = x125; x230 = x127; x231 = x128; x232 = x129; x233 = x131; x234 = x132; x235 = x78; x236 = x80; x237 = x82; x238 = x84; x239 = x86; x240 = x88; x241 = x90; x242 = x92; x243 = x94; x244 = x133; x245 = x119; x246 = x134; x247 = x96; x248 = x136; x249 = x138; x250 = x140; x251 = x142; x252 = x144; x253 = x146; x254 = x148; x255 = x98; x256 = x100; x257 = x150; x258 = x152; x259 = x154; x260 = x156; x261 = x158; x262 = x160; x263 = x162; x264 = x164; x265 = x166; x266 = x168; x267 = x170; x268 = x172; x269 = x174; x270 = x176; x271 = x178; x272 = x180; x273 = x182; x274 = x184; x275 = x186; x276 = x188; x277 = x190; x278 = x192; x279 = x194; x280 = x196; x281 = x198; x282 = x200; x283 = x202; x284 = x204; x285 = x206; x286 = x208; x287 = x120; x288 = x121; x289 = x123; x290 = x124; goto b20; }
 b20:;
-  MEMSET(x916, 0u, 5);
-  MEMSET(x917, 0u, 5);
-  MEMSET(x918, 0u, 3);
-  MEMSET(x919, 0u, 56);
-  MEMSET(x920, 0u, 56);
-  MEMSET(x921, 0u, 56);
-  MEMSET(x922, 0u, 56);
-  MEMSET(x923, 0u, 39);
-  MEMSET(x924, 0u, 39);
-  MEMSET(x925, 0u, 16);
-  MEMSET(x926, 0u, 168);
-  MEMSET(x927, 0u, 168);
-  MEMSET(x928, 0u, 25);
-  MEMSET(x929, 0u, 119);
-  MEMSET(x930, 0u, 16);
-  MEMSET(x931, 0u, 72);
-  if (x213) goto b200; else { x289 = Q_NULL; x290 = 0u; x291 = 0u; x292 = Q_NULL; x293 = 0u; x294 = 0u; x295 = 0u; x296 = 0u; x297 = 0u; x298 = 0u; x299 = 0u; x300 = 0u; x301 = 0u; x302 = 0u; x303 = 0u; x304 = 0u; x305 = 0u; x306 = Q_NULL; x307 = 0u; x308 = Q_NULL; x309 = Q_NULL; x310 = 0u; x311 = Q_NULL; x312 = 0u; x313 = 0u; x314 = 0u; x315 = 0u; x316 = 0u; x317 = 0u; x318 = 0u; x319 = 0u; x320 = 0u; x321 = Q_NULL; x322 = 0u; x323 = Q_NULL; x324 = 0u; x325 = 0u; x326 = Q_NULL; x327 = 0u; x328 = 0u; x329 = Q_NULL; x330 = 0u; x331 = 0u; x332 = 0u; x333 = 0u; x334 = 0u; x335 = Q_NULL; x336 = 0u; x337 = 0u; x338 = Q_NULL; x339 = 0u; x340 = 0u; x341 = Q_NULL; x342 = 0u; x343 = 0u; x344 = Q_NULL; x345 = 0u; x346 = 0u; x347 = 0u; x348 = 0u; x349 = 0u; x350 = Q_NULL; x351 = 0u; x352 = 0u; x353 = Q_NULL; x354 = 0u; x355 = 0u; x356 = Q_NULL; x357 = 0u; x358 = 0u; x359 = Q_NULL; x360 = 0u; x361 = 0u; x362 = 0u; x363 = 0u; x364 = Q_NULL; x365 = 0u; x366 = 0u; goto b201; }
-b200:;
-  MEMCPY(x916, x589, 5);
-  MEMCPY(x917, x590, 5);
-  MEMCPY(x918, x591, 3);
-  MEMCPY(x919, x592, 56);
-  MEMCPY(x920, x593, 56);
-  MEMCPY(x921, x594, 56);
-  MEMCPY(x922, x595, 56);
-  MEMCPY(x923, x596, 39);
-  MEMCPY(x924, x597, 39);
-  MEMCPY(x925, x598, 16);
-  MEMCPY(x926, x599, 168);
-  MEMCPY(x927, x600, 168);
-  MEMCPY(x928, x601, 25);
-  MEMCPY(x929, x602, 119);
-  MEMCPY(x930, x603, 16);
-  MEMCPY(x931, x604, 72);
-  { x289 = x210; x290 = x211; x291 = x212; x292 = x214; x293 = x215; x294 = x216; x295 = x217; x296 = x218; x297 = x219; x298 = x220; x299 = x221; x300 = x222; x301 = x223; x302 = x224; x303 = x225; x304 = x226; x305 = x227; x306 = x228; x307 = x229; x308 = x230; x309 = x231; x310 = x232; x311 = x233; x312 = x234; x313 = x235; x314 = x236; x315 = x237; x316 = x238; x317 = x239; x318 = x240; x319 = x241; x320 = x242; x321 = x243; x322 = x244; x323 = x245; x324 = x246; x325 = x247; x326 = x248; x327 = x249; x328 = x250; x329 = x251; x330 = x252; x331 = x253; x332 = x254; x333 = x255; x334 = x256; x335 = x257; x336 = x258; x337 = x259; x338 = x260; x339 = x261; x340 = x262; x341 = x263; x342 = x264; x343 = x265; x344 = x266; x345 = x267; x346 = x268; x347 = x269; x348 = x270; x349 = x271; x350 = x272; x351 = x273; x352 = x274; x353 = x275; x354 = x276; x355 = x277; x356 = x278; x357 = x279; x358 = x280; x359 = x281; x360 = x282; x361 = x283; x362 = x284; x363 = x285; x364 = x286; x365 = x287; x366 = x288; goto b201; }
-b201:;
-  MEMCPY(x573, x916, 5);
-  MEMCPY(x574, x917, 5);
-  MEMCPY(x575, x918, 3);
-  MEMCPY(x576, x919, 56);
-  MEMCPY(x577, x920, 56);
-  MEMCPY(x578, x921, 56);
-  MEMCPY(x579, x922, 56);
-  MEMCPY(x580, x923, 39);
-  MEMCPY(x581, x924, 39);
-  MEMCPY(x582, x925, 16);
-  MEMCPY(x583, x926, 168);
-  MEMCPY(x584, x927, 168);
-  MEMCPY(x585, x928, 25);
-  MEMCPY(x586, x929, 119);
-  MEMCPY(x587, x930, 16);
-  MEMCPY(x588, x931, 72);
-  if (x213) goto b202; else goto b203;
-b202:;
-  x445 = ld64_8(FAR(x0, 64));
-  MEMCPY(x545, x573, 5);
-  MEMCPY(x546, x574, 5);
-  MEMCPY(x547, x575, 3);
-  MEMCPY(x548, x576, 56);
-  MEMCPY(x549, x577, 56);
-  MEMCPY(x550, x578, 56);
-  MEMCPY(x551, x579, 56);
-  MEMCPY(x552, x580, 39);
-  MEMCPY(x553, x581, 39);
-  MEMCPY(x554, x582, 16);
-  MEMCPY(x555, x583, 168);
-  MEMCPY(x556, x584, 168);
-  MEMCPY(x557, x585, 25);
-  MEMCPY(x558, x586, 119);
-  MEMCPY(x559, x587, 16);
-  MEMCPY(x560, x588, 72);
-  { x367 = x289; x368 = x290; x369 = x291; x370 = x292; x371 = x293; x372 = x294; x373 = x295; x374 = x296; x375 = x297; x376 = x298; x377 = x299; x378 = x300; x379 = x301; x380 = x302; x381 = x303; x382 = x304; x383 = x305; x384 = x306; x385 = x307; x386 = x308; x387 = x309; x388 = x310; x389 = x311; x390 = x312; x391 = x313; x392 = x314; x393 = x315; x394 = x316; x395 = x317; x396 = x318; x397 = x319; x398 = x320; x399 = x321; x400 = x322; x401 = x323; x402 = x324; x403 = x325; x404 = x326; x405 = x327; x406 = x328; x407 = x329; x408 = x330; x409 = x331; x410 = x332; x411 = x333; x412 = x334; x413 = x335; x414 = x336; x415 = x337; x416 = x338; x417 = x339; x418 = x340; x419 = x341; x420 = x342; x421 = x343; x422 = x344; x423 = x345; x424 = x346; x425 = x347; x426 = x348; x427 = x349; x428 = x350; x429 = x351; x430 = x352; x431 = x353; x432 = x354; x433 = x355; x434 = x356; x435 = x357; x436 = x358; x437 = x359; x438 = x360; x439 = x361; x440 = x362; x441 = x363; x442 = x364; x443 = x365; x444 = x366; x446 = x445; goto b204; }
-b203:;
-  MEMSET(x545, 0u, 5);
-  MEMSET(x546, 0u, 5);
-  MEMSET(x547, 0u, 3);
-  MEMSET(x548, 0u, 56);
-  MEMSET(x549, 0u, 56);
-  MEMSET(x550, 0u, 56);
-  MEMSET(x551, 0u, 56);
-  MEMSET(x552, 0u, 39);
-  MEMSET(x553, 0u, 39);
-  MEMSET(x554, 0u, 16);
-  MEMSET(x555, 0u, 168);
-  MEMSET(x556, 0u, 168);
-  MEMSET(x557, 0u, 25);
-  MEMSET(x558, 0u, 119);
-  MEMSET(x559, 0u, 16);
-  MEMSET(x560, 0u, 72);
-  { x367 = Q_NULL; x368 = 0u; x369 = 0u; x370 = Q_NULL; x371 = 0u; x372 = 0u; x373 = 0u; x374 = 0u; x375 = 0u; x376 = 0u; x377 = 0u; x378 = 0u; x379 = 0u; x380 = 0u; x381 = 0u; x382 = 0u; x383 = 0u; x384 = Q_NULL; x385 = 0u; x386 = Q_NULL; x387 = Q_NULL; x388 = 0u; x389 = Q_NULL; x390 = 0u; x391 = 0u; x392 = 0u; x393 = 0u; x394 = 0u; x395 = 0u; x396 = 0u; x397 = 0u; x398 = 0u; x399 = Q_NULL; x400 = 0u; x401 = Q_NULL; x402 = 0u; x403 = 0u; x404 = Q_NULL; x405 = 0u; x406 = 0u; x407 = Q_NULL; x408 = 0u; x409 = 0u; x410 = 0u; x411 = 0u; x412 = 0u; x413 = Q_NULL; x414 = 0u; x415 = 0u; x416 = Q_NULL; x417 = 0u; x418 = 0u; x419 = Q_NULL; x420 = 0u; x421 = 0u; x422 = Q_NULL; x423 = 0u; x424 = 0u; x425 = 0u; x426 = 0u; x427 = 0u; x428 = Q_NULL; x429 = 0u; x430 = 0u; x431 = Q_NULL; x432 = 0u; x433 = 0u; x434 = Q_NULL; x435 = 0u; x436 = 0u; x437 = Q_NULL; x438 = 0u; x439 = 0u; x440 = 0u; x441 = 0u; x442 = Q_NULL; x443 = 0u; x444 = 0u; x446 = 0u; goto b204; }
-b204:;
-  MEMSET(x932, 0u, 5);
   MEMSET(x933, 0u, 5);
-  MEMSET(x934, 0u, 3);
-  MEMSET(x935, 0u, 56);
+  MEMSET(x934, 0u, 5);
+  MEMSET(x935, 0u, 3);
   MEMSET(x936, 0u, 56);
   MEMSET(x937, 0u, 56);
   MEMSET(x938, 0u, 56);
-  MEMSET(x939, 0u, 39);
+  MEMSET(x939, 0u, 56);
   MEMSET(x940, 0u, 39);
-  MEMSET(x941, 0u, 16);
-  MEMSET(x942, 0u, 168);
+  MEMSET(x941, 0u, 39);
+  MEMSET(x942, 0u, 16);
   MEMSET(x943, 0u, 168);
-  MEMSET(x944, 0u, 25);
-  MEMSET(x945, 0u, 119);
-  MEMSET(x946, 0u, 16);
-  MEMSET(x947, 0u, 72);
-  if (x213) goto b205; else { x447 = Q_NULL; x448 = 0u; x449 = 0u; x450 = Q_NULL; x451 = 0u; x452 = 0u; x453 = 0u; x454 = 0u; x455 = 0u; x456 = 0u; x457 = 0u; x458 = 0u; x459 = 0u; x460 = 0u; x461 = 0u; x462 = 0u; x463 = 0u; x464 = Q_NULL; x465 = 0u; x466 = Q_NULL; x467 = Q_NULL; x468 = 0u; x469 = Q_NULL; x470 = 0u; x471 = 0u; x472 = 0u; x473 = 0u; x474 = 0u; x475 = 0u; x476 = 0u; x477 = 0u; x478 = 0u; x479 = Q_NULL; x480 = 0u; x481 = Q_NULL; x482 = 0u; x483 = 0u; x484 = Q_NULL; x485 = 0u; x486 = 0u; x487 = Q_NULL; x488 = 0u; x489 = 0u; x490 = 0u; x491 = 0u; x492 = 0u; x493 = Q_NULL; x494 = 0u; x495 = 0u; x496 = Q_NULL; x497 = 0u; x498 = 0u; x499 = Q_NULL; x500 = 0u; x501 = 0u; x502 = Q_NULL; x503 = 0u; x504 = 0u; x505 = 0u; x506 = 0u; x507 = 0u; x508 = Q_NULL; x509 = 0u; x510 = 0u; x511 = Q_NULL; x512 = 0u; x513 = 0u; x514 = Q_NULL; x515 = 0u; x516 = 0u; x517 = Q_NULL; x518 = 0u; x519 = 0u; x520 = 0u; x521 = 0u; x522 = Q_NULL; x523 = 0u; x524 = 0u; x525 = 0u; goto b206; }
+  MEMSET(x944, 0u, 168);
+  MEMSET(x945, 0u, 25);
+  MEMSET(x946, 0u, 119);
+  MEMSET(x947, 0u, 16);
+  MEMSET(x948, 0u, 16);
+  MEMSET(x949, 0u, 24);
+  if (x214) goto b200; else { x291 = Q_NULL; x292 = 0u; x293 = 0u; x294 = Q_NULL; x295 = 0u; x296 = 0u; x297 = 0u; x298 = 0u; x299 = 0u; x300 = 0u; x301 = 0u; x302 = 0u; x303 = 0u; x304 = 0u; x305 = 0u; x306 = 0u; x307 = 0u; x308 = Q_NULL; x309 = 0u; x310 = Q_NULL; x311 = Q_NULL; x312 = 0u; x313 = Q_NULL; x314 = 0u; x315 = 0u; x316 = 0u; x317 = 0u; x318 = 0u; x319 = 0u; x320 = 0u; x321 = 0u; x322 = 0u; x323 = Q_NULL; x324 = 0u; x325 = Q_NULL; x326 = 0u; x327 = 0u; x328 = Q_NULL; x329 = 0u; x330 = 0u; x331 = Q_NULL; x332 = 0u; x333 = 0u; x334 = 0u; x335 = 0u; x336 = 0u; x337 = Q_NULL; x338 = 0u; x339 = 0u; x340 = Q_NULL; x341 = 0u; x342 = 0u; x343 = Q_NULL; x344 = 0u; x345 = 0u; x346 = Q_NULL; x347 = 0u; x348 = 0u; x349 = 0u; x350 = 0u; x351 = 0u; x352 = Q_NULL; x353 = 0u; x354 = 0u; x355 = Q_NULL; x356 = 0u; x357 = 0u; x358 = Q_NULL; x359 = 0u; x360 = 0u; x361 = Q_NULL; x362 = 0u; x363 = 0u; x364 = 0u; x365 = 0u; x366 = Q_NULL; x367 = Q_NULL; x368 = 0u; x369 = 0u; goto b201; }
+b200:;
+  MEMCPY(x933, x598, 5);
+  MEMCPY(x934, x599, 5);
+  MEMCPY(x935, x600, 3);
+  MEMCPY(x936, x601, 56);
+  MEMCPY(x937, x602, 56);
+  MEMCPY(x938, x603, 56);
+  MEMCPY(x939, x604, 56);
+  MEMCPY(x940, x605, 39);
+  MEMCPY(x941, x606, 39);
+  MEMCPY(x942, x607, 16);
+  MEMCPY(x943, x608, 168);
+  MEMCPY(x944, x609, 168);
+  MEMCPY(x945, x610, 25);
+  MEMCPY(x946, x611, 119);
+  MEMCPY(x947, x612, 16);
+  MEMCPY(x948, x613, 16);
+  MEMCPY(x949, x614, 24);
+  { x291 = x211; x292 = x212; x293 = x213; x294 = x215; x295 = x216; x296 = x217; x297 = x218; x298 = x219; x299 = x220; x300 = x221; x301 = x222; x302 = x223; x303 = x224; x304 = x225; x305 = x226; x306 = x227; x307 = x228; x308 = x229; x309 = x230; x310 = x231; x311 = x232; x312 = x233; x313 = x234; x314 = x235; x315 = x236; x316 = x237; x317 = x238; x318 = x239; x319 = x240; x320 = x241; x321 = x242; x322 = x243; x323 = x244; x324 = x245; x325 = x246; x326 = x247; x327 = x248; x328 = x249; x329 = x250; x330 = x251; x331 = x252; x332 = x253; x333 = x254; x334 = x255; x335 = x256; x336 = x257; x337 = x258; x338 = x259; x339 = x260; x340 = x261; x341 = x262; x342 = x263; x343 = x264; x344 = x265; x345 = x266; x346 = x267; x347 = x268; x348 = x269; x349 = x270; x350 = x271; x351 = x272; x352 = x273; x353 = x274; x354 = x275; x355 = x276; x356 = x277; x357 = x278; x358 = x279; x359 = x280; x360 = x281; x361 = x282; x362 = x283; x363 = x284; x364 = x285; x365 = x286; x366 = x287; x367 = x288; x368 = x289; x369 = x290; goto b201; }
+b201:;
+  MEMCPY(x581, x933, 5);
+  MEMCPY(x582, x934, 5);
+  MEMCPY(x583, x935, 3);
+  MEMCPY(x584, x936, 56);
+  MEMCPY(x585, x937, 56);
+  MEMCPY(x586, x938, 56);
+  MEMCPY(x587, x939, 56);
+  MEMCPY(x588, x940, 39);
+  MEMCPY(x589, x941, 39);
+  MEMCPY(x590, x942, 16);
+  MEMCPY(x591, x943, 168);
+  MEMCPY(x592, x944, 168);
+  MEMCPY(x593, x945, 25);
+  MEMCPY(x594, x946, 119);
+  MEMCPY(x595, x947, 16);
+  MEMCPY(x596, x948, 16);
+  MEMCPY(x597, x949, 24);
+  if (x214) goto b202; else goto b203;
+b202:;
+  x449 = ld64_8(FAR(x0, 64));
+  MEMCPY(x551, x581, 5);
+  MEMCPY(x552, x582, 5);
+  MEMCPY(x553, x583, 3);
+  MEMCPY(x554, x584, 56);
+  MEMCPY(x555, x585, 56);
+  MEMCPY(x556, x586, 56);
+  MEMCPY(x557, x587, 56);
+  MEMCPY(x558, x588, 39);
+  MEMCPY(x559, x589, 39);
+  MEMCPY(x560, x590, 16);
+  MEMCPY(x561, x591, 168);
+  MEMCPY(x562, x592, 168);
+  MEMCPY(x563, x593, 25);
+  MEMCPY(x564, x594, 119);
+  MEMCPY(x565, x595, 16);
+  MEMCPY(x566, x596, 16);
+  MEMCPY(x567, x597, 24);
+  { x370 = x291; x371 = x292; x372 = x293; x373 = x294; x374 = x295; x375 = x296; x376 = x297; x377 = x298; x378 = x299; x379 = x300; x380 = x301; x381 = x302; x382 = x303; x383 = x304; x384 = x305; x385 = x306; x386 = x307; x387 = x308; x388 = x309; x389 = x310; x390 = x311; x391 = x312; x392 = x313; x393 = x314; x394 = x315; x395 = x316; x396 = x317; x397 = x318; x398 = x319; x399 = x320; x400 = x321; x401 = x322; x402 = x323; x403 = x324; x404 = x325; x405 = x326; x406 = x327; x407 = x328; x408 = x329; x409 = x330; x410 = x331; x411 = x332; x412 = x333; x413 = x334; x414 = x335; x415 = x336; x416 = x337; x417 = x338; x418 = x339; x419 = x340; x420 = x341; x421 = x342; x422 = x343; x423 = x344; x424 = x345; x425 = x346; x426 = x347; x427 = x348; x428 = x349; x429 = x350; x430 = x351; x431 = x352; x432 = x353; x433 = x354; x434 = x355; x435 = x356; x436 = x357; x437 = x358; x438 = x359; x439 = x360; x440 = x361; x441 = x362; x442 = x363; x443 = x364; x444 = x365; x445 = x366; x446 = x367; x447 = x368; x448 = x369; x450 = x449; goto b204; }
+b203:;
+  MEMSET(x551, 0u, 5);
+  MEMSET(x552, 0u, 5);
+  MEMSET(x553, 0u, 3);
+  MEMSET(x554, 0u, 56);
+  MEMSET(x555, 0u, 56);
+  MEMSET(x556, 0u, 56);
+  MEMSET(x557, 0u, 56);
+  MEMSET(x558, 0u, 39);
+  MEMSET(x559, 0u, 39);
+  MEMSET(x560, 0u, 16);
+  MEMSET(x561, 0u, 168);
+  MEMSET(x562, 0u, 168);
+  MEMSET(x563, 0u, 25);
+  MEMSET(x564, 0u, 119);
+  MEMSET(x565, 0u, 16);
+  MEMSET(x566, 0u, 16);
+  MEMSET(x567, 0u, 24);
+  { x370 = Q_NULL; x371 = 0u; x372 = 0u; x373 = Q_NULL; x374 = 0u; x375 = 0u; x376 = 0u; x377 = 0u; x378 = 0u; x379 = 0u; x380 = 0u; x381 = 0u; x382 = 0u; x383 = 0u; x384 = 0u; x385 = 0u; x386 = 0u; x387 = Q_NULL; x388 = 0u; x389 = Q_NULL; x390 = Q_NULL; x391 = 0u; x392 = Q_NULL; x393 = 0u; x394 = 0u; x395 = 0u; x396 = 0u; x397 = 0u; x398 = 0u; x399 = 0u; x400 = 0u; x401 = 0u; x402 = Q_NULL; x403 = 0u; x404 = Q_NULL; x405 = 0u; x406 = 0u; x407 = Q_NULL; x408 = 0u; x409 = 0u; x410 = Q_NULL; x411 = 0u; x412 = 0u; x413 = 0u; x414 = 0u; x415 = 0u; x416 = Q_NULL; x417 = 0u; x418 = 0u; x419 = Q_NULL; x420 = 0u; x421 = 0u; x422 = Q_NULL; x423 = 0u; x424 = 0u; x425 = Q_NULL; x426 = 0u; x427 = 0u; x428 = 0u; x429 = 0u; x430 = 0u; x431 = Q_NULL; x432 = 0u; x433 = 0u; x434 = Q_NULL; x435 = 0u; x436 = 0u; x437 = Q_NULL; x438 = 0u; x439 = 0u; x440 = Q_NULL; x441 = 0u; x442 = 0u; x443 = 0u; x444 = 0u; x445 = Q_NULL; x446 = Q_NULL; x447 = 0u; x448 = 0u; x450 = 0u; goto b204; }
+b204:;
+  MEMSET(x950, 0u, 5);
+  MEMSET(x951, 0u, 5);
+  MEMSET(x952, 0u, 3);
+  MEMSET(x953, 0u, 56);
+  MEMSET(x954, 0u, 56);
+  MEMSET(x955, 0u, 56);
+  MEMSET(x956, 0u, 56);
+  MEMSET(x957, 0u, 39);
+  MEMSET(x958, 0u, 39);
+  MEMSET(x959, 0u, 16);
+  MEMSET(x960, 0u, 168);
+  MEMSET(x961, 0u, 168);
+  MEMSET(x962, 0u, 25);
+  MEMSET(x963, 0u, 119);
+  MEMSET(x964, 0u, 16);
+  MEMSET(x965, 0u, 16);
+  MEMSET(x966, 0u, 24);
+  if (x214) goto b205; else { x451 = Q_NULL; x452 = 0u; x453 = 0u; x454 = Q_NULL; x455 = 0u; x456 = 0u; x457 = 0u; x458 = 0u; x459 = 0u; x460 = 0u; x461 = 0u; x462 = 0u; x463 = 0u; x464 = 0u; x465 = 0u; x466 = 0u; x467 = 0u; x468 = Q_NULL; x469 = 0u; x470 = Q_NULL; x471 = Q_NULL; x472 = 0u; x473 = Q_NULL; x474 = 0u; x475 = 0u; x476 = 0u; x477 = 0u; x478 = 0u; x479 = 0u; x480 = 0u; x481 = 0u; x482 = 0u; x483 = Q_NULL; x484 = 0u; x485 = Q_NULL; x486 = 0u; x487 = 0u; x488 = Q_NULL; x489 = 0u; x490 = 0u; x491 = Q_NULL; x492 = 0u; x493 = 0u; x494 = 0u; x495 = 0u; x496 = 0u; x497 = Q_NULL; x498 = 0u; x499 = 0u; x500 = Q_NULL; x501 = 0u; x502 = 0u; x503 = Q_NULL; x504 = 0u; x505 = 0u; x506 = Q_NULL; x507 = 0u; x508 = 0u; x509 = 0u; x510 = 0u; x511 = 0u; x512 = Q_NULL; x513 = 0u; x514 = 0u; x515 = Q_NULL; x516 = 0u; x517 = 0u; x518 = Q_NULL; x519 = 0u; x520 = 0u; x521 = Q_NULL; x522 = 0u; x523 = 0u; x524 = 0u; x525 = 0u; x526 = Q_NULL; x527 = Q_NULL; x528 = 0u; x529 = 0u; x530 = 0u; goto b206; }
 b205:;
-  MEMCPY(x932, x545, 5);
-  MEMCPY(x933, x546, 5);
-  MEMCPY(x934, x547, 3);
-  MEMCPY(x935, x548, 56);
-  MEMCPY(x936, x549, 56);
-  MEMCPY(x937, x550, 56);
-  MEMCPY(x938, x551, 56);
-  MEMCPY(x939, x552, 39);
-  MEMCPY(x940, x553, 39);
-  MEMCPY(x941, x554, 16);
-  MEMCPY(x942, x555, 168);
-  MEMCPY(x943, x556, 168);
-  MEMCPY(x944, x557, 25);
-  MEMCPY(x945, x558, 119);
-  MEMCPY(x946, x559, 16);
-  MEMCPY(x947, x560, 72);
-  { x447 = x367; x448 = x368; x449 = x369; x450 = x370; x451 = x371; x452 = x372; x453 = x373; x454 = x374; x455 = x375; x456 = x376; x457 = x377; x458 = x378; x459 = x379; x460 = x380; x461 = x381; x462 = x382; x463 = x383; x464 = x384; x465 = x385; x466 = x386; x467 = x387; x468 = x388; x469 = x389; x470 = x390; x471 = x391; x472 = x392; x473 = x393; x474 = x394; x475 = x395; x476 = x396; x477 = x397; x478 = x398; x479 = x399; x480 = x400; x481 = x401; x482 = x402; x483 = x403; x484 = x404; x485 = x405; x486 = x406; x487 = x407; x488 = x408; x489 = x409; x490 = x410; x491 = x411; x492 = x412; x493 = x413; x494 = x414; x495 = x415; x496 = x416; x497 = x417; x498 = x418; x499 = x419; x500 = x420; x501 = x421; x502 = x422; x503 = x423; x504 = x424; x505 = x425; x506 = x426; x507 = x427; x508 = x428; x509 = x429; x510 = x430; x511 = x431; x512 = x432; x513 = x433; x514 = x434; x515 = x435; x516 = x436; x517 = x437; x518 = x438; x519 = x439; x520 = x440; x521 = x441; x522 = x442; x523 = x443; x524 = x444; x525 = x446; goto b206; }
+  MEMCPY(x950, x551, 5);
+  MEMCPY(x951, x552, 5);
+  MEMCPY(x952, x553, 3);
+  MEMCPY(x953, x554, 56);
+  MEMCPY(x954, x555, 56);
+  MEMCPY(x955, x556, 56);
+  MEMCPY(x956, x557, 56);
+  MEMCPY(x957, x558, 39);
+  MEMCPY(x958, x559, 39);
+  MEMCPY(x959, x560, 16);
+  MEMCPY(x960, x561, 168);
+  MEMCPY(x961, x562, 168);
+  MEMCPY(x962, x563, 25);
+  MEMCPY(x963, x564, 119);
+  MEMCPY(x964, x565, 16);
+  MEMCPY(x965, x566, 16);
+  MEMCPY(x966, x567, 24);
+  { x451 = x370; x452 = x371; x453 = x372; x454 = x373; x455 = x374; x456 = x375; x457 = x376; x458 = x377; x459 = x378; x460 = x379; x461 = x380; x462 = x381; x463 = x382; x464 = x383; x465 = x384; x466 = x385; x467 = x386; x468 = x387; x469 = x388; x470 = x389; x471 = x390; x472 = x391; x473 = x392; x474 = x393; x475 = x394; x476 = x395; x477 = x396; x478 = x397; x479 = x398; x480 = x399; x481 = x400; x482 = x401; x483 = x402; x484 = x403; x485 = x404; x486 = x405; x487 = x406; x488 = x407; x489 = x408; x490 = x409; x491 = x410; x492 = x411; x493 = x412; x494 = x413; x495 = x414; x496 = x415; x497 = x416; x498 = x417; x499 = x418; x500 = x419; x501 = x420; x502 = x421; x503 = x422; x504 = x423; x505 = x424; x506 = x425; x507 = x426; x508 = x427; x509 = x428; x510 = x429; x511 = x430; x512 = x431; x513 = x432; x514 = x433; x515 = x434; x516 = x435; x517 = x436; x518 = x437; x519 = x438; x520 = x439; x521 = x440; x522 = x441; x523 = x442; x524 = x443; x525 = x444; x526 = x445; x527 = x446; x528 = x447; x529 = x448; x530 = x450; goto b206; }
 b206:;
-  MEMCPY(x529, x932, 5);
-  MEMCPY(x530, x933, 5);
-  MEMCPY(x531, x934, 3);
-  MEMCPY(x532, x935, 56);
-  MEMCPY(x533, x936, 56);
-  MEMCPY(x534, x937, 56);
-  MEMCPY(x535, x938, 56);
-  MEMCPY(x536, x939, 39);
-  MEMCPY(x537, x940, 39);
-  MEMCPY(x538, x941, 16);
-  MEMCPY(x539, x942, 168);
-  MEMCPY(x540, x943, 168);
-  MEMCPY(x541, x944, 25);
-  MEMCPY(x542, x945, 119);
-  MEMCPY(x543, x946, 16);
-  MEMCPY(x544, x947, 72);
-  if (x213) goto b207; else { x526 = 1u; x528 = Q_NULL; goto b208; }
+  MEMCPY(x534, x950, 5);
+  MEMCPY(x535, x951, 5);
+  MEMCPY(x536, x952, 3);
+  MEMCPY(x537, x953, 56);
+  MEMCPY(x538, x954, 56);
+  MEMCPY(x539, x955, 56);
+  MEMCPY(x540, x956, 56);
+  MEMCPY(x541, x957, 39);
+  MEMCPY(x542, x958, 39);
+  MEMCPY(x543, x959, 16);
+  MEMCPY(x544, x960, 168);
+  MEMCPY(x545, x961, 168);
+  MEMCPY(x546, x962, 25);
+  MEMCPY(x547, x963, 119);
+  MEMCPY(x548, x964, 16);
+  MEMCPY(x549, x965, 16);
+  MEMCPY(x550, x966, 24);
+  if (x214) goto b207; else { x531 = 1u; x533 = Q_NULL; goto b208; }
 b207:;
-  MEMCPY(x948, x543, 16);
-  MEMCPY(ADD(x948, 16), x544, 72);
-  x949 = os_rattle_alloc(1592u, 8u);
-  if (((u8)(((x949.f0)) & 1u))) goto b209; else goto b210;
+  MEMCPY(x967, x548, 16);
+  MEMCPY(x968, x549, 16);
+  MEMCPY(x969, x550, 24);
+  x970 = os_rattle_alloc(1568u, 8u);
+  if (((u8)(((x970.f0)) & 1u))) goto b209; else goto b210;
 b209:;
-  x527 = (Q)(u64)(x949.f1);
-  stp_1(x527, x450);
-  st64_1(ADD(x527, 8), x451);
-  st64_1(ADD(x527, 16), x452);
-  stn(ADD(x527, 24), x453, 6);
-  MEMCPY(ADD(x527, 30), x529, 5);
-  MEMCPY(ADD(x527, 35), x530, 5);
-  st32_1(ADD(x527, 40), x454);
-  st32_1(ADD(x527, 44), x455);
-  st64_1(ADD(x527, 48), x456);
-  st64_1(ADD(x527, 56), x457);
-  st64_1(ADD(x527, 64), x458);
-  st8_1(ADD(x527, 72), x459);
-  MEMCPY(ADD(x527, 73), x531, 3);
-  st32_1(ADD(x527, 76), x460);
-  st32_1(ADD(x527, 80), x461);
-  st32_1(ADD(x527, 84), 0u);
-  st64_1(ADD(x527, 88), x462);
-  st32_1(ADD(x527, 96), x463);
-  st8_1(ADD(x527, 100), 0u);
-  st8_1(ADD(x527, 101), 0u);
-  st16_1(ADD(x527, 102), 0u);
-  st64_1(ADD(x527, 104), x458);
-  stp_1(ADD(x527, 112), x464);
-  st64_1(ADD(x527, 120), 0u);
-  st64_1(ADD(x527, 128), x465);
-  stp_1(ADD(x527, 136), x466);
-  st64_1(ADD(x527, 144), 0u);
-  st64_1(ADD(x527, 152), x465);
-  MEMCPY(ADD(x527, 160), x532, 56);
-  stp_1(ADD(x527, 216), x467);
-  st64_1(ADD(x527, 224), 0u);
-  st64_1(ADD(x527, 232), x465);
-  st64_1(ADD(x527, 240), x465);
-  st64_1(ADD(x527, 248), x468);
-  stp_1(ADD(x527, 256), x469);
-  st64_1(ADD(x527, 264), 0u);
-  st64_1(ADD(x527, 272), x468);
-  st8_1(ADD(x527, 280), x470);
-  st8_1(ADD(x527, 281), x471);
-  st8_1(ADD(x527, 282), x472);
-  st8_1(ADD(x527, 283), x473);
-  st16_1(ADD(x527, 284), x474);
-  st64_1(ADD(x527, 286), x475);
-  st64_1(ADD(x527, 294), x476);
-  st8_1(ADD(x527, 302), x477);
-  st8_1(ADD(x527, 303), 0u);
-  st64_1(ADD(x527, 304), x478);
-  stp_1(ADD(x527, 312), x479);
-  st64_1(ADD(x527, 320), x480);
-  st64_1(ADD(x527, 328), x478);
-  MEMCPY(ADD(x527, 336), x533, 56);
-  MEMCPY(ADD(x527, 392), x534, 56);
-  stp_1(ADD(x527, 448), x481);
-  st64_1(ADD(x527, 456), 0u);
-  st64_1(ADD(x527, 464), x482);
-  MEMCPY(ADD(x527, 472), x535, 56);
-  st64_1(ADD(x527, 528), x483);
-  st8_1(ADD(x527, 536), 0u);
-  MEMCPY(ADD(x527, 537), x536, 39);
-  st8_1(ADD(x527, 576), 0u);
-  MEMCPY(ADD(x527, 577), x537, 39);
-  st64_1(ADD(x527, 616), x482);
-  st64_1(ADD(x527, 624), 0u);
-  MEMCPY(ADD(x527, 632), x538, 16);
-  stp_1(ADD(x527, 648), x484);
-  st64_1(ADD(x527, 656), x485);
-  st64_1(ADD(x527, 664), x486);
-  stp_1(ADD(x527, 672), x487);
-  st64_1(ADD(x527, 680), x488);
-  st64_1(ADD(x527, 688), x489);
-  MEMCPY(ADD(x527, 696), x539, 168);
-  MEMCPY(ADD(x527, 864), x540, 168);
-  st64_1(ADD(x527, 1032), x490);
-  st64_1(ADD(x527, 1040), x491);
-  MEMCPY(ADD(x527, 1048), x541, 25);
-  MEMCPY(ADD(x527, 1073), x542, 119);
-  st64_1(ADD(x527, 1192), x492);
-  stp_1(ADD(x527, 1200), x493);
-  st64_1(ADD(x527, 1208), x494);
-  st64_1(ADD(x527, 1216), x495);
-  stp_1(ADD(x527, 1224), x496);
-  st64_1(ADD(x527, 1232), x497);
-  st64_1(ADD(x527, 1240), x498);
-  stp_1(ADD(x527, 1248), x499);
-  st64_1(ADD(x527, 1256), x500);
-  st64_1(ADD(x527, 1264), x501);
-  stp_1(ADD(x527, 1272), x502);
-  st64_1(ADD(x527, 1280), x503);
-  st64_1(ADD(x527, 1288), x504);
-  st64_1(ADD(x527, 1296), x505);
-  st64_1(ADD(x527, 1304), x506);
-  st64_1(ADD(x527, 1312), x507);
-  stp_1(ADD(x527, 1320), x508);
-  st64_1(ADD(x527, 1328), x509);
-  st64_1(ADD(x527, 1336), x510);
-  stp_1(ADD(x527, 1344), x511);
-  st64_1(ADD(x527, 1352), x512);
-  st64_1(ADD(x527, 1360), x513);
-  stp_1(ADD(x527, 1368), x514);
-  st64_1(ADD(x527, 1376), x515);
-  st64_1(ADD(x527, 1384), x516);
-  stp_1(ADD(x527, 1392), x517);
-  st64_1(ADD(x527, 1400), x518);
-  st64_1(ADD(x527, 1408), x519);
-  st64_1(ADD(x527, 1416), x520);
-  st64_1(ADD(x527, 1424), x521);
-  MEMCPY(ADD(x527, 1432), x948, 88);
-  st64_1(ADD(x527, 1520), x480);
-  stp_1(ADD(x527, 1528), x447);
-  st64_1(ADD(x527, 1536), x448);
-  st64_1(ADD(x527, 1544), x449);
-  stp_1(ADD(x527, 1552), x522);
-  st64_1(ADD(x527, 1560), x523);
-  st64_1(ADD(x527, 1568), x524);
-  st64_1(ADD(x527, 1576), x480);
-  st64_1(ADD(x527, 1584), x525);
-  { x526 = 0u; x528 = x527; goto b208; }
+  x532 = (Q)(u64)(x970.f1);
+  stp_1(x532, x454);
+  st64_1(ADD(x532, 8), x455);
+  st64_1(ADD(x532, 16), x456);
+  stn(ADD(x532, 24), x457, 6);
+  MEMCPY(ADD(x532, 30), x534, 5);
+  MEMCPY(ADD(x532, 35), x535, 5);
+  st32_1(ADD(x532, 40), x458);
+  st32_1(ADD(x532, 44), x459);
+  st64_1(ADD(x532, 48), x460);
+  st64_1(ADD(x532, 56), x461);
+  st64_1(ADD(x532, 64), x462);
+  st8_1(ADD(x532, 72), x463);
+  MEMCPY(ADD(x532, 73), x536, 3);
+  st32_1(ADD(x532, 76), x464);
+  st32_1(ADD(x532, 80), x465);
+  st32_1(ADD(x532, 84), 0u);
+  st64_1(ADD(x532, 88), x466);
+  st32_1(ADD(x532, 96), x467);
+  st8_1(ADD(x532, 100), 0u);
+  st8_1(ADD(x532, 101), 0u);
+  st16_1(ADD(x532, 102), 0u);
+  st64_1(ADD(x532, 104), x462);
+  stp_1(ADD(x532, 112), x468);
+  st64_1(ADD(x532, 120), 0u);
+  st64_1(ADD(x532, 128), x469);
+  stp_1(ADD(x532, 136), x470);
+  st64_1(ADD(x532, 144), 0u);
+  st64_1(ADD(x532, 152), x469);
+  MEMCPY(ADD(x532, 160), x537, 56);
+  stp_1(ADD(x532, 216), x471);
+  st64_1(ADD(x532, 224), 0u);
+  st64_1(ADD(x532, 232), x469);
+  st64_1(ADD(x532, 240), x469);
+  st64_1(ADD(x532, 248), x472);
+  stp_1(ADD(x532, 256), x473);
+  st64_1(ADD(x532, 264), 0u);
+  st64_1(ADD(x532, 272), x472);
+  st8_1(ADD(x532, 280), x474);
+  st8_1(ADD(x532, 281), x475);
+  st8_1(ADD(x532, 282), x476);
+  st8_1(ADD(x532, 283), x477);
+  st16_1(ADD(x532, 284), x478);
+  st64_1(ADD(x532, 286), x479);
+  st64_1(ADD(x532, 294), x480);
+  st8_1(ADD(x532, 302), x481);
+  st8_1(ADD(x532, 303), 0u);
+  st64_1(ADD(x532, 304), x482);
+  stp_1(ADD(x532, 312), x483);
+  st64_1(ADD(x532, 320), x484);
+  st64_1(ADD(x532, 328), x482);
+  MEMCPY(ADD(x532, 336), x538, 56);
+  MEMCPY(ADD(x532, 392), x539, 56);
+  stp_1(ADD(x532, 448), x485);
+  st64_1(ADD(x532, 456), 0u);
+  st64_1(ADD(x532, 464), x486);
+  MEMCPY(ADD(x532, 472), x540, 56);
+  st64_1(ADD(x532, 528), x487);
+  st8_1(ADD(x532, 536), 0u);
+  MEMCPY(ADD(x532, 537), x541, 39);
+  st8_1(ADD(x532, 576), 0u);
+  MEMCPY(ADD(x532, 577), x542, 39);
+  st64_1(ADD(x532, 616), x486);
+  st64_1(ADD(x532, 624), 0u);
+  MEMCPY(ADD(x532, 632), x543, 16);
+  stp_1(ADD(x532, 648), x488);
+  st64_1(ADD(x532, 656), x489);
+  st64_1(ADD(x532, 664), x490);
+  stp_1(ADD(x532, 672), x491);
+  st64_1(ADD(x532, 680), x492);
+  st64_1(ADD(x532, 688), x493);
+  MEMCPY(ADD(x532, 696), x544, 168);
+  MEMCPY(ADD(x532, 864), x545, 168);
+  st64_1(ADD(x532, 1032), x494);
+  st64_1(ADD(x532, 1040), x495);
+  MEMCPY(ADD(x532, 1048), x546, 25);
+  MEMCPY(ADD(x532, 1073), x547, 119);
+  st64_1(ADD(x532, 1192), x496);
+  stp_1(ADD(x532, 1200), x497);
+  st64_1(ADD(x532, 1208), x498);
+  st64_1(ADD(x532, 1216), x499);
+  stp_1(ADD(x532, 1224), x500);
+  st64_1(ADD(x532, 1232), x501);
+  st64_1(ADD(x532, 1240), x502);
+  stp_1(ADD(x532, 1248), x503);
+  st64_1(ADD(x532, 1256), x504);
+  st64_1(ADD(x532, 1264), x505);
+  stp_1(ADD(x532, 1272), x506);
+  st64_1(ADD(x532, 1280), x507);
+  st64_1(ADD(x532, 1288), x508);
+  st64_1(ADD(x532, 1296), x509);
+  st64_1(ADD(x532, 1304), x510);
+  st64_1(ADD(x532, 1312), x511);
+  stp_1(ADD(x532, 1320), x512);
+  st64_1(ADD(x532, 1328), x513);
+  st64_1(ADD(x532, 1336), x514);
+  stp_1(ADD(x532, 1344), x515);
+  st64_1(ADD(x532, 1352), x516);
+  st64_1(ADD(x532, 1360), x517);
+  stp_1(ADD(x532, 1368), x518);
+  st64_1(ADD(x532, 1376), x519);
+  st64_1(ADD(x532, 1384), x520);
+  stp_1(ADD(x532, 1392), x521);
+  st64_1(ADD(x532, 1400), x522);
+  st64_1(ADD(x532, 1408), x523);
+  st64_1(ADD(x532, 1416), x524);
+  st64_1(ADD(x532, 1424), x525);
+  MEMCPY(ADD(x532, 1432), x967, 16);
+  stp_1(ADD(x532, 1448), x526);
+  MEMCPY(ADD(x532, 1456), x968, 16);
+  MEMCPY(ADD(x532, 1472), x969, 24);
+  st64_1(ADD(x532, 1496), x484);
+  stp_1(ADD(x532, 1504), x451);
+  st64_1(ADD(x532, 1512), x452);
+  st64_1(ADD(x532, 1520), x453);
+  stp_1(ADD(x532, 1528), x527);
+  st64_1(ADD(x532, 1536), x528);
+  st64_1(ADD(x532, 1544), x529);
+  st64_1(ADD(x532, 1552), x484);
+  st64_1(ADD(x532, 1560), x530);
+  { x531 = 0u; x533 = x532; goto b208; }
 b210:;
-  MEMCPY(x561, x948, 88);
-  MEMCPY(x562, ADD(x561, 16), 72);
-  MEMCPY(x563, x533, 56);
-  MEMCPY(x564, x534, 56);
-  MEMCPY(x565, x535, 56);
-  MEMCPY(x566, x539, 168);
-  MEMCPY(x567, x540, 168);
-  MEMCPY(x568, x532, 56);
-  if (((u8)(x465 == 0u))) goto b211; else goto b212;
+  MEMCPY(x568, x549, 16);
+  MEMCPY(x569, x550, 24);
+  MEMCPY(x570, x538, 56);
+  MEMCPY(x571, x539, 56);
+  MEMCPY(x572, x540, 56);
+  MEMCPY(x573, x544, 168);
+  MEMCPY(x574, x545, 168);
+  MEMCPY(x575, x537, 56);
+  if (((u8)(x469 == 0u))) goto b211; else goto b212;
 b212:;
-  os_rattle_dealloc(x464);
-  os_rattle_dealloc(x466);
-  f37(x568);
-  f37(ADD(x568, 24));
-  os_rattle_dealloc(x467);
+  os_rattle_dealloc(x468);
+  os_rattle_dealloc(x470);
+  f34(x575);
+  f34(ADD(x575, 24));
+  os_rattle_dealloc(x471);
   goto b213;
 b211:;
-  f37(x568);
-  f37(ADD(x568, 24));
+  f34(x575);
+  f34(ADD(x575, 24));
   goto b213;
 b213:;
-  if (((u8)(x468 == 0u))) goto b214; else goto b215;
+  if (((u8)(x472 == 0u))) goto b214; else goto b215;
 b215:;
-  os_rattle_dealloc(x469);
+  os_rattle_dealloc(x473);
   goto b214;
 b214:;
-  MEMCPY(x569, x563, 56);
-  MEMCPY(x570, x564, 56);
-  if (((u8)(x478 == 0u))) goto b216; else goto b217;
+  MEMCPY(x576, x570, 56);
+  MEMCPY(x577, x571, 56);
+  if (((u8)(x482 == 0u))) goto b216; else goto b217;
 b217:;
-  os_rattle_dealloc(x479);
+  os_rattle_dealloc(x483);
   goto b216;
 b216:;
-  f37(x569);
-  f37(ADD(x569, 24));
-  f37(x570);
-  f37(ADD(x570, 24));
-  stp_8(x571, x481);
-  st64_8(ADD(x571, 8), 0u);
-  st64_8(ADD(x571, 16), x482);
-  f60(x571);
-  f37(x565);
-  f37(ADD(x565, 24));
-  if (((u8)(x486 == 0u))) goto b218; else goto b219;
+  f34(x576);
+  f34(ADD(x576, 24));
+  f34(x577);
+  f34(ADD(x577, 24));
+  stp_8(x578, x485);
+  st64_8(ADD(x578, 8), 0u);
+  st64_8(ADD(x578, 16), x486);
+  f57(x578);
+  f34(x572);
+  f34(ADD(x572, 24));
+  if (((u8)(x490 == 0u))) goto b218; else goto b219;
 b219:;
-  os_rattle_dealloc(x484);
+  os_rattle_dealloc(x488);
   goto b218;
 b218:;
-  stp_8(x572, x487);
-  st64_8(ADD(x572, 8), x488);
-  st64_8(ADD(x572, 16), x489);
-  f59(x572);
-  f2(x566);
-  f2(x567);
-  if (((u8)(x495 == 0u))) goto b220; else goto b221;
+  stp_8(x579, x491);
+  st64_8(ADD(x579, 8), x492);
+  st64_8(ADD(x579, 16), x493);
+  f56(x579);
+  f2(x573);
+  f2(x574);
+  if (((u8)(x499 == 0u))) goto b220; else goto b221;
 b221:;
-  os_rattle_dealloc(x493);
+  os_rattle_dealloc(x497);
   goto b220;
 b220:;
-  if (((u8)(x498 == 0u))) goto b222; else goto b223;
+  if (((u8)(x502 == 0u))) goto b222; else goto b223;
 b223:;
-  os_rattle_dealloc(x496);
+  os_rattle_dealloc(x500);
   goto b222;
 b222:;
-  if (((u8)(x501 == 0u))) goto b224; else goto b225;
+  if (((u8)(x505 == 0u))) goto b224; else goto b225;
 b225:;
-  os_rattle_dealloc(x499);
+  os_rattle_dealloc(x503);
   goto b224;
 b224:;
-  if (((u8)(x504 == 0u))) goto b226; else goto b227;
+  if (((u8)(x508 == 0u))) goto b226; else goto b227;
 b227:;
-  os_rattle_dealloc(x502);
+  os_rattle_dealloc(x506);
   goto b226;
 b226:;
-  if (((u8)(x510 == 0u))) goto b228; else goto b229;
+  if (((u8)(x514 == 0u))) goto b228; else goto b229;
 b229:;
-  os_rattle_dealloc(x508);
+  os_rattle_dealloc(x512);
   goto b228;
 b228:;
-  if (((u8)(x513 == 0u))) goto b230; else goto b231;
+  if (((u8)(x517 == 0u))) goto b230; else goto b231;
 b231:;
-  os_rattle_dealloc(x511);
+  os_rattle_dealloc(x515);
   goto b230;
 b230:;
-  if (((u8)(x516 == 0u))) goto b232; else goto b233;
+  if (((u8)(x520 == 0u))) goto b232; else goto b233;
 b233:;
-  os_rattle_dealloc(x514);
+  os_rattle_dealloc(x518);
   goto b232;
 b232:;
-  if (((u8)(x519 == 0u))) goto b234; else goto b235;
+  if (((u8)(x523 == 0u))) goto b234; else goto b235;
 b235:;
-  os_rattle_dealloc(x517);
+  os_rattle_dealloc(x521);
   goto b234;
 b234:;
-  f5(x562);
-  f5(ADD(x562, 24));
-  f5(ADD(x562, 48));
-  if ((((u8)(x480 != 1u)) ? 1u : ((u8)(x449 == 0u)))) goto b236; else goto b237;
+  stp_8(x580, x526);
+  MEMCPY(ADD(x580, 8), x568, 16);
+  f5(x580);
+  f5(x569);
+  if ((((u8)(x484 != 1u)) ? 1u : ((u8)(x453 == 0u)))) goto b236; else goto b237;
 b237:;
-  os_rattle_dealloc(x447);
+  os_rattle_dealloc(x451);
   goto b236;
 b236:;
-  if (((u8)(x524 == 0u))) { x526 = 1u; x528 = Q_NULL; goto b208; } else goto b238;
+  if (((u8)(x529 == 0u))) { x531 = 1u; x533 = Q_NULL; goto b208; } else goto b238;
 b238:;
-  os_rattle_dealloc(x522);
-  { x526 = 1u; x528 = Q_NULL; goto b208; }
+  os_rattle_dealloc(x527);
+  { x531 = 1u; x533 = Q_NULL; goto b208; }
 b208:;
-  return s_u8_Q_set1(s_u8_Q_set0(((s_u8_Q){0u, Q_NULL}), x526), x528);
+  return s_u8_Q_set1(s_u8_Q_set0(((s_u8_Q){0u, Q_NULL}), x531), x533);
 }
 
-static void f29(Q x0, u64 x1)
-{
-  u8 x4;
-  u64 x5;
-  Q x6;
-  _Alignas(8) u8 y0_[24];
-  Q const x3 = Q_OF(y0_);
-  _Alignas(8) u8 y1_[1];
-  Q const x2 = Q_OF(y1_);
-  stp_8(x3, x2);
-  MEMSET(ADD(x3, 8), 0u, 16);
-  x4 = f30(x3, x1);
-  if (x4) goto b0; else goto b1;
-b4:;
-  return;
-b1:;
-  x5 = ld64_8(ADD(x3, 16));
-  if (((u8)(x5 == 0u))) goto b2; else goto b3;
-b3:;
-  x6 = ldp_8(x3);
-  os_rattle_dealloc(x6);
-  goto b2;
-b2:;
-  st8_1(x0, 1u);
-  MEMSET(FAR(x0, 8), 0u, 24);
-  goto b4;
-b0:;
-  st8_1(x0, 0u);
-  MEMCPY(FAR(x0, 8), x3, 24);
-  goto b4;
-}
-
-static u8 f30(Q x0, u64 x1)
+static u8 f27(Q x0, u64 x1)
 {
   u8 x2;
   s_u64_u64 x5, x3, x10, x4;
@@ -4435,7 +4435,7 @@ b4:;
   { x2 = 1u; goto b1; }
 }
 
-static void f31(Q x0, u64 x1)
+static void f28(Q x0, u64 x1)
 {
   u64 x3, x12, x13, x2, x22, x26;
   u8 x11, x14, x17, x20, x21, x24, x25;
@@ -4470,13 +4470,13 @@ static void f31(Q x0, u64 x1)
   x11 = (u8)(x1 < 32u);
   x12 = (((u64)((u64)((u64)((u64)x1 + UINT64_C(18446744073709551615))) >> 4)) | 1u);
   x13 = (x11 ? 0u : x12);
-  f32(x5, ((u64)((u64)x13 + 1u)));
+  f29(x5, ((u64)((u64)x13 + 1u)));
   x14 = ld8_1(x5);
   if (((u8)(x14 == 0u))) goto b0; else goto b1;
 b0:;
   x15 = ADD(x5, 8);
   MEMCPY(x16, x15, 24);
-  f32(x6, x13);
+  f29(x6, x13);
   x17 = ld8_1(x6);
   if (((u8)(x17 == 0u))) goto b2; else goto b3;
 b2:;
@@ -4486,22 +4486,22 @@ b5:;
   x19 = ADD(x8, 8);
   { x3 = 0u; goto b6; }
 b3:;
-  f37(x15);
+  f34(x15);
   goto b1;
 b9:;
   x2 = (u64)((u64)x3 + 1u);
   if (((u8)(x2 == x12))) goto b4; else { x3 = x2; goto b6; }
 b6:;
-  f33(x8);
+  f30(x8);
   x20 = ld8_1(x8);
   if (((u8)(x20 == 0u))) goto b7; else goto b8;
 b7:;
-  f35(x7, x18, x19);
+  f32(x7, x18, x19);
   x21 = ld8_1(x7);
   if (((u8)(x21 == 0u))) goto b9; else goto b10;
 b8:;
-  f37(x18);
-  f37(x15);
+  f34(x18);
+  f34(x15);
   goto b1;
 b10:;
   x22 = ld64_8(ADD(x7, 24));
@@ -4511,20 +4511,20 @@ b12:;
   os_rattle_dealloc(x23);
   goto b11;
 b11:;
-  f37(x18);
-  f37(x15);
+  f34(x18);
+  f34(x15);
   goto b1;
 b4:;
-  f33(x10);
+  f30(x10);
   x24 = ld8_1(x10);
   if (((u8)(x24 == 0u))) goto b13; else goto b14;
 b13:;
-  f35(x9, x16, ADD(x10, 8));
+  f32(x9, x16, ADD(x10, 8));
   x25 = ld8_1(x9);
   if (((u8)(x25 == 0u))) goto b15; else goto b16;
 b14:;
-  f37(x18);
-  f37(x15);
+  f34(x18);
+  f34(x15);
   goto b1;
 b16:;
   x26 = ld64_8(ADD(x9, 24));
@@ -4534,8 +4534,8 @@ b18:;
   os_rattle_dealloc(x27);
   goto b17;
 b17:;
-  f37(x18);
-  f37(x16);
+  f34(x18);
+  f34(x16);
   goto b1;
 b15:;
   MEMCPY(x28, x16, 24);
@@ -4554,7 +4554,7 @@ b1:;
   goto b19;
 }
 
-static void f32(Q x0, u64 x1)
+static void f29(Q x0, u64 x1)
 {
   u8 x4;
   u64 x5;
@@ -4567,7 +4567,7 @@ static void f32(Q x0, u64 x1)
   MEMSET(ADD(x3, 8), 0u, 16);
   if (((u8)(x1 == 0u))) goto b0; else goto b1;
 b1:;
-  x4 = f34(x3, x1);
+  x4 = f31(x3, x1);
   if (x4) goto b0; else goto b2;
 b5:;
   return;
@@ -4588,7 +4588,7 @@ b0:;
   goto b5;
 }
 
-static void f33(Q x0)
+static void f30(Q x0)
 {
   u8 x3;
   u64 x4;
@@ -4601,7 +4601,7 @@ static void f33(Q x0)
   Q const x1 = Q_OF(y2_);
   stp_8(x2, x1);
   MEMSET(ADD(x2, 8), 0u, 16);
-  x3 = f34(x2, 32u);
+  x3 = f31(x2, 32u);
   if (x3) goto b0; else goto b1;
 b1:;
   x4 = ld64_8(ADD(x2, 16));
@@ -4623,7 +4623,7 @@ b2:;
   goto b4;
 }
 
-static u8 f34(Q x0, u64 x1)
+static u8 f31(Q x0, u64 x1)
 {
   u8 x2;
   s_u64_u64 x5, x3, x10, x4;
@@ -4651,7 +4651,7 @@ b4:;
   { x2 = 1u; goto b1; }
 }
 
-static void f35(Q x0, Q x1, Q x2)
+static void f32(Q x0, Q x1, Q x2)
 {
   u64 x5, x7, x4, x3;
   Q x8, x10;
@@ -4664,7 +4664,7 @@ static void f35(Q x0, Q x1, Q x2)
   x4 = ld64_8(x8);
   if (((u8)(x7 == x4))) goto b0; else { x5 = x4; goto b1; }
 b0:;
-  x9 = f36(x1);
+  x9 = f33(x1);
   if (x9) goto b2; else goto b3;
 b2:;
   x3 = ld64_8(x8);
@@ -4684,7 +4684,7 @@ b1:;
   goto b4;
 }
 
-static u8 f36(Q x0)
+static u8 f33(Q x0)
 {
   u8 x2, x1;
   u64 x3, x4, x5, x6, x7;
@@ -4697,11 +4697,11 @@ b1:;
   x5 = umax64(x3, 3u);
   x6 = (u64)((u64)x5 + 1u);
   x7 = umax64(x6, ((u64)((u64)x4 << 1)));
-  x1 = f34(x0, (((u8)(x4 < UINT64_C(4611686018427387904))) ? x7 : x6));
+  x1 = f31(x0, (((u8)(x4 < UINT64_C(4611686018427387904))) ? x7 : x6));
   { x2 = x1; goto b0; }
 }
 
-static void f37(Q x0)
+static void f34(Q x0)
 {
   u64 x2, x4, x5, x7, x1;
   Q x3, x6, x8;
@@ -4729,7 +4729,7 @@ b4:;
   return;
 }
 
-static void f38(Q x0, u64 x1, u64 x2)
+static void f35(Q x0, u64 x1, u64 x2)
 {
   Q x5, x7, x3, x6;
   u8 x8;
@@ -4780,7 +4780,7 @@ b9:;
   goto b8;
 }
 
-static void f39(Q x0, u64 x1, u64 x2)
+static void f36(Q x0, u64 x1, u64 x2)
 {
   u64 x5, x27, x33, x48, x55, x67, x79, x80, x82, x83, x3, x86, x90, x92, x93, x4, x97, x100, x101, x102, x104, x109;
   u32 x8, x85, x6, x89, x91, x7, x96, x99, x103;
@@ -4843,7 +4843,7 @@ b1:;
   stp_8(ADD(x21, 96), x20);
   MEMSET(ADD(x21, 104), 0u, 32);
   st64_8(ADD(x21, 136), UINT64_C(2611923443488327891));
-  x23 = f40(x21, x1);
+  x23 = f37(x21, x1);
   if (((u8)((x23) & 1u))) goto b2; else goto b3;
 b3:;
   x25 = ADD(x24, 7);
@@ -4853,8 +4853,8 @@ b3:;
   x13 = (Q)(u64)x27;
   if (((u8)(((x26.f0)) & 1u))) goto b4; else goto b5;
 b2:;
-  f45(x21);
-  f45(x22);
+  f42(x21);
+  f42(x22);
   goto b6;
 b4:;
   x28 = os_rattle_alloc(64u, 16u);
@@ -4862,15 +4862,15 @@ b4:;
 b5:;
   MEMCPY(x29, x25, 64);
   MEMCPY(x30, ADD(x24, 71), 72);
-  f45(x29);
-  f45(x30);
+  f42(x29);
+  f42(x30);
   goto b6;
 b8:;
   os_rattle_dealloc(x13);
   MEMCPY(x31, x25, 64);
   MEMCPY(x32, ADD(x24, 71), 72);
-  f45(x31);
-  f45(x32);
+  f42(x31);
+  f42(x32);
   goto b6;
 b7:;
   x33 = x28.f1;
@@ -4912,7 +4912,7 @@ b10:;
   stp_8(ADD(x42, 96), x20);
   MEMSET(ADD(x42, 104), 0u, 32);
   st64_8(ADD(x42, 136), UINT64_C(2611923443488327891));
-  x44 = f40(x42, x2);
+  x44 = f37(x42, x2);
   if (((u8)((x44) & 1u))) goto b12; else goto b13;
 b13:;
   x46 = ADD(x45, 7);
@@ -4922,8 +4922,8 @@ b13:;
   x49 = (Q)(u64)x48;
   if (((u8)(((x47.f0)) & 1u))) goto b14; else goto b15;
 b12:;
-  f45(x42);
-  f45(x43);
+  f42(x42);
+  f42(x43);
   goto b16;
 b14:;
   x50 = os_rattle_alloc(64u, 16u);
@@ -4931,15 +4931,15 @@ b14:;
 b15:;
   MEMCPY(x51, x46, 64);
   MEMCPY(x52, ADD(x45, 71), 72);
-  f45(x51);
-  f45(x52);
+  f42(x51);
+  f42(x52);
   goto b16;
 b18:;
   os_rattle_dealloc(x49);
   MEMCPY(x53, x46, 64);
   MEMCPY(x54, ADD(x45, 71), 72);
-  f45(x53);
-  f45(x54);
+  f42(x53);
+  f42(x54);
   goto b16;
 b17:;
   x55 = x50.f1;
@@ -5007,7 +5007,7 @@ b23:;
   { x5 = x3; goto b24; }
 b24:;
   x87 = FAR(x78, (u64)((u64)((u64)x5 << 6)));
-  x6 = f52(x87, x84);
+  x6 = f49(x87, x84);
   if (((u8)(x6 == 0u))) goto b25; else goto b26;
 b26:;
   x88 = FAR(x87, 16);
@@ -5051,7 +5051,7 @@ b31:;
   x103 = ld32_1(ADD(x87, 12));
   x104 = ld64_8(x72);
   st64_8(x72, ((u64)((u64)x104 + ((u64)((u8)(x103 == 0u))))));
-  x105 = f46(x63, x92);
+  x105 = f43(x63, x92);
   x106 = ldp_8(FAR(x105, 8));
   x107 = ldp_8(x105);
   stp_8(FAR(x107, 8), x106);
@@ -5065,8 +5065,8 @@ b33:;
   x9 = ldp_8(x65);
   { x11 = x9; x14 = x12; goto b19; }
 b19:;
-  f45(x63);
-  f45(ADD(x63, 64));
+  f42(x63);
+  f42(ADD(x63, 64));
   os_rattle_dealloc(x14);
   os_rattle_dealloc(x11);
   st8_1(x0, 1u);
@@ -5074,7 +5074,7 @@ b19:;
   goto b11;
 }
 
-static u8 f40(Q x0, u64 x1)
+static u8 f37(Q x0, u64 x1)
 {
   u64 x4, x6, x3, x2, x13, x5;
   u8 x8, x10, x11, x16, x7;
@@ -5085,13 +5085,13 @@ static u8 f40(Q x0, u64 x1)
   x3 = ld64_8(x9);
   if (((u8)(x1 > x3))) goto b0; else { x4 = x3; goto b1; }
 b0:;
-  x10 = f41(FAR(x0, 64), x1);
+  x10 = f38(FAR(x0, 64), x1);
   if (((u8)((x10) & 1u))) { x8 = 1u; goto b2; } else goto b3;
 b3:;
   x2 = ld64_8(x9);
   { x4 = x2; goto b1; }
 b1:;
-  x11 = f43(x0, x4);
+  x11 = f40(x0, x4);
   if (((u8)((x11) & 1u))) { x8 = 1u; goto b2; } else goto b4;
 b4:;
   x12 = FAR(x0, 32);
@@ -5112,14 +5112,14 @@ b6:;
 b8:;
   if (((u8)(x4 > ((u64)((u64)x13 - x6))))) goto b9; else { x8 = 0u; goto b2; }
 b9:;
-  x16 = f238(x12, x4);
+  x16 = f233(x12, x4);
   x7 = (u8)((u8)(x16 ^ 1u));
   { x8 = x7; goto b2; }
 b2:;
   return x8;
 }
 
-static u8 f41(Q x0, u64 x1)
+static u8 f38(Q x0, u64 x1)
 {
   u64 x3, x7, x12, x17, x18, x19, x20, x23, x24, x2, x30, x31, x6, x32, x33, x11, x35, x39, x41;
   u8 x5, x13, x14, x29, x4, x34, x36, x42, x43;
@@ -5145,7 +5145,7 @@ b5:;
   memset_n(x21, 0u, ((u64)((u64)x18 << 6)));
   goto b4;
 b4:;
-  f50(x21, x18, x22, x17);
+  f47(x21, x18, x22, x17);
   st64_8(FAR(x0, 64), ((u64)((u64)x19 - x17)));
   { x14 = 0u; goto b0; }
 b3:;
@@ -5165,7 +5165,7 @@ b7:;
   if (((u8)(x3 == 0u))) { x5 = 0u; x7 = 0u; x10 = x9; goto b8; } else goto b9;
 b9:;
   x28 = ADD(x25, 16);
-  x29 = f231(x25, x3);
+  x29 = f226(x25, x3);
   if (x29) goto b10; else goto b11;
 b10:;
   x30 = ld64_8(x26);
@@ -5198,7 +5198,7 @@ b16:;
 b18:;
   if (((u8)(x32 > ((u64)((u64)x33 - x12))))) goto b19; else goto b14;
 b19:;
-  x34 = f42(x15, x32);
+  x34 = f39(x15, x32);
   if (x34) goto b14; else goto b20;
 b11:;
   x35 = ld64_8(x28);
@@ -5211,7 +5211,7 @@ b21:;
 b14:;
   x38 = ldp_8(x15);
   x39 = ld64_8(x16);
-  f50(x10, x7, x38, x39);
+  f47(x10, x7, x38, x39);
   x40 = ldp_8(x0);
   x41 = ld64_8(ADD(x0, 16));
   x42 = ld8_1(ADD(x0, 24));
@@ -5235,7 +5235,7 @@ b0:;
   return x14;
 }
 
-static u8 f42(Q x0, u64 x1)
+static u8 f39(Q x0, u64 x1)
 {
   u8 x2, x13, x14;
   s_u64_u64 x5, x15, x3, x4;
@@ -5274,7 +5274,7 @@ b7:;
   { x2 = 1u; goto b0; }
 }
 
-static u8 f43(Q x0, u64 x1)
+static u8 f40(Q x0, u64 x1)
 {
   u64 x3, x2, x6;
   u8 x4, x7;
@@ -5294,7 +5294,7 @@ b3:;
   x6 = ld64_8(FAR(x0, 8));
   if (((u8)(x1 > ((u64)((u64)x3 - x6))))) goto b4; else goto b5;
 b4:;
-  x7 = f44(x0, x1);
+  x7 = f41(x0, x1);
   if (x7) goto b5; else { x4 = 1u; goto b0; }
 b5:;
   { x4 = 0u; goto b0; }
@@ -5302,7 +5302,7 @@ b0:;
   return x4;
 }
 
-static u8 f44(Q x0, u64 x1)
+static u8 f41(Q x0, u64 x1)
 {
   u8 x2, x13, x14;
   s_u64_u64 x5, x15, x3, x4;
@@ -5341,7 +5341,7 @@ b7:;
   { x2 = 1u; goto b0; }
 }
 
-static void f45(Q x0)
+static void f42(Q x0)
 {
   u64 x1, x4;
   u8 x2, x5;
@@ -5365,7 +5365,7 @@ b3:;
   return;
 }
 
-static Q f46(Q x0, u64 x1)
+static Q f43(Q x0, u64 x1)
 {
   u64 x4, x6, x7, x9, x11, x12, x3, x2;
   Q x5, x8, x10, x13, x14;
@@ -5396,7 +5396,7 @@ b2:;
   return ((Q)(u64)x4);
 }
 
-static void f47(Q x0, u64 x1, u64 x2)
+static void f44(Q x0, u64 x1, u64 x2)
 {
   u64 x4, x6, x8, x10, x15, x17, x21, x23, x27, x29, x28, x26, x22, x20, x16, x14, x9, x7, x5, x3, x45, x47, x49, x51, x60, x62, x64, x66;
   Q x13, x19, x25, x31, x34, x35, x36, x37, x38, x39, x40, x41, x42, x43, x30, x24, x18, x11, x46, x48, x50, x52, x54, x55, x56, x57, x58, x61, x63, x65, x67, x69, x71;
@@ -5434,7 +5434,7 @@ static void f47(Q x0, u64 x1, u64 x2)
   x43 = ADD(x33, 40);
   if (((u8)(x1 == 0u))) { x4 = UINT64_C(2611923443488327891); x6 = 0u; x8 = 0u; x10 = 0u; x13 = x12; x15 = 0u; x17 = 0u; x19 = x12; x21 = 0u; x23 = 0u; x25 = x12; x27 = 0u; x29 = 0u; x31 = x12; goto b0; } else goto b1;
 b1:;
-  x44 = f48(x33, x1);
+  x44 = f45(x33, x1);
   if (((u8)((x44) & 1u))) goto b2; else goto b3;
 b3:;
   x30 = ldp_8(x33);
@@ -5497,7 +5497,7 @@ b0:;
   x58 = ADD(x53, 40);
   if (((u8)(x2 == 0u))) goto b12; else goto b13;
 b13:;
-  x59 = f56(x53, x2);
+  x59 = f53(x53, x2);
   if (((u8)((x59) & 1u))) goto b14; else goto b12;
 b14:;
   x60 = ld64_8(x57);
@@ -5586,7 +5586,7 @@ b30:;
   goto b23;
 }
 
-static u8 f48(Q x0, u64 x1)
+static u8 f45(Q x0, u64 x1)
 {
   u64 x4, x3, x2, x13, x15, x16;
   s_u64_u64 x7, x5, x18, x6;
@@ -5596,13 +5596,13 @@ static u8 f48(Q x0, u64 x1)
   x3 = ld64_8(x9);
   if (((u8)(x1 > x3))) goto b0; else { x4 = x3; goto b1; }
 b0:;
-  x10 = f49(FAR(x0, 48), x1);
+  x10 = f46(FAR(x0, 48), x1);
   if (((u8)((x10) & 1u))) { x8 = 1u; goto b2; } else goto b3;
 b3:;
   x2 = ld64_8(x9);
   { x4 = x2; goto b1; }
 b1:;
-  x11 = f55(x0, x4);
+  x11 = f52(x0, x4);
   if (((u8)((x11) & 1u))) { x8 = 1u; goto b2; } else goto b4;
 b4:;
   x12 = FAR(x0, 24);
@@ -5633,7 +5633,7 @@ b2:;
   return x8;
 }
 
-static u8 f49(Q x0, u64 x1)
+static u8 f46(Q x0, u64 x1)
 {
   u64 x3, x9, x11, x14, x16, x21, x25, x8, x27, x28, x31, x32, x2, x33, x35, x7, x38, x40, x10, x13, x15, x12, x20, x44;
   s_u64_u64 x6, x4, x37, x5;
@@ -5657,7 +5657,7 @@ b5:;
   memset_n(x29, 0u, ((u64)((u64)x8 << 6)));
   goto b4;
 b4:;
-  f50(x29, x8, x30, x25);
+  f47(x29, x8, x30, x25);
   st64_8(FAR(x0, 48), ((u64)((u64)x27 - x25)));
   { x22 = 0u; goto b0; }
 b3:;
@@ -5697,7 +5697,7 @@ b9:;
 b14:;
   if (((u8)(x38 > (x9 ^ UINT64_C(18446744073709551615))))) { x22 = 1u; goto b0; } else goto b16;
 b16:;
-  x41 = f53(x0, ((u64)((u64)x38 + x9)));
+  x41 = f50(x0, ((u64)((u64)x38 + x9)));
   if (x41) goto b17; else { x22 = 1u; goto b0; }
 b17:;
   x10 = ld64_8(x26);
@@ -5716,7 +5716,7 @@ b21:;
   x13 = ld64_8(x39);
   if (((u8)(x3 > x13))) goto b23; else { x14 = x13; x16 = 0u; goto b24; }
 b23:;
-  x42 = f54(x0, x3);
+  x42 = f51(x0, x3);
   if (x42) goto b25; else goto b26;
 b25:;
   x15 = ld64_8(x26);
@@ -5740,14 +5740,14 @@ b26:;
 b22:;
   x43 = ldp_8(x23);
   x44 = ld64_8(x24);
-  f50(x19, x21, x43, x44);
+  f47(x19, x21, x43, x44);
   st64_8(FAR(x0, 48), x33);
   { x22 = 0u; goto b0; }
 b0:;
   return x22;
 }
 
-static void f50(Q x0, u64 x1, Q x2, u64 x3)
+static void f47(Q x0, u64 x1, Q x2, u64 x3)
 {
   u64 x5, x4;
   Q x6;
@@ -5757,7 +5757,7 @@ static void f50(Q x0, u64 x1, Q x2, u64 x3)
 b1:;
   x6 = ADD(x2, (u64)((u64)((u64)x5 << 3)));
   x7 = ld32_4(x6);
-  x8 = f51(x0, x1, x5, x7);
+  x8 = f48(x0, x1, x5, x7);
   st32_4(x6, (x8.f0));
   st32_4(ADD(x6, 4), (x8.f1));
   x4 = (u64)((u64)x5 + 1u);
@@ -5766,7 +5766,7 @@ b0:;
   return;
 }
 
-static s_u32_u32 f51(Q x0, u64 x1, u64 x2, u32 x3)
+static s_u32_u32 f48(Q x0, u64 x1, u64 x2, u32 x3)
 {
   u64 x6, x15, x16, x4, x13, x19, x21, x5, x14;
   Q x9, x7, x22, x8;
@@ -5775,7 +5775,7 @@ static s_u32_u32 f51(Q x0, u64 x1, u64 x2, u32 x3)
   x4 = (((u64)((u64)x1 + 4294967295u)) & ((u64)x3));
   x13 = (u64)((u64)x4 << 6);
   x7 = FAR(x0, (u64)x13);
-  x10 = f52(x7, 0u);
+  x10 = f49(x7, 0u);
   x17 = umax8(((u8)(((u32)((u32)x3 >> 24)))), 1u);
   if (((u8)(x10 == 0u))) goto b0; else { x6 = x4; x9 = x7; x12 = x10; goto b1; }
 b0:;
@@ -5795,11 +5795,11 @@ b2:;
   x5 = (((u64)((u64)x16 + 1u)) & x19);
   x14 = (u64)((u64)x5 << 6);
   x8 = FAR(x0, (u64)x14);
-  x11 = f52(x8, 0u);
+  x11 = f49(x8, 0u);
   if (((u8)(x11 == 0u))) { x15 = x14; x16 = x5; goto b2; } else { x6 = x5; x9 = x8; x12 = x11; goto b1; }
 }
 
-static u32 f52(Q x0, u8 x1)
+static u32 f49(Q x0, u8 x1)
 {
   u8 x2, x3, x4, x5, x6, x7, x8, x9, x10, x11, x12, x13, x14, x15, x16, x17;
   v16 x18, x19, x20, x21, x22, x23, x24, x25, x26, x27, x28, x29, x30, x31, x32, x33, x34;
@@ -5839,7 +5839,7 @@ static u32 f52(Q x0, u8 x1)
   return ((u32)((u16)(v16_mask(v16_eq(x33, v16_splat(v16_get(x34, 0)))) & 4095u)));
 }
 
-static u8 f53(Q x0, u64 x1)
+static u8 f50(Q x0, u64 x1)
 {
   u8 x2;
   s_u64_u64 x5, x3, x10, x4;
@@ -5867,7 +5867,7 @@ b4:;
   { x2 = 1u; goto b1; }
 }
 
-static u8 f54(Q x0, u64 x1)
+static u8 f51(Q x0, u64 x1)
 {
   u8 x3, x2;
   u64 x4, x5, x6, x7;
@@ -5879,11 +5879,11 @@ b1:;
   x5 = ld64_8(FAR(x0, 16));
   x6 = umax64(((u64)((u64)x4 + x1)), 4u);
   x7 = umax64(x6, ((u64)((u64)x5 << 1)));
-  x2 = f53(x0, (((u8)(x5 < UINT64_C(4611686018427387904))) ? x7 : x6));
+  x2 = f50(x0, (((u8)(x5 < UINT64_C(4611686018427387904))) ? x7 : x6));
   { x3 = x2; goto b0; }
 }
 
-static u8 f55(Q x0, u64 x1)
+static u8 f52(Q x0, u64 x1)
 {
   s_u64_u64 x4, x2, x11, x3;
   u8 x5;
@@ -5916,7 +5916,7 @@ b1:;
   return x5;
 }
 
-static u8 f56(Q x0, u64 x1)
+static u8 f53(Q x0, u64 x1)
 {
   u64 x4, x3, x2, x13, x15, x16;
   s_u64_u64 x7, x5, x18, x6;
@@ -5926,13 +5926,13 @@ static u8 f56(Q x0, u64 x1)
   x3 = ld64_8(x9);
   if (((u8)(x1 > x3))) goto b0; else { x4 = x3; goto b1; }
 b0:;
-  x10 = f49(FAR(x0, 48), x1);
+  x10 = f46(FAR(x0, 48), x1);
   if (((u8)((x10) & 1u))) { x8 = 1u; goto b2; } else goto b3;
 b3:;
   x2 = ld64_8(x9);
   { x4 = x2; goto b1; }
 b1:;
-  x11 = f55(x0, x4);
+  x11 = f52(x0, x4);
   if (((u8)((x11) & 1u))) { x8 = 1u; goto b2; } else goto b4;
 b4:;
   x12 = FAR(x0, 24);
@@ -5963,7 +5963,7 @@ b2:;
   return x8;
 }
 
-static void f57(Q x0)
+static void f54(Q x0)
 {
   u64 x3, x9, x21, x25, x27, x28, x1, x31, x35, x37, x2, x42, x47;
   u32 x6, x30, x4, x34, x36, x5, x40;
@@ -6008,7 +6008,7 @@ b4:;
   { x3 = x1; goto b5; }
 b5:;
   x32 = FAR(x24, (u64)((u64)((u64)x3 << 6)));
-  x4 = f52(x32, x29);
+  x4 = f49(x32, x29);
   if (((u8)(x4 == 0u))) goto b6; else goto b7;
 b7:;
   x33 = FAR(x32, 16);
@@ -6040,7 +6040,7 @@ b9:;
   x41 = f3(x24, x14, x15);
   x42 = ld64_8(x18);
   st64_8(x18, ((u64)((u64)x42 + ((u64)((u8)(x41 ^ 1u))))));
-  x43 = f46(x7, x37);
+  x43 = f43(x7, x37);
   x44 = ldp_8(FAR(x43, 8));
   x45 = ldp_8(x43);
   stp_8(FAR(x45, 8), x44);
@@ -6052,14 +6052,14 @@ b9:;
 b0:;
   x48 = ldp_8(ADD(x7, 144));
   x49 = ldp_8(ADD(x7, 152));
-  f45(x7);
-  f45(ADD(x7, 64));
+  f42(x7);
+  f42(ADD(x7, 64));
   os_rattle_dealloc(x48);
   os_rattle_dealloc(x49);
   return;
 }
 
-static void f58(Q x0)
+static void f55(Q x0)
 {
   u64 x3, x9, x12, x26, x30, x32, x33, x1, x36, x40, x42, x43, x2, x48, x49, x50, x52, x53, x54, x8, x7;
   u32 x6, x35, x4, x39, x41, x5, x46;
@@ -6106,7 +6106,7 @@ b4:;
   { x3 = x1; goto b5; }
 b5:;
   x37 = FAR(x29, (u64)((u64)((u64)x3 << 6)));
-  x4 = f52(x37, x34);
+  x4 = f49(x37, x34);
   if (((u8)(x4 == 0u))) goto b6; else goto b7;
 b7:;
   x38 = FAR(x37, 16);
@@ -6172,14 +6172,14 @@ b14:;
 b0:;
   x61 = ldp_8(ADD(x10, 144));
   x62 = ldp_8(ADD(x10, 152));
-  f45(x10);
-  f45(ADD(x10, 64));
+  f42(x10);
+  f42(ADD(x10, 64));
   os_rattle_dealloc(x61);
   os_rattle_dealloc(x62);
   return;
 }
 
-static void f59(Q x0)
+static void f56(Q x0)
 {
   u64 x2, x4, x5, x7, x1;
   Q x3, x6, x8;
@@ -6207,7 +6207,7 @@ b4:;
   return;
 }
 
-static void f60(Q x0)
+static void f57(Q x0)
 {
   u64 x2, x4, x5, x1;
   Q x3, x6;
@@ -6224,7 +6224,7 @@ b1:;
   if (((u8)(x7 == 0u))) goto b2; else goto b3;
 b2:;
   MEMCPY(x8, ADD(x6, 40), 32);
-  f133(x8);
+  f128(x8);
   goto b3;
 b3:;
   x1 = (u64)((u64)x2 + 1u);
@@ -6238,7 +6238,7 @@ b4:;
   return;
 }
 
-static u64 f61(Q x0, u64 x1, u64 x2)
+static u64 f58(Q x0, u64 x1, u64 x2)
 {
   u32 x5, x9, x3, x4;
   u8 x6;
@@ -6267,7 +6267,7 @@ b3:;
   UNREACHABLE();
 }
 
-static u8 f62(Q x0, Q x1)
+static u8 f59(Q x0, Q x1)
 {
   u8 x4, x2, x3;
   u64 x5;
@@ -6278,17 +6278,17 @@ static u8 f62(Q x0, Q x1)
   if (((u8)(x5 == 0u))) goto b0; else goto b1;
 b1:;
   x6 = ldp_8(x0);
-  x2 = f63(x6, x1);
+  x2 = f60(x6, x1);
   { x4 = x2; goto b2; }
 b0:;
   MEMSET(x7, 0u, 24);
-  x3 = f63(x7, x1);
+  x3 = f60(x7, x1);
   { x4 = x3; goto b2; }
 b2:;
   return x4;
 }
 
-static u8 f63(Q x0, Q x1)
+static u8 f60(Q x0, Q x1)
 {
   u8 x4, x7, x2, x3;
   u64 x5, x6, x8, x9, x12, x13;
@@ -6313,14 +6313,14 @@ b1:;
   return x4;
 }
 
-static s_u8_u64 f64(Q x0, u64 x1, Q x2)
+static s_u8_u64 f61(Q x0, u64 x1, Q x2)
 {
   u64 x4, x6, x7, x9, x5, x3;
   u8 x8, x10, x11, x12;
   if (((u8)(x1 == 0u))) { x7 = 0u; goto b0; } else { x4 = 0u; x6 = x1; goto b1; }
 b1:;
   x9 = (u64)((u64)((u64)((u64)((u64)((u64)x6 - x4)) >> 1)) + x4);
-  x10 = f63(FAR(x0, (u64)((u64)((u64)x9 * 24u))), x2);
+  x10 = f60(FAR(x0, (u64)((u64)((u64)x9 * 24u))), x2);
   x11 = (u8)(x10 == 0u);
   x5 = (x11 ? x6 : x9);
   x3 = (x11 ? ((u64)((u64)x9 + 1u)) : x4);
@@ -6328,7 +6328,7 @@ b1:;
 b0:;
   if (((u8)(x7 < x1))) goto b2; else goto b3;
 b2:;
-  x12 = f63(FAR(x0, (u64)((u64)((u64)x7 * 24u))), x2);
+  x12 = f60(FAR(x0, (u64)((u64)((u64)x7 * 24u))), x2);
   if (((u8)(x12 == 1u))) { x8 = 0u; goto b4; } else goto b3;
 b3:;
   { x8 = 1u; goto b4; }
@@ -6336,7 +6336,7 @@ b4:;
   return s_u8_u64_set1(s_u8_u64_set0(((s_u8_u64){0u, 0u}), x8), x7);
 }
 
-static u8 f65(Q x0, u64 x1)
+static u8 f62(Q x0, u64 x1)
 {
   u8 x3, x2;
   u64 x4, x5, x6, x7;
@@ -6348,11 +6348,11 @@ b1:;
   x5 = ld64_8(FAR(x0, 16));
   x6 = umax64(((u64)((u64)x4 + x1)), 4u);
   x7 = umax64(x6, ((u64)((u64)x5 << 1)));
-  x2 = f34(x0, (((u8)(x5 < UINT64_C(4611686018427387904))) ? x7 : x6));
+  x2 = f31(x0, (((u8)(x5 < UINT64_C(4611686018427387904))) ? x7 : x6));
   { x3 = x2; goto b0; }
 }
 
-static void f66(Q x0, u64 x1, Q x2)
+static void f63(Q x0, u64 x1, Q x2)
 {
   u64 x4, x6, x8, x11, x14, x16, x18, x20, x23, x26, x27, x28, x29, x12, x9, x32, x5, x33, x7, x3, x13, x10, x38, x15, x39, x17, x42, x19;
   Q x22, x24, x25, x30, x31, x34, x35, x36, x37, x40, x41;
@@ -6433,7 +6433,7 @@ b10:;
   return;
 }
 
-static u8 f67(Q x0, Q x1, u64 x2)
+static u8 f64(Q x0, Q x1, u64 x2)
 {
   u64 x5, x8, x10, x4, x7, x6, x3, x15, x18, x19, x9;
   u8 x11, x14;
@@ -6444,7 +6444,7 @@ static u8 f67(Q x0, Q x1, u64 x2)
   x7 = ld64_8(x13);
   if (((u8)(x2 > ((u64)((u64)x4 - x7))))) goto b0; else { x5 = x4; x8 = x7; goto b1; }
 b0:;
-  x14 = f65(x0, x2);
+  x14 = f62(x0, x2);
   if (x14) goto b2; else { x11 = 1u; goto b3; }
 b2:;
   x6 = ld64_8(x13);
@@ -6476,7 +6476,7 @@ b3:;
   return x11;
 }
 
-static void f68(Q x0, u64 x1, Q x2)
+static void f65(Q x0, u64 x1, Q x2)
 {
   u64 x4, x6, x8, x11, x14, x16, x18, x20, x23, x26, x27, x28, x29, x12, x9, x32, x5, x33, x7, x3, x13, x10, x38, x15, x39, x17, x42, x19;
   Q x22, x24, x25, x30, x31, x34, x35, x36, x37, x40, x41;
@@ -6557,7 +6557,7 @@ b10:;
   return;
 }
 
-static void f69(Q x0, u64 x1)
+static void f66(Q x0, u64 x1)
 {
   u64 x3, x5, x7, x10, x13, x14, x16, x18, x20, x9, x24, x26, x28, x30, x31, x32, x12, x35, x4, x36, x6, x2, x11, x8, x41, x15, x42, x17;
   Q x19, x21, x22, x23, x25, x27, x29, x33, x34, x37, x38, x39, x40;
@@ -6635,7 +6635,7 @@ b11:;
   stp_8(x0, x21);
   st64_8(x19, x32);
   st64_8(x27, x28);
-  x43 = f67(x23, x29, x30);
+  x43 = f64(x23, x29, x30);
   if (((u8)((x43) & 1u))) goto b14; else goto b15;
 b14:;
   TRAP();
@@ -6645,7 +6645,7 @@ b15:;
   stp_8(x45, x29);
   st64_8(ADD(x45, 8), x30);
   st64_8(ADD(x45, 16), x31);
-  f35(x44, FAR(x0, 24), x45);
+  f32(x44, FAR(x0, 24), x45);
   x46 = ld8_1(x44);
   if (((u8)(x46 == 0u))) goto b16; else goto b17;
 b17:;
@@ -6655,7 +6655,7 @@ b16:;
   goto b0;
 }
 
-static void f70(Q x0, u64 x1, u64 x2)
+static void f67(Q x0, u64 x1, u64 x2)
 {
   u64 x4, x6, x11, x12, x14, x16, x18, x21, x22, x23, x24, x20, x25, x26, x27, x10, x31, x5, x3, x9, x33, x13, x34, x36, x37, x39, x19, x17, x15, x40, x41;
   Q x8, x29, x30, x7, x32;
@@ -6726,12 +6726,12 @@ b14:;
 b18:;
   if (((u8)(((u8)(x2 > 31u)) & ((u8)(x20 > 31u))))) { x16 = 0u; x18 = x2; x21 = x20; goto b19; } else { x22 = x20; x23 = x2; x24 = 0u; goto b20; }
 b17:;
-  f71(x0, x1, x2, x27);
+  f68(x0, x1, x2, x27);
   goto b0;
 b19:;
   x36 = umin64(x21, x18);
   x37 = (u64)((u64)x16 + x18);
-  f72(FAR(x0, (u64)((u64)((u64)((u64)((u64)x37 - x36)) * 24u))), x36, FAR(x0, (u64)((u64)((u64)x37 * 24u))));
+  f69(FAR(x0, (u64)((u64)((u64)((u64)((u64)x37 - x36)) * 24u))), x36, FAR(x0, (u64)((u64)((u64)x37 * 24u))));
   x38 = (u8)(x18 > x21);
   x39 = (x38 ? 0u : x36);
   x19 = (u64)((u64)x21 - x39);
@@ -6740,14 +6740,14 @@ b19:;
   if (((u8)(((u8)(x17 > 31u)) & ((u8)(x19 > 31u))))) { x16 = x15; x18 = x17; x21 = x19; goto b19; } else { x22 = x19; x23 = x17; x24 = x15; goto b20; }
 b20:;
   x40 = (u64)((u64)x24 + x23);
-  f73(x0, x1, x24, x40);
+  f70(x0, x1, x24, x40);
   x41 = (u64)((u64)x40 + x22);
-  f73(x0, x1, x40, x41);
-  f73(x0, x1, x24, x41);
+  f70(x0, x1, x40, x41);
+  f70(x0, x1, x24, x41);
   goto b0;
 }
 
-static void f71(Q x0, u64 x1, u64 x2, u64 x3)
+static void f68(Q x0, u64 x1, u64 x2, u64 x3)
 {
   u64 x5, x7, x9, x11, x12, x15, x17, x19, x21, x23, x25, x27, x13, x29, x30, x31, x4, x32, x35, x8, x36, x10, x6, x14, x37, x41, x16, x42, x18, x44, x20, x46, x47, x48, x22, x50, x24, x51, x26;
   Q x33, x34, x38, x39, x43, x45, x49;
@@ -6860,7 +6860,7 @@ b17:;
   return;
 }
 
-static void f72(Q x0, u64 x1, Q x2)
+static void f69(Q x0, u64 x1, Q x2)
 {
   u64 x4, x5, x3;
   Q x6, x7;
@@ -6880,7 +6880,7 @@ b0:;
   return;
 }
 
-static void f73(Q x0, u64 x1, u64 x2, u64 x3)
+static void f70(Q x0, u64 x1, u64 x2, u64 x3)
 {
   u64 x5, x7, x8, x9, x6, x4;
   Q x10, x11, x13, x14;
@@ -6896,7 +6896,7 @@ b3:;
   return;
 b0:;
   x9 = (u64)((u64)x8 >> 1);
-  f74(x0, x2, FAR(x0, (u64)((u64)((u64)((u64)((u64)x3 - x9)) * 24u))), x9);
+  f71(x0, x2, FAR(x0, (u64)((u64)((u64)((u64)((u64)x3 - x9)) * 24u))), x9);
   goto b3;
 b2:;
   x6 = (u64)((u64)x7 + UINT64_C(18446744073709551615));
@@ -6922,7 +6922,7 @@ b6:;
   if (((u8)(((u64)((u64)x6 - x4)) > 1u))) { x5 = x4; x7 = x6; goto b2; } else goto b3;
 }
 
-static void f74(Q x0, u64 x1, Q x2, u64 x3)
+static void f71(Q x0, u64 x1, Q x2, u64 x3)
 {
   u64 x5, x4;
   Q x6, x7;
@@ -6941,7 +6941,7 @@ b1:;
   return;
 }
 
-static void f75(Q x0, u64 x1)
+static void f72(Q x0, u64 x1)
 {
   u8 x4;
   u64 x5;
@@ -6954,7 +6954,7 @@ static void f75(Q x0, u64 x1)
   MEMSET(ADD(x3, 8), 0u, 16);
   if (((u8)(x1 == 0u))) goto b0; else goto b1;
 b1:;
-  x4 = f76(x3, x1);
+  x4 = f73(x3, x1);
   if (x4) goto b0; else goto b2;
 b5:;
   return;
@@ -6975,7 +6975,7 @@ b0:;
   goto b5;
 }
 
-static u8 f76(Q x0, u64 x1)
+static u8 f73(Q x0, u64 x1)
 {
   u8 x2;
   s_u64_u64 x5, x3, x10, x4;
@@ -7003,7 +7003,7 @@ b4:;
   { x2 = 1u; goto b1; }
 }
 
-static Q f77(Q x0, u64 x1)
+static Q f74(Q x0, u64 x1)
 {
   u64 x4, x6, x7, x9, x11, x12, x3, x2;
   Q x5, x8, x10, x13, x14;
@@ -7034,180 +7034,115 @@ b2:;
   return ((Q)(u64)x4);
 }
 
-static void f78(Q x0)
+static void f75(Q x0)
 {
-  u64 x2;
-  Q x3;
+  u64 x2, x4, x5, x12, x13, x1;
+  Q x3, x7, x8, x9, x11;
+  u8 x10;
   _Alignas(8) u8 y0_[24];
-  Q const x1 = Q_OF(y0_);
-  MEMCPY(x1, x0, 24);
-  f79(x1);
-  x2 = ld64_8(ADD(x1, 16));
-  if (((u8)(x2 == 0u))) goto b0; else goto b1;
-b1:;
-  x3 = ldp_8(x1);
-  os_rattle_dealloc(x3);
-  goto b0;
-b0:;
-  return;
-}
-
-static void f79(Q x0)
-{
-  u64 x2, x4, x7, x14, x15, x1;
-  Q x3, x5, x6, x9, x10, x11, x13;
-  u8 x12;
-  _Alignas(8) u8 y0_[24];
-  Q const x8 = Q_OF(y0_);
-  x3 = FAR(x0, 8);
-  x4 = ld64_8(x3);
+  Q const x6 = Q_OF(y0_);
+  x3 = ldp_1(x0);
+  x4 = ld64_1(ADD(x0, 8));
+  x5 = ld64_1(ADD(x0, 16));
   if (((u8)(x4 == 0u))) goto b0; else goto b1;
 b1:;
-  x5 = ldp_8(x0);
-  x6 = FAR(x0, 16);
-  x7 = ld64_8(x6);
-  MEMSET(x3, 0u, 16);
-  x9 = ADD(x8, 8);
-  x10 = ADD(x8, 16);
+  x7 = ADD(x6, 8);
+  x8 = ADD(x6, 16);
   { x2 = 0u; goto b2; }
 b2:;
-  x11 = ADD(x5, (u64)((u64)((u64)x2 * 80u)));
-  x12 = ld8_1(ADD(x11, 8));
-  x13 = ldp_1(ADD(x11, 16));
-  x14 = ld64_1(ADD(x11, 24));
-  x15 = ld64_1(ADD(x11, 32));
-  switch (x12) { case 0u: goto b3; case 1u: goto b4; case 2u: goto b4; case 3u: goto b5; case 4u: goto b4; case 5u: goto b4; case 6u: goto b4; case 7u: goto b4; case 8u: goto b4; case 9u: goto b6; case 10u: goto b4; case 11u: goto b4; case 12u: goto b7; case 13u: goto b4; case 14u: goto b4; case 15u: goto b4; default: goto b8; }
+  x9 = ADD(x3, (u64)((u64)((u64)x2 * 80u)));
+  x10 = ld8_1(ADD(x9, 8));
+  x11 = ldp_1(ADD(x9, 16));
+  x12 = ld64_1(ADD(x9, 24));
+  x13 = ld64_1(ADD(x9, 32));
+  switch (x10) { case 0u: goto b3; case 1u: goto b4; case 2u: goto b4; case 3u: goto b5; case 4u: goto b4; case 5u: goto b4; case 6u: goto b4; case 7u: goto b4; case 8u: goto b4; case 9u: goto b6; case 10u: goto b4; case 11u: goto b4; case 12u: goto b7; case 13u: goto b4; case 14u: goto b4; case 15u: goto b4; default: goto b8; }
 b3:;
-  if (((u8)(x15 == 0u))) goto b4; else goto b9;
+  if (((u8)(x13 == 0u))) goto b4; else goto b9;
 b9:;
-  os_rattle_dealloc(x13);
+  os_rattle_dealloc(x11);
   goto b4;
 b5:;
-  if (((u8)(x15 == 0u))) goto b4; else goto b10;
+  if (((u8)(x13 == 0u))) goto b4; else goto b10;
 b10:;
-  os_rattle_dealloc(x13);
+  os_rattle_dealloc(x11);
   goto b4;
 b6:;
-  if (((u8)(x15 == 0u))) goto b4; else goto b11;
+  if (((u8)(x13 == 0u))) goto b4; else goto b11;
 b11:;
-  os_rattle_dealloc(x13);
+  os_rattle_dealloc(x11);
   goto b4;
 b7:;
-  stp_8(x8, x13);
-  st64_8(x9, x14);
-  st64_8(x10, x15);
-  f37(x8);
+  stp_8(x6, x11);
+  st64_8(x7, x12);
+  st64_8(x8, x13);
+  f34(x6);
   goto b4;
 b8:;
   UNREACHABLE();
 b4:;
   x1 = (u64)((u64)x2 + 1u);
-  if (((u8)(x1 == x4))) goto b12; else { x2 = x1; goto b2; }
-b12:;
-  stp_8(x0, x5);
-  st64_8(x3, 0u);
-  st64_8(x6, x7);
-  goto b0;
+  if (((u8)(x1 == x4))) goto b0; else { x2 = x1; goto b2; }
 b0:;
+  if (((u8)(x5 == 0u))) goto b12; else goto b13;
+b13:;
+  os_rattle_dealloc(x3);
+  goto b12;
+b12:;
   return;
 }
 
-static u8 f80(Q x0, u64 x1)
+static u8 f76(Q x0, u64 x1)
 {
-  u8 x4, x2, x3;
-  Q x5, x7, x9, x11, x13, x16, x18, x20;
-  s_u8_Q x6;
-  s_u8_u8 x8, x15;
-  u64 x10, x12, x14, x17, x19, x21;
-  x5 = FAR(x0, 1448);
-  x6 = f19(x5);
-  x7 = FAR(x0, 1520);
-  if (((u8)((x6.f0) == 1u))) goto b0; else goto b1;
-b0:;
-  x8 = f81(x0, x1, x7, FAR(x0, 1496));
-  x2 = x8.f0;
-  if ((((u8)(x2 == 0u)) ? ((u8)(((x8.f1)) & 1u)) : 0u)) goto b2; else goto b3;
+  u64 x4, x13, x3, x2, x17, x19, x21;
+  u8 x7, x8, x9, x10, x6, x5;
+  Q x11, x12, x16, x18, x20;
+  s_u8_u8 x14, x15;
+  x11 = FAR(x0, 1448);
+  x12 = FAR(x0, 1496);
+  x13 = f16(x0);
+  if (((u8)(x1 < x13))) goto b0; else goto b1;
+b1:;
+  x14 = f77(x0, x13, x12, x11);
+  if (((u8)((x14.f0) == 0u))) goto b2; else { x9 = 1u; goto b3; }
 b2:;
-  x9 = FAR(x0, 1576);
-  x10 = ld64_8(x9);
-  if (((u8)(x10 == UINT64_C(18446744073709551615)))) { x4 = 0u; goto b4; } else goto b5;
+  x6 = (u8)(((x14.f1)) & 1u);
+  x3 = f16(x0);
+  if (((u8)(x1 < x3))) { x8 = x6; goto b4; } else { x4 = x3; x7 = x6; goto b5; }
 b5:;
-  st64_8(x9, ((u64)((u64)x10 + 1u)));
-  { x4 = 0u; goto b4; }
-b3:;
-  x11 = FAR(x0, 1584);
-  x12 = ld64_8(x11);
-  if (((u8)(x12 == UINT64_C(18446744073709551615)))) goto b6; else goto b7;
-b7:;
-  st64_8(x11, ((u64)((u64)x12 + 1u)));
-  goto b6;
+  x15 = f77(x0, x4, x12, x11);
+  if (((u8)((x15.f0) == 0u))) goto b6; else { x9 = 1u; goto b3; }
 b6:;
-  x13 = FAR(x0, 1576);
-  x14 = ld64_8(x13);
-  if (((u8)(x14 == UINT64_C(18446744073709551615)))) { x4 = x2; goto b4; } else goto b8;
-b8:;
-  st64_8(x13, ((u64)((u64)x14 + 1u)));
-  { x4 = x2; goto b4; }
-b1:;
-  f79(x5);
-  x15 = f81(x0, x1, x7, x5);
-  x3 = x15.f0;
-  f22(x5);
-  if ((((u8)(x3 == 0u)) ? ((u8)(((x15.f1)) & 1u)) : 0u)) goto b9; else goto b10;
-b9:;
-  x16 = FAR(x0, 1576);
-  x17 = ld64_8(x16);
-  if (((u8)(x17 == UINT64_C(18446744073709551615)))) { x4 = 0u; goto b4; } else goto b11;
-b11:;
-  st64_8(x16, ((u64)((u64)x17 + 1u)));
-  { x4 = 0u; goto b4; }
-b10:;
-  x18 = FAR(x0, 1584);
-  x19 = ld64_8(x18);
-  if (((u8)(x19 == UINT64_C(18446744073709551615)))) goto b12; else goto b13;
-b13:;
-  st64_8(x18, ((u64)((u64)x19 + 1u)));
-  goto b12;
-b12:;
-  x20 = FAR(x0, 1576);
-  x21 = ld64_8(x20);
-  if (((u8)(x21 == UINT64_C(18446744073709551615)))) { x4 = x3; goto b4; } else goto b14;
-b14:;
-  st64_8(x20, ((u64)((u64)x21 + 1u)));
-  { x4 = x3; goto b4; }
+  x5 = (u8)(x7 & ((u8)(((x15.f1)) & 1u)));
+  x2 = f16(x0);
+  if (((u8)(x1 < x2))) { x8 = x5; goto b4; } else { x4 = x2; x7 = x5; goto b5; }
 b4:;
-  return x4;
-}
-
-static s_u8_u8 f81(Q x0, u64 x1, Q x2, Q x3)
-{
-  u8 x6, x10, x12, x13, x4, x11, x5;
-  u64 x9, x14, x8, x7;
-  s_u8_u8 x15, x16;
-  x14 = f16(x0);
-  if (((u8)(x1 < x14))) { x12 = 1u; x13 = 0u; goto b0; } else goto b1;
-b1:;
-  x15 = f82(x0, x14, x2, x3);
-  if (((u8)((x15.f0) == 0u))) goto b2; else { x12 = 0u; x13 = 1u; goto b0; }
-b2:;
-  x4 = (u8)(((x15.f1)) & 1u);
-  x8 = f16(x0);
-  if (((u8)(x1 < x8))) { x6 = x4; goto b3; } else { x9 = x8; x10 = x4; goto b4; }
-b3:;
-  x11 = (u8)x6;
-  { x12 = x11; x13 = 0u; goto b0; }
-b4:;
-  x16 = f82(x0, x9, x2, x3);
-  if (((u8)((x16.f0) == 0u))) goto b5; else { x12 = 0u; x13 = 1u; goto b0; }
-b5:;
-  x5 = (u8)(x10 & ((u8)(((x16.f1)) & 1u)));
-  x7 = f16(x0);
-  if (((u8)(x1 < x7))) { x6 = x5; goto b3; } else { x9 = x7; x10 = x5; goto b4; }
+  if (x8) goto b0; else { x9 = 0u; goto b3; }
 b0:;
-  return s_u8_u8_set1(s_u8_u8_set0(((s_u8_u8){0u, 0u}), x13), x12);
+  x16 = FAR(x0, 1552);
+  x17 = ld64_8(x16);
+  if (((u8)(x17 == UINT64_C(18446744073709551615)))) { x10 = 0u; goto b7; } else goto b8;
+b8:;
+  st64_8(x16, ((u64)((u64)x17 + 1u)));
+  { x10 = 0u; goto b7; }
+b3:;
+  x18 = FAR(x0, 1560);
+  x19 = ld64_8(x18);
+  if (((u8)(x19 == UINT64_C(18446744073709551615)))) goto b9; else goto b10;
+b10:;
+  st64_8(x18, ((u64)((u64)x19 + 1u)));
+  goto b9;
+b9:;
+  x20 = FAR(x0, 1552);
+  x21 = ld64_8(x20);
+  if (((u8)(x21 == UINT64_C(18446744073709551615)))) { x10 = x9; goto b7; } else goto b11;
+b11:;
+  st64_8(x20, ((u64)((u64)x21 + 1u)));
+  { x10 = x9; goto b7; }
+b7:;
+  return x10;
 }
 
-static s_u8_u8 f82(Q x0, u64 x1, Q x2, Q x3)
+static s_u8_u8 f77(Q x0, u64 x1, Q x2, Q x3)
 {
   u64 x5, x12, x13, x17, x4, x20, x27, x29, x34;
   u8 x8, x9, x14, x15, x18, x24, x25, x7, x30, x6, x33;
@@ -7229,11 +7164,11 @@ static s_u8_u8 f82(Q x0, u64 x1, Q x2, Q x3)
   Q const x32 = Q_OF(y6_);
   MEMSET(x10, 0u, 40);
   MEMSET(x11, 0u, 40);
-  x12 = ld64_8(FAR(x3, 16));
-  x13 = ld64_8(FAR(x3, 8));
+  x12 = ld64_8(FAR(x3, 40));
+  x13 = ld64_8(FAR(x3, 32));
   if (((u8)(((u64)((u64)x12 - x13)) < 9u))) goto b0; else goto b1;
 b0:;
-  x14 = f83(x3, 9u);
+  x14 = f78(FAR(x3, 24), 9u);
   if (x14) goto b1; else { x8 = 0u; x9 = 1u; goto b2; }
 b1:;
   x15 = ld8_1(x0);
@@ -7255,7 +7190,7 @@ b7:;
   MEMCPY(x22, x21, 24);
   MEMSET(x2, 0u, 32);
   MEMCPY(x23, x22, 24);
-  f84(x10, x0, x1, x23, x3);
+  f79(x10, x0, x1, x23, x3);
   x24 = ld8_1(x10);
   x25 = ld8_1(x2);
   x26 = ldp_1(x21);
@@ -7272,13 +7207,13 @@ b8:;
 b6:;
   MEMSET(x28, 0u, 32);
   x29 = umax64(x5, 32u);
-  f75(x28, ((u64)((u64)x29 + 54u)));
+  f72(x28, ((u64)((u64)x29 + 54u)));
   x30 = ld8_1(x28);
   if (((u8)(x30 == 0u))) goto b10; else goto b11;
 b10:;
   MEMCPY(x31, ADD(x28, 8), 24);
   MEMCPY(x32, x31, 24);
-  f84(x11, x0, x1, x32, x3);
+  f79(x11, x0, x1, x32, x3);
   x6 = ld8_1(ADD(x11, 32));
   x33 = ld8_1(x11);
   x34 = ld64_8(ADD(x11, 24));
@@ -7293,7 +7228,7 @@ b2:;
   return s_u8_u8_set1(s_u8_u8_set0(((s_u8_u8){0u, 0u}), x9), x8);
 }
 
-static u8 f83(Q x0, u64 x1)
+static u8 f78(Q x0, u64 x1)
 {
   u8 x3, x2;
   u64 x4, x5, x6, x7;
@@ -7305,11 +7240,11 @@ b1:;
   x5 = ld64_8(FAR(x0, 16));
   x6 = umax64(((u64)((u64)x4 + x1)), 4u);
   x7 = umax64(x6, ((u64)((u64)x5 << 1)));
-  x2 = f30(x0, (((u8)(x5 < UINT64_C(4611686018427387904))) ? x7 : x6));
+  x2 = f27(x0, (((u8)(x5 < UINT64_C(4611686018427387904))) ? x7 : x6));
   { x3 = x2; goto b0; }
 }
 
-static void f84(Q x0, Q x1, u64 x2, Q x3, Q x4)
+static void f79(Q x0, Q x1, u64 x2, Q x3, Q x4)
 {
   u64 x7, x10, x14, x17, x23, x26, x28, x30, x32, x37, x38, x39, x41, x46, x47, x49, x50, x57, x59, x60, x61, x63, x64, x66, x67, x68, x82, x83, x56, x87, x58, x95, x98, x99, x103, x104, x110, x114, x16, x13, x5, x8, x15, x12, x6, x9, x116, x117, x123, x126, x127, x129, x133, x24, x21, x25, x22, x31, x40, x27, x29, x55, x152, x155, x162, x168, x171, x172, x173, x176, x185, x190, x202, x206, x215, x223, x236, x237, x240, x65, x244, x259, x262;
   u8 x11, x20, x34, x36, x43, x45, x48, x51, x52, x54, x62, x53, x92, x108, x112, x118, x44, x135, x18, x141, x143, x19, x145, x33, x42, x35, x150, x153, x154, x159, x163, x166, x169, x174, x175, x177, x178, x179, x234, x238, x252;
@@ -7446,10 +7381,10 @@ b2:;
   x84 = FAR(x81, 8);
   MEMCPY(x85, x84, 16);
   MEMCPY(x86, x84, 16);
-  f85(x79, 1u, x2, 0u, 0u, x86);
-  f95(x78, x85);
-  f96(FAR(x1, 136), x85);
-  f97(FAR(x1, 216), x85);
+  f80(x79, 1u, x2, 0u, 0u, x86);
+  f90(x78, x85);
+  f91(FAR(x1, 136), x85);
+  f92(FAR(x1, 216), x85);
   x53 = ld8_1(x85);
   x56 = ld64_1(ADD(x85, 1));
   x87 = (u64)((ldn(ADD(x85, 9), 7)) & UINT64_C(72057594037927935));
@@ -7457,8 +7392,8 @@ b2:;
   st8_1(ADD(x88, 1), x53);
   st64_1(ADD(x88, 2), x56);
   stn(ADD(x88, 10), x87, 7);
-  f98(FAR(x1, 696), x88);
-  f99(FAR(x1, 864));
+  f93(FAR(x1, 696), x88);
+  f94(FAR(x1, 864));
   x58 = (u64)x87;
   MEMSET(x76, 0u, 13);
   MEMSET(x77, 0u, 7);
@@ -7479,7 +7414,7 @@ b5:;
   x99 = ld64_8(x97);
   if (((u8)(x99 == x2))) goto b6; else goto b4;
 b6:;
-  x100 = f102(x94, x95, FAR(x97, 8));
+  x100 = f97(x94, x95, FAR(x97, 8));
   if (((u8)((x100.f0) == 0u))) goto b7; else goto b4;
 b4:;
   x101 = ldp_8(x91);
@@ -7490,7 +7425,7 @@ b9:;
   x104 = ld64_8(x102);
   if (((u8)(x104 == x2))) goto b10; else goto b8;
 b10:;
-  x105 = f102(x94, x95, FAR(x102, 8));
+  x105 = f97(x94, x95, FAR(x102, 8));
   if (((u8)((x105.f0) == 0u))) goto b11; else goto b8;
 b11:;
   x106 = FAR(x94, (u64)((u64)((u64)(x105.f1) * 72u)));
@@ -7513,7 +7448,7 @@ b14:;
   MEMCPY(x115, x106, 16);
   if (((u8)(x110 == x114))) goto b16; else goto b17;
 b17:;
-  f85(x91, 1u, x110, 1u, x114, x115);
+  f80(x91, 1u, x110, 1u, x114, x115);
   { x11 = 1u; x14 = x13; x17 = x16; goto b18; }
 b16:;
   { x11 = 1u; x14 = x13; x17 = x16; goto b18; }
@@ -7526,10 +7461,10 @@ b13:;
   x8 = ld64_1(ADD(x106, 8));
   { x7 = x5; x10 = x8; goto b19; }
 b7:;
-  f101(x93, x89, x90, x91, (x100.f1));
+  f96(x93, x89, x90, x91, (x100.f1));
   x15 = ld64_8(x93);
   x12 = ld64_8(ADD(x93, 8));
-  f99(FAR(x1, 864));
+  f94(FAR(x1, 864));
   { x11 = 0u; x14 = x12; x17 = x15; goto b18; }
 b15:;
   st8_1(x107, 2u);
@@ -7539,7 +7474,7 @@ b15:;
   x6 = ld64_1(x106);
   x9 = ld64_1(ADD(x106, 8));
   MEMCPY(x115, x106, 16);
-  f85(x91, 1u, x110, 0u, 0u, x115);
+  f80(x91, 1u, x110, 0u, 0u, x115);
   { x7 = x6; x10 = x9; goto b19; }
 b19:;
   x116 = ld64_1(x74);
@@ -7570,7 +7505,7 @@ b22:;
   x127 = ld64_8(x125);
   if (((u8)(x127 == x2))) goto b23; else goto b21;
 b23:;
-  x128 = f102(x122, x123, FAR(x125, 8));
+  x128 = f97(x122, x123, FAR(x125, 8));
   x129 = x128.f1;
   if (((u8)((x128.f0) == 0u))) goto b24; else goto b21;
 b24:;
@@ -7616,11 +7551,11 @@ b30:;
 b29:;
   if (((u8)(x133 == x26))) { x38 = 0u; x39 = 0u; x41 = x23; x43 = x20; x45 = x44; x46 = 0u; x47 = 0u; x48 = 0u; goto b31; } else goto b32;
 b32:;
-  f85(x120, 1u, x133, 1u, x26, x131);
+  f80(x120, 1u, x133, 1u, x26, x131);
   { x38 = 0u; x39 = 0u; x41 = x23; x43 = x20; x45 = x44; x46 = 0u; x47 = 0u; x48 = 0u; goto b31; }
 b27:;
-  f103(x121, x119, x129);
-  f85(x120, 1u, x133, 0u, 0u, x131);
+  f98(x121, x119, x129);
+  f80(x120, 1u, x133, 0u, 0u, x131);
   x145 = ld8_1(ADD(x121, 32));
   x31 = ld64_8(ADD(x121, 40));
   x33 = ld8_1(ADD(x121, 48));
@@ -7647,16 +7582,16 @@ b36:;
   st8_1(x147, x43);
   st64_1(ADD(x147, 1), x41);
   MEMCPY(ADD(x147, 9), x137, 7);
-  f104(x78, x147);
+  f99(x78, x147);
   st8_1(x148, 1u);
   st8_1(ADD(x148, 1), x43);
   st64_1(ADD(x148, 2), x41);
   MEMCPY(ADD(x148, 10), x137, 7);
-  f98(FAR(x1, 696), x148);
-  f99(FAR(x1, 864));
+  f93(FAR(x1, 696), x148);
+  f94(FAR(x1, 864));
   goto b38;
 b37:;
-  f99(FAR(x1, 864));
+  f94(FAR(x1, 864));
   goto b38;
 b39:;
   UNREACHABLE();
@@ -7699,7 +7634,7 @@ b46:;
 b48:;
   x160 = ld16_1(FAR(x1, 1128));
   x161 = ld16_1(FAR(x1, 1130));
-  x162 = f61(x156, ((u64)((u64)((u64)x160) * 1000u)), ((u64)((u64)((u64)x161) * 1000u)));
+  x162 = f58(x156, ((u64)((u64)((u64)x160) * 1000u)), ((u64)((u64)((u64)x161) * 1000u)));
   x163 = ld8_1(x158);
   if (((u8)(x163 == 1u))) goto b50; else goto b51;
 b50:;
@@ -7728,7 +7663,7 @@ b47:;
   x170 = ld32_4(FAR(x1, 80));
   x171 = (u64)x170;
   x172 = (u64)((u64)x171 >> 1);
-  x173 = f61(x156, x172, ((u64)((u64)x172 + x171)));
+  x173 = f58(x156, x172, ((u64)((u64)x172 + x171)));
   st64_8(FAR(x1, 88), x173);
   st64_8(FAR(x1, 104), x2);
   MEMSET(x76, 0u, 13);
@@ -7751,9 +7686,9 @@ b3:;
   MEMSET(x183, 0u, 24);
   switch (x52) { case 0u: goto b52; case 1u: goto b53; case 2u: goto b54; case 3u: goto b55; case 4u: goto b56; case 5u: goto b57; default: goto b58; }
 b52:;
-  x184 = FAR(x4, 8);
+  x184 = FAR(x4, 32);
   x185 = ld64_8(x184);
-  x186 = ldp_8(x4);
+  x186 = ldp_8(FAR(x4, 24));
   x187 = ADD(x186, (u64)((u64)((u64)x185 * 80u)));
   st64_1(x187, x2);
   st8_1(ADD(x187, 8), 7u);
@@ -7770,9 +7705,9 @@ b53:;
   MEMSET(x188, 0u, 24);
   switch (x54) { case 0u: goto b60; case 1u: goto b61; case 2u: goto b62; default: goto b63; }
 b60:;
-  x189 = FAR(x4, 8);
+  x189 = FAR(x4, 32);
   x190 = ld64_8(x189);
-  x191 = ldp_8(x4);
+  x191 = ldp_8(FAR(x4, 24));
   x192 = ADD(x191, (u64)((u64)((u64)x190 * 80u)));
   st64_1(x192, x2);
   st8_1(ADD(x192, 8), 6u);
@@ -7808,12 +7743,12 @@ b61:;
   st8_1(ADD(x198, 4), x178);
   st8_1(ADD(x198, 5), x179);
   MEMSET(x194, 0u, 16);
-  f105(x195, x69, x198, x193, x194, x197, x196, x199, 0u);
+  f100(x195, x69, x198, x193, x194, x197, x196, x199, 0u);
   MEMSET(x200, 0u, 33);
   MEMCPY(ADD(x200, 7), x195, 24);
-  x201 = FAR(x4, 8);
+  x201 = FAR(x4, 32);
   x202 = ld64_8(x201);
-  x203 = ldp_8(x4);
+  x203 = ldp_8(FAR(x4, 24));
   x204 = ADD(x203, (u64)((u64)((u64)x202 * 80u)));
   st64_1(x204, x2);
   st8_1(ADD(x204, 8), 0u);
@@ -7822,9 +7757,9 @@ b61:;
   st64_8(x201, ((u64)((u64)x202 + 1u)));
   { x63 = 0u; goto b64; }
 b62:;
-  x205 = FAR(x4, 8);
+  x205 = FAR(x4, 32);
   x206 = ld64_8(x205);
-  x207 = ldp_8(x4);
+  x207 = ldp_8(FAR(x4, 24));
   x208 = ADD(x207, (u64)((u64)((u64)x206 * 80u)));
   st64_1(x208, x2);
   st8_1(ADD(x208, 8), 5u);
@@ -7847,12 +7782,12 @@ b65:;
   st8_1(x211, x175);
   st64_1(ADD(x211, 1), x59);
   MEMCPY(ADD(x211, 9), x71, 7);
-  f122(x212, x69, x210, x75, x211);
+  f117(x212, x69, x210, x75, x211);
   MEMSET(x213, 0u, 33);
   MEMCPY(ADD(x213, 7), x212, 24);
-  x214 = FAR(x4, 8);
+  x214 = FAR(x4, 32);
   x215 = ld64_8(x214);
-  x216 = ldp_8(x4);
+  x216 = ldp_8(FAR(x4, 24));
   x217 = ADD(x216, (u64)((u64)((u64)x215 * 80u)));
   st64_1(x217, x2);
   st8_1(ADD(x217, 8), 0u);
@@ -7865,12 +7800,12 @@ b66:;
   st8_1(x219, x175);
   st64_1(ADD(x219, 1), x59);
   MEMCPY(ADD(x219, 9), x71, 7);
-  f123(x220, x69, x72, x218, x75, x219, x219);
+  f118(x220, x69, x72, x218, x75, x219, x219);
   MEMSET(x221, 0u, 33);
   MEMCPY(ADD(x221, 7), x220, 24);
-  x222 = FAR(x4, 8);
+  x222 = FAR(x4, 32);
   x223 = ld64_8(x222);
-  x224 = ldp_8(x4);
+  x224 = ldp_8(FAR(x4, 24));
   x225 = ADD(x224, (u64)((u64)((u64)x223 * 80u)));
   st64_1(x225, x2);
   st8_1(ADD(x225, 8), 0u);
@@ -7888,7 +7823,7 @@ b67:;
   MEMCPY(ADD(x227, 17), x73, 7);
   st64_8(ADD(x227, 24), x49);
   st64_8(ADD(x227, 32), x50);
-  f125(x4, x2, x226, x227);
+  f120(x4, x2, x226, x227);
   MEMCPY(x209, x69, 24);
   { x64 = 1u; goto b70; }
 b68:;
@@ -7916,7 +7851,7 @@ b55:;
   st8_1(ADD(x233, 1), 2u);
   MEMSET(ADD(x233, 2), 0u, 13);
   st8_1(ADD(x233, 15), 2u);
-  f105(x228, x69, x232, x229, x75, x233, Q_OF(g5), x231, 1u);
+  f100(x228, x69, x232, x229, x75, x233, Q_OF(g5), x231, 1u);
   x234 = ld8_1(x231);
   x235 = ldp_8(ADD(x231, 8));
   x236 = ld64_8(ADD(x231, 16));
@@ -7962,9 +7897,9 @@ b71:;
   MEMCPY(x183, x228, 24);
   MEMSET(x242, 0u, 33);
   MEMCPY(ADD(x242, 7), x183, 24);
-  x243 = FAR(x4, 8);
+  x243 = FAR(x4, 32);
   x244 = ld64_8(x243);
-  x245 = ldp_8(x4);
+  x245 = ldp_8(FAR(x4, 24));
   x246 = ADD(x245, (u64)((u64)((u64)x244 * 80u)));
   st64_1(x246, x2);
   st8_1(ADD(x246, 8), 0u);
@@ -7983,7 +7918,7 @@ b56:;
 b85:;
   x253 = ld32_1(FAR(x1, 1148));
   MEMCPY(x254, FAR(x1, 1128), 20);
-  f127(x251, x181, x250, x253);
+  f122(x251, x181, x250, x253);
   MEMSET(x255, 0u, 32);
   MEMCPY(ADD(x255, 3), ADD(x254, 4), 16);
   x257 = ADD(x256, 7);
@@ -7993,19 +7928,19 @@ b85:;
   x258 = ADD(x248, 40);
   MEMCPY(x258, x257, 584);
   x259 = ld64_8(ADD(x248, 616));
-  f129(x249, x69, x247, x75, x248, x258, x259);
+  f124(x249, x69, x247, x75, x248, x258, x259);
   MEMSET(x260, 0u, 33);
   MEMCPY(ADD(x260, 7), x249, 24);
-  x261 = FAR(x4, 8);
+  x261 = FAR(x4, 32);
   x262 = ld64_8(x261);
-  x263 = ldp_8(x4);
+  x263 = ldp_8(FAR(x4, 24));
   x264 = ADD(x263, (u64)((u64)((u64)x262 * 80u)));
   st64_1(x264, x2);
   st8_1(ADD(x264, 8), 0u);
   MEMCPY(ADD(x264, 9), x260, 33);
   MEMSET(ADD(x264, 42), 0u, 38);
   st64_8(x261, ((u64)((u64)x262 + 1u)));
-  f130(x258);
+  f125(x258);
   MEMSET(x182, 0u, 24);
   { x67 = 0u; goto b87; }
 b86:;
@@ -8026,7 +7961,7 @@ b59:;
   return;
 }
 
-static void f85(Q x0, u8 x1, u64 x2, u8 x3, u64 x4, Q x5)
+static void f80(Q x0, u8 x1, u64 x2, u8 x3, u64 x4, Q x5)
 {
   Q x8, x19, x6, x7, x24, x27, x32, x33;
   u64 x9, x10, x14, x17, x21, x22, x28, x30, x31, x34;
@@ -8060,7 +7995,7 @@ b3:;
   st64_8(x11, x4);
   st64_8(ADD(x11, 8), x9);
   st64_8(ADD(x11, 16), x10);
-  f86(x0, x11);
+  f81(x0, x11);
   goto b4;
 b1:;
   if (x12) goto b5; else goto b6;
@@ -8068,8 +8003,8 @@ b5:;
   st64_8(x13, x2);
   st64_8(ADD(x13, 8), x9);
   st64_8(ADD(x13, 16), x10);
-  x14 = f87(x0, x13);
-  f94(x0, x14, x13);
+  x14 = f82(x0, x13);
+  f89(x0, x14, x13);
   goto b4;
 b6:;
   st64_8(x15, x2);
@@ -8078,14 +8013,14 @@ b6:;
   st64_8(x16, x4);
   st64_8(ADD(x16, 8), x9);
   st64_8(ADD(x16, 16), x10);
-  x17 = f87(x0, x15);
+  x17 = f82(x0, x15);
   st64_8(x18, x4);
   st64_8(ADD(x18, 8), x9);
   st64_8(ADD(x18, 16), x10);
   if (((u8)(x17 == 0u))) goto b7; else goto b8;
 b8:;
   x19 = ldp_8(x0);
-  x20 = f62(FAR(x19, (u64)((u64)((u64)x17 * 24u))), x18);
+  x20 = f59(FAR(x19, (u64)((u64)((u64)x17 * 24u))), x18);
   if (((u8)(x20 == 2u))) goto b9; else goto b7;
 b9:;
   goto b10;
@@ -8098,7 +8033,7 @@ b11:;
   { x8 = x6; goto b13; }
 b12:;
   x7 = ldp_8(x0);
-  x23 = f62(FAR(x7, (u64)((u64)((u64)x21 * 24u))), x18);
+  x23 = f59(FAR(x7, (u64)((u64)((u64)x21 * 24u))), x18);
   if (((u8)(x23 == 2u))) { x8 = x7; goto b13; } else goto b10;
 b13:;
   x24 = FAR(x8, (u64)((u64)((u64)x17 * 24u)));
@@ -8110,17 +8045,17 @@ b13:;
   st64_8(ADD(x26, 16), x10);
   x27 = ldp_8(x24);
   x28 = ld64_8(FAR(x24, 8));
-  x29 = f64(x27, x28, x25);
+  x29 = f61(x27, x28, x25);
   x30 = x29.f1;
   if (((u8)((x29.f0) == 0u))) goto b14; else goto b15;
 b14:;
-  x31 = f88(x24, x26);
+  x31 = f83(x24, x26);
   if (((u8)(x30 < x31))) goto b16; else goto b17;
 b15:;
   TRAP();
   UNREACHABLE();
 b16:;
-  f70(FAR(x27, (u64)((u64)((u64)x30 * 24u))), ((u64)((u64)x31 - x30)), 1u);
+  f67(FAR(x27, (u64)((u64)((u64)x30 * 24u))), ((u64)((u64)x31 - x30)), 1u);
   x32 = FAR(x27, (u64)((u64)((u64)x31 * 24u)));
   st64_1(FAR(x32, -24), x4);
   st64_1(FAR(x32, -16), x9);
@@ -8129,7 +8064,7 @@ b16:;
 b17:;
   x33 = FAR(x27, (u64)((u64)((u64)x31 * 24u)));
   x34 = (u64)((u64)((u64)((u64)x30 + 1u)) - x31);
-  f70(x33, x34, ((u64)((u64)x34 + UINT64_C(18446744073709551615))));
+  f67(x33, x34, ((u64)((u64)x34 + UINT64_C(18446744073709551615))));
   st64_1(x33, x4);
   st64_1(ADD(x33, 8), x9);
   st64_1(ADD(x33, 16), x10);
@@ -8137,8 +8072,8 @@ b17:;
 b18:;
   goto b19;
 b10:;
-  f94(x0, x17, x15);
-  f86(x0, x16);
+  f89(x0, x17, x15);
+  f81(x0, x16);
   goto b19;
 b19:;
   goto b4;
@@ -8146,7 +8081,7 @@ b4:;
   return;
 }
 
-static void f86(Q x0, Q x1)
+static void f81(Q x0, Q x1)
 {
   u64 x4, x7, x3, x2, x11, x14, x17, x18, x21, x22, x24, x25, x32, x34, x35, x36, x37;
   Q x6, x8, x12, x16, x23, x26, x28, x29, x30, x31;
@@ -8170,17 +8105,17 @@ static void f86(Q x0, Q x1)
   x8 = ldp_8(x0);
   if (((u8)(x3 == 0u))) { x4 = 0u; goto b0; } else goto b1;
 b1:;
-  x9 = f62(FAR(x8, (u64)((u64)((u64)x3 * 24u))), x5);
+  x9 = f59(FAR(x8, (u64)((u64)((u64)x3 * 24u))), x5);
   if (((u8)(x9 == 2u))) goto b2; else { x4 = x3; goto b0; }
 b2:;
   MEMCPY(x10, x1, 24);
-  x2 = f87(x0, x10);
+  x2 = f82(x0, x10);
   { x4 = x2; goto b0; }
 b0:;
   x11 = (u64)((u64)x4 * 24u);
   x12 = FAR(x8, (u64)x11);
   MEMCPY(x13, x1, 24);
-  x14 = f88(x12, x13);
+  x14 = f83(x12, x13);
   MEMCPY(x15, x1, 24);
   x16 = FAR(x12, 8);
   x17 = ld64_8(x16);
@@ -8188,15 +8123,15 @@ b0:;
   if (((u8)(x17 < x18))) goto b3; else goto b4;
 b3:;
   MEMCPY(x19, x1, 24);
-  f66(x12, x14, x19);
+  f63(x12, x14, x19);
   goto b5;
 b4:;
   if (((u8)(x18 == x17))) goto b6; else goto b7;
 b6:;
-  x20 = f89(x12, 1u);
+  x20 = f84(x12, 1u);
   if (x20) goto b7; else goto b8;
 b7:;
-  f66(x12, x14, x15);
+  f63(x12, x14, x15);
   goto b5;
 b8:;
   TRAP();
@@ -8220,7 +8155,7 @@ b12:;
   x30 = ldp_8(x29);
   x31 = FAR(x29, 8);
   x32 = ld64_8(x31);
-  x33 = f90(x27, FAR(x30, (u64)((u64)((u64)x22 * 24u))), ((u64)((u64)x32 - x22)));
+  x33 = f85(x27, FAR(x30, (u64)((u64)((u64)x22 * 24u))), ((u64)((u64)x32 - x22)));
   if (((u8)((x33) & 1u))) goto b13; else goto b14;
 b13:;
   TRAP();
@@ -8237,15 +8172,15 @@ b16:;
   x37 = ld64_8(FAR(x0, 16));
   if (((u8)(x36 < x37))) goto b17; else goto b18;
 b17:;
-  f66(x0, x35, x27);
+  f63(x0, x35, x27);
   goto b19;
 b18:;
   if (((u8)(x37 == x36))) goto b20; else goto b21;
 b20:;
-  x38 = f91(x0);
+  x38 = f86(x0);
   if (x38) goto b21; else goto b22;
 b21:;
-  f66(x0, x35, x27);
+  f63(x0, x35, x27);
   goto b19;
 b11:;
   TRAP();
@@ -8254,15 +8189,15 @@ b22:;
   TRAP();
   UNREACHABLE();
 b19:;
-  f92(x0, ((u64)((u64)x4 + 2u)));
-  f92(x0, x35);
-  f92(x0, x4);
+  f87(x0, ((u64)((u64)x4 + 2u)));
+  f87(x0, x35);
+  f87(x0, x4);
   goto b10;
 b10:;
   return;
 }
 
-static u64 f87(Q x0, Q x1)
+static u64 f82(Q x0, Q x1)
 {
   u64 x4, x6, x9, x3, x8, x12, x7, x5, x2;
   Q x11;
@@ -8279,7 +8214,7 @@ b1:;
   if (((u8)(x8 == 0u))) { x3 = 0u; goto b2; } else { x6 = 0u; x9 = x8; goto b3; }
 b3:;
   x12 = (u64)((u64)((u64)((u64)((u64)((u64)x9 - x6)) >> 1)) + x6);
-  x13 = f62(FAR(x11, (u64)((u64)((u64)x12 * 24u))), x10);
+  x13 = f59(FAR(x11, (u64)((u64)((u64)x12 * 24u))), x10);
   x14 = (u8)(x13 == 0u);
   x7 = (x14 ? x9 : x12);
   x5 = (x14 ? ((u64)((u64)x12 + 1u)) : x6);
@@ -8287,14 +8222,14 @@ b3:;
 b2:;
   if (((u8)(x3 < x8))) goto b4; else goto b5;
 b4:;
-  x15 = f62(FAR(x11, (u64)((u64)((u64)x3 * 24u))), x10);
+  x15 = f59(FAR(x11, (u64)((u64)((u64)x3 * 24u))), x10);
   if (((u8)(x15 == 1u))) { x4 = x3; goto b0; } else goto b5;
 b5:;
   x2 = usub_sat64(x3, 1u);
   { x4 = x2; goto b0; }
 }
 
-static u64 f88(Q x0, Q x1)
+static u64 f83(Q x0, Q x1)
 {
   u64 x4, x3, x2;
   Q x5;
@@ -8304,12 +8239,12 @@ static u64 f88(Q x0, Q x1)
   x3 = ld64_8(FAR(x0, 8));
   if (((u8)(x3 == 0u))) goto b0; else goto b1;
 b1:;
-  x6 = f63(FAR(FAR(x5, (u64)((u64)((u64)x3 * 24u))), -24), x1);
+  x6 = f60(FAR(FAR(x5, (u64)((u64)((u64)x3 * 24u))), -24), x1);
   if (((u8)(x6 == 0u))) { x4 = x3; goto b2; } else goto b0;
 b2:;
   return x4;
 b0:;
-  x7 = f64(x5, x3, x1);
+  x7 = f61(x5, x3, x1);
   if (((u8)((x7.f0) == 1u))) goto b3; else goto b4;
 b3:;
   x2 = x7.f1;
@@ -8319,7 +8254,7 @@ b4:;
   UNREACHABLE();
 }
 
-static u8 f89(Q x0, u64 x1)
+static u8 f84(Q x0, u64 x1)
 {
   u8 x2;
   s_u64_u64 x5, x3, x13, x4;
@@ -8352,7 +8287,7 @@ b5:;
   { x2 = 1u; goto b0; }
 }
 
-static u8 f90(Q x0, Q x1, u64 x2)
+static u8 f85(Q x0, Q x1, u64 x2)
 {
   u64 x5, x8, x10, x4, x7, x6, x3, x15, x18, x19, x9;
   u8 x11, x14;
@@ -8363,7 +8298,7 @@ static u8 f90(Q x0, Q x1, u64 x2)
   x7 = ld64_8(x13);
   if (((u8)(x2 > ((u64)((u64)x4 - x7))))) goto b0; else { x5 = x4; x8 = x7; goto b1; }
 b0:;
-  x14 = f89(x0, x2);
+  x14 = f84(x0, x2);
   if (x14) goto b2; else { x11 = 1u; goto b3; }
 b2:;
   x6 = ld64_8(x13);
@@ -8395,7 +8330,7 @@ b3:;
   return x11;
 }
 
-static u8 f91(Q x0)
+static u8 f86(Q x0)
 {
   u8 x1;
   s_u64_u64 x4, x2, x13, x3;
@@ -8429,7 +8364,7 @@ b5:;
   { x1 = 1u; goto b0; }
 }
 
-static void f92(Q x0, u64 x1)
+static void f87(Q x0, u64 x1)
 {
   u64 x3, x5, x7, x10, x13, x14, x16, x18, x20, x9, x24, x26, x28, x30, x31, x32, x12, x35, x4, x36, x6, x2, x11, x8, x41, x15, x42, x17;
   Q x19, x21, x22, x23, x25, x27, x29, x33, x34, x37, x38, x39, x40;
@@ -8505,7 +8440,7 @@ b11:;
   stp_8(x0, x21);
   st64_8(x19, x32);
   st64_8(x27, x28);
-  x43 = f90(x23, x29, x30);
+  x43 = f85(x23, x29, x30);
   if (((u8)((x43) & 1u))) goto b14; else goto b15;
 b14:;
   TRAP();
@@ -8514,11 +8449,11 @@ b15:;
   stp_8(x44, x29);
   st64_8(ADD(x44, 8), x30);
   st64_8(ADD(x44, 16), x31);
-  f93(FAR(x0, 24), x44);
+  f88(FAR(x0, 24), x44);
   goto b0;
 }
 
-static void f93(Q x0, Q x1)
+static void f88(Q x0, Q x1)
 {
   u64 x4, x6, x3, x2;
   Q x7, x9;
@@ -8531,7 +8466,7 @@ static void f93(Q x0, Q x1)
   x3 = ld64_8(x7);
   if (((u8)(x6 == x3))) goto b0; else { x4 = x3; goto b1; }
 b0:;
-  x8 = f91(x0);
+  x8 = f86(x0);
   if (x8) goto b2; else goto b3;
 b2:;
   x2 = ld64_8(x7);
@@ -8546,7 +8481,7 @@ b1:;
   return;
 }
 
-static void f94(Q x0, u64 x1, Q x2)
+static void f89(Q x0, u64 x1, Q x2)
 {
   u64 x5, x7, x9, x12, x15, x16, x18, x20, x26, x4, x29, x11, x31, x14, x34, x6, x35, x8, x3, x13, x10, x39, x17, x40, x19;
   Q x22, x23, x24, x25, x28, x30, x32, x33, x36, x37, x38;
@@ -8559,7 +8494,7 @@ static void f94(Q x0, u64 x1, Q x2)
   x24 = ldp_8(x23);
   x25 = FAR(x23, 8);
   x26 = ld64_8(x25);
-  x27 = f64(x24, x26, x21);
+  x27 = f61(x24, x26, x21);
   if (((u8)((x27.f0) == 0u))) goto b0; else goto b1;
 b0:;
   x4 = x27.f1;
@@ -8622,12 +8557,12 @@ b11:;
   st64_8(x28, x29);
   goto b1;
 b1:;
-  f92(x0, ((u64)((u64)x1 + 1u)));
-  f92(x0, x1);
+  f87(x0, ((u64)((u64)x1 + 1u)));
+  f87(x0, x1);
   return;
 }
 
-static void f95(Q x0, Q x1)
+static void f90(Q x0, Q x1)
 {
   u64 x3, x5, x7, x9, x8, x13, x14, x16, x19, x20, x2, x22, x23, x24, x25, x28, x6, x4;
   Q x10, x11, x12, x15, x18, x21, x29;
@@ -8679,7 +8614,7 @@ b0:;
   return;
 }
 
-static void f96(Q x0, Q x1)
+static void f91(Q x0, Q x1)
 {
   u64 x3, x5, x7, x9, x10, x11, x8, x15, x18, x19, x2, x21, x22, x6, x4;
   Q x12, x13, x14, x17, x20;
@@ -8721,7 +8656,7 @@ b0:;
   return;
 }
 
-static void f97(Q x0, Q x1)
+static void f92(Q x0, Q x1)
 {
   u64 x3, x5, x7, x9, x10, x11, x8, x15, x18, x19, x2, x21, x22, x6, x4;
   Q x12, x13, x14, x17, x20;
@@ -8763,7 +8698,7 @@ b0:;
   return;
 }
 
-static void f98(Q x0, Q x1)
+static void f93(Q x0, Q x1)
 {
   u64 x4, x6, x8, x2, x11, x12, x18, x5, x7, x3;
   u8 x9, x13, x15, x25, x28;
@@ -8795,7 +8730,7 @@ b4:;
   x21 = ld128_8(FAR(x20, 16));
   st128_8(x22, x21);
   st128_8(x23, x21);
-  x24 = f237(x0, x23);
+  x24 = f232(x0, x23);
   x25 = x24.f0;
   x26 = x24.f1;
   x27 = FAR((((u8)((x25) & 1u)) ? x26 : Q_NULL), 32);
@@ -8817,7 +8752,7 @@ b8:;
   st64_1(x30, x8);
   goto b6;
 b6:;
-  x31 = f237(x0, x22);
+  x31 = f232(x0, x22);
   if (((u8)((x31.f0) == 1u))) goto b10; else goto b3;
 b10:;
   x32 = x31.f1;
@@ -8842,7 +8777,7 @@ b0:;
   return;
 }
 
-static void f99(Q x0)
+static void f94(Q x0)
 {
   Q x1, x4, x5, x6, x7, x8;
   u64 x3, x9;
@@ -8859,7 +8794,7 @@ b1:;
 b2:;
   x6 = ldp_1(x4);
   x7 = ldp_8(x6);
-  f100(x2, x0, x7);
+  f95(x2, x0, x7);
   x8 = ldp_8(x5);
   os_rattle_dealloc(x8);
   MEMSET(x2, 0u, 64);
@@ -8869,7 +8804,7 @@ b0:;
   return;
 }
 
-static void f100(Q x0, Q x1, Q x2)
+static void f95(Q x0, Q x1, Q x2)
 {
   u64 x5, x9, x13, x15, x16, x3, x19, x23, x25, x4, x32, x34;
   u32 x8, x18, x6, x22, x24, x7, x28;
@@ -8897,7 +8832,7 @@ b1:;
   { x5 = x3; goto b2; }
 b2:;
   x20 = FAR(x12, (u64)((u64)((u64)x5 << 6)));
-  x6 = f52(x20, x17);
+  x6 = f49(x20, x17);
   if (((u8)(x6 == 0u))) goto b3; else goto b4;
 b4:;
   x21 = FAR(x20, 16);
@@ -8927,7 +8862,7 @@ b6:;
   x31 = FAR(x1, 128);
   x32 = ld64_8(x31);
   st64_8(x31, ((u64)((u64)x32 + ((u64)((u8)(x30 ^ 1u))))));
-  x33 = f77(x1, x25);
+  x33 = f74(x1, x25);
   x34 = (u64)((u64)x33);
   x35 = ldp_8(FAR(x33, 8));
   x36 = ldp_8(x33);
@@ -8950,7 +8885,7 @@ b0:;
   UNREACHABLE();
 }
 
-static void f101(Q x0, Q x1, Q x2, Q x3, u64 x4)
+static void f96(Q x0, Q x1, Q x2, Q x3, u64 x4)
 {
   u64 x6, x8, x10, x13, x16, x17, x19, x21, x23, x25, x28, x12, x32, x34, x35, x15, x38, x7, x39, x9, x5, x14, x11, x44, x18, x45, x20, x46, x22;
   Q x24, x26, x27, x29, x36, x37, x40, x41, x42, x43;
@@ -9032,19 +8967,19 @@ b9:;
   MEMCPY(x47, x30, 32);
   if (((u8)(x31 == 1u))) goto b14; else goto b15;
 b14:;
-  f85(x2, 1u, x32, 0u, 0u, x47);
+  f80(x2, 1u, x32, 0u, 0u, x47);
   goto b15;
 b15:;
   if (((u8)(x33 == 0u))) goto b16; else goto b17;
 b16:;
-  f85(x3, 1u, x34, 0u, x32, x47);
+  f80(x3, 1u, x34, 0u, x32, x47);
   goto b17;
 b17:;
   MEMCPY(x0, x47, 16);
   return;
 }
 
-static s_u8_u64 f102(Q x0, u64 x1, Q x2)
+static s_u8_u64 f97(Q x0, u64 x1, Q x2)
 {
   u64 x4, x6, x7, x9, x10, x13, x15, x16, x5, x3, x20, x21;
   u8 x8, x18;
@@ -9078,7 +9013,7 @@ b4:;
   return s_u8_u64_set1(s_u8_u64_set0(((s_u8_u64){0u, 0u}), x8), x7);
 }
 
-static void f103(Q x0, Q x1, u64 x2)
+static void f98(Q x0, Q x1, u64 x2)
 {
   u64 x4, x6, x8, x11, x14, x15, x17, x19, x21, x23, x26, x10, x29, x13, x32, x5, x33, x7, x3, x12, x9, x38, x16, x39, x18, x40, x20;
   Q x22, x24, x25, x27, x30, x31, x34, x35, x36, x37;
@@ -9154,7 +9089,7 @@ b9:;
   return;
 }
 
-static void f104(Q x0, Q x1)
+static void f99(Q x0, Q x1)
 {
   u64 x3, x4, x5, x7, x2, x10, x11, x15, x16;
   Q x6, x9, x12, x14, x17, x18;
@@ -9183,7 +9118,7 @@ b3:;
   x12 = FAR(x0, 104);
   st64_8(x13, x4);
   st64_8(ADD(x13, 8), x5);
-  f97(x12, x13);
+  f92(x12, x13);
   x14 = FAR(x0, 112);
   x15 = ld64_8(x14);
   x16 = ld64_8(FAR(x0, 128));
@@ -9197,7 +9132,7 @@ b5:;
   goto b0;
 }
 
-static void f105(Q x0, Q x1, Q x2, Q x3, Q x4, Q x5, Q x6, Q x7, u64 x8)
+static void f100(Q x0, Q x1, Q x2, Q x3, Q x4, Q x5, Q x6, Q x7, u64 x8)
 {
   u8 x10, x23, x9, x37, x39, x20, x22, x46, x21, x48, x51, x19, x53, x58, x72, x76, x77, x79, x80;
   u64 x13, x18, x25, x11, x38, x15, x41, x17, x44, x47, x16, x50, x52, x14, x12, x57, x60, x64, x68, x70, x71, x24, x75, x82, x84, x87;
@@ -9231,7 +9166,7 @@ static void f105(Q x0, Q x1, Q x2, Q x3, Q x4, Q x5, Q x6, Q x7, u64 x8)
   MEMCPY(x29, x5, 16);
   MEMCPY(x30, x1, 24);
   MEMSET(x31, 0u, 44);
-  x32 = f106(x6);
+  x32 = f101(x6);
   if (((u8)((x32.f0) == 1u))) goto b0; else goto b1;
 b0:;
   x11 = x32.f1;
@@ -9257,14 +9192,14 @@ b7:;
 b8:;
   x40 = ldp_8(x34);
   x41 = ld64_8(x35);
-  x42 = f107(x40, x41);
+  x42 = f102(x40, x41);
   x22 = x42.f0;
   x17 = x42.f1;
   { x18 = x17; x23 = x22; goto b6; }
 b9:;
   x43 = ldp_8(x34);
   x44 = ld64_8(x35);
-  x45 = f108(x43, x44);
+  x45 = f103(x43, x44);
   x46 = (u8)((x45.f0) == 1u);
   x47 = (x46 ? (x45.f1) : 0u);
   x16 = (x46 ? ((u64)((u64)((u64)((u64)x47 + 8u)) + (((u64)((u64)0u - x47)) & 7u))) : 0u);
@@ -9274,7 +9209,7 @@ b10:;
   x48 = ld8_1(x33);
   x49 = ldp_8(x34);
   x50 = ld64_8(x35);
-  x51 = f110(x48, x49, x50);
+  x51 = f105(x48, x49, x50);
   x52 = ld64_8(x35);
   x19 = (u8)x51;
   x14 = (x51 ? ((u64)((u64)x52 + 2u)) : 0u);
@@ -9292,46 +9227,46 @@ b4:;
   st8_1(ADD(x31, 9), 255u);
   MEMCPY(ADD(x31, 10), x28, 16);
   MEMCPY(ADD(x31, 26), x29, 16);
-  f111(x30, x26, x27, x31, ((u16)(x13)));
+  f106(x30, x26, x27, x31, ((u16)(x13)));
   MEMCPY(x54, x28, 16);
   MEMCPY(x55, x29, 16);
   x56 = ADD(x30, 8);
   x57 = ld64_8(x56);
-  f114(x6, x30);
+  f109(x6, x30);
   if (((u8)(x8 == 0u))) goto b12; else goto b13;
 b13:;
   x58 = ld8_1(x7);
   switch (x58) { case 0u: goto b14; case 1u: goto b15; case 2u: goto b16; case 3u: goto b17; case 4u: goto b18; case 5u: goto b19; case 6u: goto b20; case 7u: goto b21; default: goto b22; }
 b14:;
-  f115(1u, x33, x30);
+  f110(1u, x33, x30);
   goto b12;
 b15:;
-  f115(2u, x33, x30);
+  f110(2u, x33, x30);
   goto b12;
 b16:;
-  f116(x36, x30);
+  f111(x36, x30);
   goto b12;
 b17:;
   x59 = ldp_8(x34);
   x60 = ld64_8(x35);
-  f117(x59, x60, x30);
+  f112(x59, x60, x30);
   goto b12;
 b18:;
   x61 = ld32_4(x36);
-  f118(x61, x30);
+  f113(x61, x30);
   goto b12;
 b19:;
   x62 = ld32_4(x36);
   x63 = ldp_8(x34);
   x64 = ld64_8(x35);
-  f119(x62, x63, x64, x30);
+  f114(x62, x63, x64, x30);
   goto b12;
 b20:;
   x66 = ld32_4(x36);
   x67 = ldp_8(x34);
   x68 = ld64_8(x35);
   st64_8(x65, 31u);
-  x69 = f108(x67, x68);
+  x69 = f103(x67, x68);
   x70 = (((u8)(((x69.f0)) & 1u)) ? (x69.f1) : 0u);
   x71 = (((u64)((u64)0u - x70)) & 7u);
   st8_1(ADD(x65, 1), ((u8)(((u64)((u64)((u64)((u64)((u64)((u64)x70 + 8u)) + x71)) >> 3)))));
@@ -9339,7 +9274,7 @@ b20:;
   st8_1(ADD(x65, 5), ((u8)(((u32)((u32)x66 >> 16)))));
   st8_1(ADD(x65, 6), ((u8)(((u32)((u32)x66 >> 8)))));
   st8_1(ADD(x65, 7), ((u8)(x66)));
-  x72 = f112(x30, x65, 8u);
+  x72 = f107(x30, x65, 8u);
   if (((u8)((x72) & 1u))) goto b23; else goto b24;
 b23:;
   TRAP();
@@ -9353,20 +9288,20 @@ b26:;
   x73 = FAR(x67, (u64)((u64)((u64)x25 * 24u)));
   x74 = ldp_8(x73);
   x75 = ld64_8(FAR(x73, 8));
-  x76 = f112(x30, x74, x75);
+  x76 = f107(x30, x74, x75);
   if (((u8)((x76) & 1u))) goto b27; else goto b28;
 b27:;
   TRAP();
   UNREACHABLE();
 b28:;
-  x77 = f112(x30, Q_OF(g0), 1u);
+  x77 = f107(x30, Q_OF(g0), 1u);
   if (((u8)((x77) & 1u))) goto b29; else goto b30;
 b29:;
   TRAP();
   UNREACHABLE();
 b25:;
   st64_8(x78, 0u);
-  x79 = f112(x30, x78, x71);
+  x79 = f107(x30, x78, x71);
   if (((u8)((x79) & 1u))) goto b31; else goto b32;
 b31:;
   TRAP();
@@ -9377,7 +9312,7 @@ b21:;
   x80 = ld8_1(x33);
   x81 = ldp_8(x34);
   x82 = ld64_8(x35);
-  f120(x80, x81, x82, x30);
+  f115(x80, x81, x82, x30);
   goto b12;
 b22:;
   UNREACHABLE();
@@ -9388,7 +9323,7 @@ b12:;
   x83 = ldp_8(x30);
   x84 = ld64_8(x56);
   x85 = FAR(x83, (u64)x57);
-  x86 = f121(x54, x55, x85, ((u64)((u64)x84 - x57)));
+  x86 = f116(x54, x55, x85, ((u64)((u64)x84 - x57)));
   st8_1(FAR(x85, 2), ((u8)(((u16)((u32)x86 >> 8)))));
   st8_1(FAR(x85, 3), ((u8)(x86)));
   x87 = ld64_8(ADD(x30, 16));
@@ -9408,7 +9343,7 @@ b34:;
   return;
 }
 
-static s_u8_u64 f106(Q x0)
+static s_u8_u64 f101(Q x0)
 {
   u64 x2, x1;
   u8 x4, x5, x6, x8, x3;
@@ -9432,7 +9367,7 @@ b4:;
   UNREACHABLE();
 }
 
-static s_u8_u64 f107(Q x0, u64 x1)
+static s_u8_u64 f102(Q x0, u64 x1)
 {
   u64 x3, x5, x2, x8, x9, x4;
   u8 x6;
@@ -9455,7 +9390,7 @@ b0:;
   return s_u8_u64_set1(s_u8_u64_set0(((s_u8_u64){0u, 0u}), x6), x5);
 }
 
-static s_u8_u64 f108(Q x0, u64 x1)
+static s_u8_u64 f103(Q x0, u64 x1)
 {
   u64 x3, x5, x6, x8, x4, x13, x2, x7;
   u8 x10, x14, x15, x9;
@@ -9468,7 +9403,7 @@ b1:;
   x11 = FAR(x0, (u64)((u64)((u64)x5 * 24u)));
   x12 = ldp_8(x11);
   x13 = ld64_8(FAR(x11, 8));
-  x14 = f109(x12, x13);
+  x14 = f104(x12, x13);
   if (x14) goto b2; else { x8 = 0u; x10 = 0u; goto b3; }
 b2:;
   x2 = (u64)((u64)((u64)((u64)x3 + 1u)) + x13);
@@ -9482,7 +9417,7 @@ b3:;
   return s_u8_u64_set1(s_u8_u64_set0(((s_u8_u64){0u, 0u}), x10), x8);
 }
 
-static u8 f109(Q x0, u64 x1)
+static u8 f104(Q x0, u64 x1)
 {
   Q x3, x2;
   u64 x5, x8, x4;
@@ -9501,7 +9436,7 @@ b1:;
   return x7;
 }
 
-static u8 f110(u8 x0, Q x1, u64 x2)
+static u8 f105(u8 x0, Q x1, u64 x2)
 {
   u8 x4, x16, x19, x13, x12, x15, x22, x14, x11, x3;
   Q x7, x5, x6;
@@ -9560,7 +9495,7 @@ b3:;
   { x4 = x3; goto b1; }
 }
 
-static void f111(Q x0, Q x1, Q x2, Q x3, u16 x4)
+static void f106(Q x0, Q x1, Q x2, Q x3, u16 x4)
 {
   u32 x11;
   u8 x12, x14, x15, x18;
@@ -9604,7 +9539,7 @@ static void f111(Q x0, Q x1, Q x2, Q x3, u16 x4)
   st16_1(ADD(x7, 12), 56710u);
   st64_1(ADD(x7, 14), (x17 | ((u64)((u8)(((u8)((u32)x12 >> 4)) | 96u)))));
   MEMCPY(ADD(x7, 22), x6, 32);
-  x18 = f112(x0, x7, 54u);
+  x18 = f107(x0, x7, 54u);
   if (((u8)((x18) & 1u))) goto b0; else goto b1;
 b0:;
   TRAP();
@@ -9613,7 +9548,7 @@ b1:;
   return;
 }
 
-static u8 f112(Q x0, Q x1, u64 x2)
+static u8 f107(Q x0, Q x1, u64 x2)
 {
   u64 x5, x8, x10, x4, x7, x6, x3, x15, x9;
   u8 x11, x14, x18;
@@ -9624,7 +9559,7 @@ static u8 f112(Q x0, Q x1, u64 x2)
   x7 = ld64_8(x13);
   if (((u8)(x2 > ((u64)((u64)x4 - x7))))) goto b0; else { x5 = x4; x8 = x7; goto b1; }
 b0:;
-  x14 = f113(x0, x2);
+  x14 = f108(x0, x2);
   if (x14) goto b2; else { x11 = 1u; goto b3; }
 b2:;
   x6 = ld64_8(x13);
@@ -9653,7 +9588,7 @@ b3:;
   return x11;
 }
 
-static u8 f113(Q x0, u64 x1)
+static u8 f108(Q x0, u64 x1)
 {
   u8 x3, x2;
   u64 x4, x5, x6, x7;
@@ -9665,11 +9600,11 @@ b1:;
   x5 = ld64_8(FAR(x0, 16));
   x6 = umax64(((u64)((u64)x4 + x1)), 8u);
   x7 = umax64(x6, ((u64)((u64)x5 << 1)));
-  x2 = f76(x0, (((u8)(x5 < UINT64_C(4611686018427387904))) ? x7 : x6));
+  x2 = f73(x0, (((u8)(x5 < UINT64_C(4611686018427387904))) ? x7 : x6));
   { x3 = x2; goto b0; }
 }
 
-static void f114(Q x0, Q x1)
+static void f109(Q x0, Q x1)
 {
   u8 x2, x3, x4, x5, x6, x7, x12, x13, x14, x16, x17, x18, x19, x20, x21, x22, x23;
   u16 x8;
@@ -9681,7 +9616,7 @@ static void f114(Q x0, Q x1)
   x2 = ld8_1(x0);
   switch (x2) { case 0u: goto b0; case 1u: goto b1; case 2u: goto b2; case 3u: goto b3; case 4u: goto b4; default: goto b5; }
 b0:;
-  x3 = f112(x1, Q_OF(g2), 8u);
+  x3 = f107(x1, Q_OF(g2), 8u);
   if (((u8)((x3) & 1u))) goto b6; else goto b7;
 b6:;
   TRAP();
@@ -9710,7 +9645,7 @@ b1:;
   st8_1(ADD(x11, 13), ((u8)(((u32)((u32)x10 >> 16)))));
   st8_1(ADD(x11, 14), ((u8)(((u32)((u32)x10 >> 8)))));
   st8_1(ADD(x11, 15), ((u8)(x10)));
-  x12 = f112(x1, x11, 16u);
+  x12 = f107(x1, x11, 16u);
   if (((u8)((x12) & 1u))) goto b8; else goto b9;
 b8:;
   TRAP();
@@ -9718,13 +9653,13 @@ b8:;
 b9:;
   goto b7;
 b2:;
-  x13 = f112(x1, Q_OF(g3), 8u);
+  x13 = f107(x1, Q_OF(g3), 8u);
   if (((u8)((x13) & 1u))) goto b10; else goto b11;
 b10:;
   TRAP();
   UNREACHABLE();
 b11:;
-  x14 = f112(x1, FAR(x0, 1), 16u);
+  x14 = f107(x1, FAR(x0, 1), 16u);
   if (((u8)((x14) & 1u))) goto b12; else goto b7;
 b12:;
   TRAP();
@@ -9735,13 +9670,13 @@ b3:;
   x17 = ld8_1(FAR(x0, 2));
   x18 = ld8_1(FAR(x0, 3));
   st8_1(ADD(x15, 4), ((u8)(((u8)(((u8)((u32)x17 << 6)) | ((u8)((u32)x16 << 7)))) | ((u8)((u32)x18 << 5)))));
-  x19 = f112(x1, x15, 8u);
+  x19 = f107(x1, x15, 8u);
   if (((u8)((x19) & 1u))) goto b13; else goto b14;
 b13:;
   TRAP();
   UNREACHABLE();
 b14:;
-  x20 = f112(x1, FAR(x0, 4), 16u);
+  x20 = f107(x1, FAR(x0, 4), 16u);
   if (((u8)((x20) & 1u))) goto b15; else goto b16;
 b15:;
   TRAP();
@@ -9749,19 +9684,19 @@ b15:;
 b16:;
   goto b7;
 b4:;
-  x21 = f112(x1, Q_OF(g4), 8u);
+  x21 = f107(x1, Q_OF(g4), 8u);
   if (((u8)((x21) & 1u))) goto b17; else goto b18;
 b17:;
   TRAP();
   UNREACHABLE();
 b18:;
-  x22 = f112(x1, FAR(x0, 1), 16u);
+  x22 = f107(x1, FAR(x0, 1), 16u);
   if (((u8)((x22) & 1u))) goto b19; else goto b20;
 b19:;
   TRAP();
   UNREACHABLE();
 b20:;
-  x23 = f112(x1, FAR(x0, 17), 16u);
+  x23 = f107(x1, FAR(x0, 17), 16u);
   if (((u8)((x23) & 1u))) goto b21; else goto b7;
 b21:;
   TRAP();
@@ -9772,20 +9707,20 @@ b5:;
   UNREACHABLE();
 }
 
-static void f115(u8 x0, Q x1, Q x2)
+static void f110(u8 x0, Q x1, Q x2)
 {
   u8 x4, x5;
   _Alignas(1) u8 y0_[2];
   Q const x3 = Q_OF(y0_);
   st8_1(x3, x0);
   st8_1(ADD(x3, 1), 1u);
-  x4 = f112(x2, x3, 2u);
+  x4 = f107(x2, x3, 2u);
   if (((u8)((x4) & 1u))) goto b0; else goto b1;
 b0:;
   TRAP();
   UNREACHABLE();
 b1:;
-  x5 = f112(x2, x1, 6u);
+  x5 = f107(x2, x1, 6u);
   if (((u8)((x5) & 1u))) goto b2; else goto b3;
 b2:;
   TRAP();
@@ -9794,7 +9729,7 @@ b3:;
   return;
 }
 
-static void f116(Q x0, Q x1)
+static void f111(Q x0, Q x1)
 {
   u8 x2, x3, x4, x8, x10;
   u32 x5, x6;
@@ -9820,14 +9755,14 @@ static void f116(Q x0, Q x1)
   st8_1(ADD(x7, 10), ((u8)(((u32)((u32)x6 >> 8)))));
   st8_1(ADD(x7, 11), ((u8)(x6)));
   st32_1(ADD(x7, 12), 0u);
-  x8 = f112(x1, x7, 16u);
+  x8 = f107(x1, x7, 16u);
   if (((u8)((x8) & 1u))) goto b0; else goto b1;
 b0:;
   TRAP();
   UNREACHABLE();
 b1:;
   MEMCPY(x9, x0, 16);
-  x10 = f112(x1, x9, 16u);
+  x10 = f107(x1, x9, 16u);
   if (((u8)((x10) & 1u))) goto b2; else goto b3;
 b2:;
   TRAP();
@@ -9836,7 +9771,7 @@ b3:;
   return;
 }
 
-static void f117(Q x0, u64 x1, Q x2)
+static void f112(Q x0, u64 x1, Q x2)
 {
   u8 x4, x5;
   _Alignas(8) u8 y0_[8];
@@ -9844,13 +9779,13 @@ static void f117(Q x0, u64 x1, Q x2)
   st64_8(x3, 4u);
   st8_1(ADD(x3, 1), ((u8)(((u64)((u64)((u64)((u64)x1 + 8u)) >> 3)))));
   MEMSET(ADD(x3, 2), 0u, 6);
-  x4 = f112(x2, x3, 8u);
+  x4 = f107(x2, x3, 8u);
   if (((u8)((x4) & 1u))) goto b0; else goto b1;
 b0:;
   TRAP();
   UNREACHABLE();
 b1:;
-  x5 = f112(x2, x0, x1);
+  x5 = f107(x2, x0, x1);
   if (((u8)((x5) & 1u))) goto b2; else goto b3;
 b2:;
   TRAP();
@@ -9859,7 +9794,7 @@ b3:;
   return;
 }
 
-static void f118(u32 x0, Q x1)
+static void f113(u32 x0, Q x1)
 {
   u8 x3;
   _Alignas(8) u8 y0_[8];
@@ -9869,7 +9804,7 @@ static void f118(u32 x0, Q x1)
   st8_1(ADD(x2, 5), ((u8)(((u32)((u32)x0 >> 16)))));
   st8_1(ADD(x2, 6), ((u8)(((u32)((u32)x0 >> 8)))));
   st8_1(ADD(x2, 7), ((u8)(x0)));
-  x3 = f112(x1, x2, 8u);
+  x3 = f107(x1, x2, 8u);
   if (((u8)((x3) & 1u))) goto b0; else goto b1;
 b0:;
   TRAP();
@@ -9878,7 +9813,7 @@ b1:;
   return;
 }
 
-static void f119(u32 x0, Q x1, u64 x2, Q x3)
+static void f114(u32 x0, Q x1, u64 x2, Q x3)
 {
   u64 x5, x4;
   u8 x7, x8;
@@ -9890,7 +9825,7 @@ static void f119(u32 x0, Q x1, u64 x2, Q x3)
   st8_1(ADD(x6, 5), ((u8)(((u32)((u32)x0 >> 16)))));
   st8_1(ADD(x6, 6), ((u8)(((u32)((u32)x0 >> 8)))));
   st8_1(ADD(x6, 7), ((u8)(x0)));
-  x7 = f112(x3, x6, 8u);
+  x7 = f107(x3, x6, 8u);
   if (((u8)((x7) & 1u))) goto b0; else goto b1;
 b0:;
   TRAP();
@@ -9901,7 +9836,7 @@ b5:;
   x4 = (u64)((u64)x5 + 1u);
   if (((u8)(x4 == x2))) goto b2; else { x5 = x4; goto b3; }
 b3:;
-  x8 = f112(x3, FAR(x1, (u64)((u64)((u64)x5 << 4))), 16u);
+  x8 = f107(x3, FAR(x1, (u64)((u64)((u64)x5 << 4))), 16u);
   if (((u8)((x8) & 1u))) goto b4; else goto b5;
 b4:;
   TRAP();
@@ -9910,20 +9845,20 @@ b2:;
   return;
 }
 
-static void f120(u8 x0, Q x1, u64 x2, Q x3)
+static void f115(u8 x0, Q x1, u64 x2, Q x3)
 {
   u8 x5, x6;
   _Alignas(1) u8 y0_[2];
   Q const x4 = Q_OF(y0_);
   st8_1(x4, x0);
   st8_1(ADD(x4, 1), ((u8)(((u64)((u64)((u64)((u64)x2 + 2u)) >> 3)))));
-  x5 = f112(x3, x4, 2u);
+  x5 = f107(x3, x4, 2u);
   if (((u8)((x5) & 1u))) goto b0; else goto b1;
 b0:;
   TRAP();
   UNREACHABLE();
 b1:;
-  x6 = f112(x3, x1, x2);
+  x6 = f107(x3, x1, x2);
   if (((u8)((x6) & 1u))) goto b2; else goto b3;
 b2:;
   TRAP();
@@ -9932,7 +9867,7 @@ b3:;
   return;
 }
 
-static u16 f121(Q x0, Q x1, Q x2, u64 x3)
+static u16 f116(Q x0, Q x1, Q x2, u64 x3)
 {
   u64 x6, x23, x24, x4, x25, x5, x26;
   u32 x7, x8, x9, x10, x11, x12, x13, x14, x15, x16, x17, x18, x19, x20, x21, x22;
@@ -9967,7 +9902,7 @@ b2:;
   return (((u8)(x26 == 0u)) ? 0u : ((u16)(((u16)(x26)) ^ 65535u)));
 }
 
-static void f122(Q x0, Q x1, Q x2, Q x3, Q x4)
+static void f117(Q x0, Q x1, Q x2, Q x3, Q x4)
 {
   u8 x7, x8, x9;
   _Alignas(8) u8 y0_[24];
@@ -10008,12 +9943,12 @@ static void f122(Q x0, Q x1, Q x2, Q x3, Q x4)
   st8_1(ADD(x10, 13), x7);
   st8_1(ADD(x10, 14), x8);
   st8_1(ADD(x10, 15), x9);
-  f123(x14, x12, x13, x5, x6, x11, x10);
+  f118(x14, x12, x13, x5, x6, x11, x10);
   MEMCPY(x0, x14, 24);
   return;
 }
 
-static void f123(Q x0, Q x1, Q x2, Q x3, Q x4, Q x5, Q x6)
+static void f118(Q x0, Q x1, Q x2, Q x3, Q x4, Q x5, Q x6)
 {
   u8 x7, x8;
   u32 x9;
@@ -10095,7 +10030,7 @@ static void f123(Q x0, Q x1, Q x2, Q x3, Q x4, Q x5, Q x6)
   st64_8(x30, 135u);
   MEMCPY(ADD(x30, 8), x17, 16);
   st64_8(ADD(x30, 24), (((((u64)((u64)((u64)x7) << 16)) | ((u64)((u64)((u64)x8) << 24))) | ((u64)((u64)((u64)x9) << 32))) | 257u));
-  x31 = f121(x10, x11, x30, 32u);
+  x31 = f116(x10, x11, x30, 32u);
   x32 = bswap16(x31);
   st16_2(ADD(x30, 2), x32);
   MEMCPY(x25, x30, 32);
@@ -10113,12 +10048,12 @@ static void f123(Q x0, Q x1, Q x2, Q x3, Q x4, Q x5, Q x6)
   st64_1(ADD(x16, 14), UINT64_C(18391047212692930656));
   MEMCPY(ADD(x16, 22), x14, 32);
   MEMCPY(ADD(x16, 54), x15, 32);
-  f124(x12, x18, x16);
+  f119(x12, x18, x16);
   MEMCPY(x0, x12, 24);
   return;
 }
 
-static void f124(Q x0, Q x1, Q x2)
+static void f119(Q x0, Q x1, Q x2)
 {
   u8 x4;
   Q x5;
@@ -10126,7 +10061,7 @@ static void f124(Q x0, Q x1, Q x2)
   _Alignas(8) u8 y0_[24];
   Q const x3 = Q_OF(y0_);
   MEMCPY(x3, x1, 24);
-  x4 = f112(x3, x2, 86u);
+  x4 = f107(x3, x2, 86u);
   if (((u8)((x4) & 1u))) goto b0; else goto b1;
 b0:;
   TRAP();
@@ -10151,7 +10086,7 @@ b4:;
   UNREACHABLE();
 }
 
-static void f125(Q x0, u64 x1, Q x2, Q x3)
+static void f120(Q x0, u64 x1, Q x2, Q x3)
 {
   u8 x4;
   Q x7, x9, x10;
@@ -10166,9 +10101,9 @@ static void f125(Q x0, u64 x1, Q x2, Q x3)
   MEMCPY(x5, FAR(x3, 8), 32);
   MEMSET(ADD(x6, 16), 0u, 17);
   MEMCPY(x6, x2, 16);
-  x7 = FAR(x0, 8);
+  x7 = FAR(x0, 32);
   x8 = ld64_8(x7);
-  x9 = ldp_8(x0);
+  x9 = ldp_8(FAR(x0, 24));
   x10 = ADD(x9, (u64)((u64)((u64)x8 * 80u)));
   st64_1(x10, x1);
   st8_1(ADD(x10, 8), 8u);
@@ -10177,17 +10112,17 @@ static void f125(Q x0, u64 x1, Q x2, Q x3)
   st64_8(x7, ((u64)((u64)x8 + 1u)));
   st64_8(x11, ((u64)x4));
   MEMCPY(ADD(x11, 8), x5, 32);
-  f126(x0, x1, 0u, x11);
+  f121(x0, x1, 0u, x11);
   return;
 }
 
-static void f126(Q x0, u64 x1, u8 x2, Q x3)
+static void f121(Q x0, u64 x1, u8 x2, Q x3)
 {
-  u64 x6, x9, x10, x13, x5, x8, x17, x7, x4, x18;
+  u64 x6, x9, x10, x13, x5, x8, x18, x7, x4, x19;
   u8 x11;
-  Q x12, x15, x16, x19, x20;
+  Q x12, x15, x16, x17, x20, x21;
   _Alignas(8) u8 y0_[32];
-  Q const x21 = Q_OF(y0_);
+  Q const x22 = Q_OF(y0_);
   _Alignas(1) u8 y1_[30];
   Q const x14 = Q_OF(y1_);
   x11 = ld8_1(x3);
@@ -10199,35 +10134,36 @@ static void f126(Q x0, u64 x1, u8 x2, Q x3)
   if (((u8)(x11 == 1u))) goto b0; else goto b1;
 b0:;
   x15 = ADD(x14, 6);
-  x16 = FAR(x0, 8);
+  x16 = FAR(x0, 24);
+  x17 = FAR(x0, 32);
   if (((u8)(x5 == 0u))) { x10 = x8; goto b2; } else { x6 = x5; x9 = x8; goto b3; }
 b3:;
-  x17 = (u64)((u64)x9 + 1u);
-  x7 = (u64)((u64)x17 - (((u8)(x17 < x13)) ? 0u : x13));
+  x18 = (u64)((u64)x9 + 1u);
+  x7 = (u64)((u64)x18 - (((u8)(x18 < x13)) ? 0u : x13));
   x4 = (u64)((u64)x6 + UINT64_C(18446744073709551615));
   MEMCPY(x15, ADD(x12, (u64)((u64)((u64)x9 * 24u))), 24);
-  x18 = ld64_8(x16);
-  x19 = ldp_8(x0);
-  x20 = ADD(x19, (u64)((u64)((u64)x18 * 80u)));
-  st64_1(x20, x1);
-  st8_1(ADD(x20, 8), 9u);
-  st8_1(ADD(x20, 9), x2);
-  MEMCPY(ADD(x20, 10), x14, 30);
-  MEMSET(ADD(x20, 40), 0u, 40);
-  st64_8(x16, ((u64)((u64)x18 + 1u)));
+  x19 = ld64_8(x17);
+  x20 = ldp_8(x16);
+  x21 = ADD(x20, (u64)((u64)((u64)x19 * 80u)));
+  st64_1(x21, x1);
+  st8_1(ADD(x21, 8), 9u);
+  st8_1(ADD(x21, 9), x2);
+  MEMCPY(ADD(x21, 10), x14, 30);
+  MEMSET(ADD(x21, 40), 0u, 40);
+  st64_8(x17, ((u64)((u64)x19 + 1u)));
   if (((u8)(x4 == 0u))) { x10 = x7; goto b2; } else { x6 = x4; x9 = x7; goto b3; }
 b2:;
-  stp_8(x21, x12);
-  st64_8(ADD(x21, 8), x13);
-  st64_8(ADD(x21, 16), 0u);
-  st64_8(ADD(x21, 24), x10);
-  f133(x21);
+  stp_8(x22, x12);
+  st64_8(ADD(x22, 8), x13);
+  st64_8(ADD(x22, 16), 0u);
+  st64_8(ADD(x22, 24), x10);
+  f128(x22);
   goto b1;
 b1:;
   return;
 }
 
-static void f127(Q x0, Q x1, Q x2, u32 x3)
+static void f122(Q x0, Q x1, Q x2, u32 x3)
 {
   u64 x5, x8, x4, x6, x7;
   Q x11, x18, x9, x21, x22, x23, x24, x10;
@@ -10266,7 +10202,7 @@ b1:;
   st64_8(ADD(x19, 576), 0u);
   st8_1(x15, 0u);
   MEMCPY(ADD(x15, 1), x2, 6);
-  f128(x19, x15);
+  f123(x19, x15);
   if (((u8)(x3 == 0u))) goto b2; else goto b3;
 b2:;
   MEMCPY(x13, x19, 584);
@@ -10274,7 +10210,7 @@ b2:;
 b3:;
   st8_1(x16, 4u);
   st32_4(ADD(x16, 4), x3);
-  f128(x19, x16);
+  f123(x19, x16);
   MEMCPY(x13, x19, 584);
   goto b4;
 b4:;
@@ -10298,14 +10234,14 @@ b7:;
   st8_1(x14, 2u);
   MEMCPY(x22, x20, 19);
   st8_1(x23, x25);
-  f128(x12, x14);
+  f123(x12, x14);
   if (((u8)(x7 == 0u))) goto b5; else { x8 = x7; x11 = x10; goto b7; }
 b5:;
   MEMCPY(x0, x12, 584);
   return;
 }
 
-static void f128(Q x0, Q x1)
+static void f123(Q x0, Q x1)
 {
   u64 x3, x6, x11, x12, x14, x2;
   u8 x4, x9;
@@ -10364,7 +10300,7 @@ b0:;
   return;
 }
 
-static void f129(Q x0, Q x1, Q x2, Q x3, Q x4, Q x5, u64 x6)
+static void f124(Q x0, Q x1, Q x2, Q x3, Q x4, Q x5, u64 x6)
 {
   u64 x9, x11, x16, x17, x19, x21, x8, x10, x31, x15, x33, x36, x14, x40, x42, x12, x44, x13, x7, x49, x59, x63, x66, x68, x69, x20, x73, x80, x18, x82, x85;
   s_u8_u64 x27, x34, x45, x67;
@@ -10400,7 +10336,7 @@ static void f129(Q x0, Q x1, Q x2, Q x3, Q x4, Q x5, u64 x6)
   st8_1(ADD(x25, 4), 0u);
   st8_1(ADD(x25, 5), 1u);
   MEMSET(x26, 0u, 44);
-  x27 = f106(x4);
+  x27 = f101(x4);
   if (((u8)((x27.f0) == 1u))) goto b0; else goto b1;
 b0:;
   x8 = x27.f1;
@@ -10422,7 +10358,7 @@ b6:;
 b8:;
   x32 = ldp_8(FAR(x29, 8));
   x33 = ld64_8(FAR(x29, 16));
-  x34 = f108(x32, x33);
+  x34 = f103(x32, x33);
   x35 = (u8)((x34.f0) == 1u);
   x36 = (x35 ? (x34.f1) : 0u);
   x14 = (u64)((u64)((u64)((u64)x36 + 8u)) + (((u64)((u64)0u - x36)) & 7u));
@@ -10432,7 +10368,7 @@ b9:;
   x38 = ldp_8(FAR(x29, 8));
   x39 = FAR(x29, 16);
   x40 = ld64_8(x39);
-  x41 = f110(x37, x38, x40);
+  x41 = f105(x37, x38, x40);
   x42 = ld64_8(x39);
   x12 = (u64)((u64)x42 + 2u);
   if (x41) { x16 = x12; goto b5; } else goto b1;
@@ -10441,7 +10377,7 @@ b10:;
 b7:;
   x43 = ldp_8(FAR(x29, 8));
   x44 = ld64_8(FAR(x29, 16));
-  x45 = f107(x43, x44);
+  x45 = f102(x43, x44);
   x13 = x45.f1;
   if (((u8)((x45.f0) == 1u))) { x16 = x13; goto b5; } else goto b1;
 b5:;
@@ -10457,7 +10393,7 @@ b2:;
   st8_1(ADD(x26, 27), 2u);
   MEMSET(ADD(x26, 28), 0u, 13);
   st8_1(ADD(x26, 41), 1u);
-  f111(x24, x25, x22, x26, ((u16)(x17)));
+  f106(x24, x25, x22, x26, ((u16)(x17)));
   MEMCPY(x46, x23, 16);
   st8_1(x47, 255u);
   st8_1(ADD(x47, 1), 2u);
@@ -10465,7 +10401,7 @@ b2:;
   st8_1(ADD(x47, 15), 1u);
   x48 = ADD(x24, 8);
   x49 = ld64_8(x48);
-  f114(x4, x24);
+  f109(x4, x24);
   if (x28) goto b12; else goto b13;
 b13:;
   x51 = ADD(x50, 1);
@@ -10479,35 +10415,35 @@ b14:;
   x57 = ld8_1(x56);
   switch (x57) { case 0u: goto b15; case 1u: goto b16; case 2u: goto b17; case 3u: goto b18; case 4u: goto b19; case 5u: goto b20; case 6u: goto b21; case 7u: goto b22; default: goto b23; }
 b15:;
-  f115(1u, FAR(x56, 1), x24);
+  f110(1u, FAR(x56, 1), x24);
   goto b24;
 b16:;
-  f115(2u, FAR(x56, 1), x24);
+  f110(2u, FAR(x56, 1), x24);
   goto b24;
 b17:;
-  f116(FAR(x56, 4), x24);
+  f111(FAR(x56, 4), x24);
   goto b24;
 b18:;
   x58 = ldp_8(FAR(x56, 8));
   x59 = ld64_8(FAR(x56, 16));
-  f117(x58, x59, x24);
+  f112(x58, x59, x24);
   goto b24;
 b19:;
   x60 = ld32_4(FAR(x56, 4));
-  f118(x60, x24);
+  f113(x60, x24);
   goto b24;
 b20:;
   x61 = ld32_4(FAR(x56, 4));
   x62 = ldp_8(FAR(x56, 8));
   x63 = ld64_8(FAR(x56, 16));
-  f119(x61, x62, x63, x24);
+  f114(x61, x62, x63, x24);
   goto b24;
 b21:;
   x64 = ld32_4(FAR(x56, 4));
   x65 = ldp_8(FAR(x56, 8));
   x66 = ld64_8(FAR(x56, 16));
   st64_8(x50, 31u);
-  x67 = f108(x65, x66);
+  x67 = f103(x65, x66);
   x68 = (((u8)(((x67.f0)) & 1u)) ? (x67.f1) : 0u);
   x69 = (((u64)((u64)0u - x68)) & 7u);
   st8_1(x51, ((u8)(((u64)((u64)((u64)((u64)((u64)((u64)x68 + 8u)) + x69)) >> 3)))));
@@ -10515,7 +10451,7 @@ b21:;
   st8_1(x53, ((u8)(((u32)((u32)x64 >> 16)))));
   st8_1(x54, ((u8)(((u32)((u32)x64 >> 8)))));
   st8_1(x55, ((u8)(x64)));
-  x70 = f112(x24, x50, 8u);
+  x70 = f107(x24, x50, 8u);
   if (((u8)((x70) & 1u))) goto b25; else goto b26;
 b25:;
   TRAP();
@@ -10529,20 +10465,20 @@ b28:;
   x71 = FAR(x65, (u64)((u64)((u64)x21 * 24u)));
   x72 = ldp_8(x71);
   x73 = ld64_8(FAR(x71, 8));
-  x74 = f112(x24, x72, x73);
+  x74 = f107(x24, x72, x73);
   if (((u8)((x74) & 1u))) goto b29; else goto b30;
 b29:;
   TRAP();
   UNREACHABLE();
 b30:;
-  x75 = f112(x24, Q_OF(g0), 1u);
+  x75 = f107(x24, Q_OF(g0), 1u);
   if (((u8)((x75) & 1u))) goto b31; else goto b32;
 b31:;
   TRAP();
   UNREACHABLE();
 b27:;
   st64_8(x76, 0u);
-  x77 = f112(x24, x76, x69);
+  x77 = f107(x24, x76, x69);
   if (((u8)((x77) & 1u))) goto b33; else goto b34;
 b33:;
   TRAP();
@@ -10553,7 +10489,7 @@ b22:;
   x78 = ld8_1(FAR(x56, 1));
   x79 = ldp_8(FAR(x56, 8));
   x80 = ld64_8(FAR(x56, 16));
-  f120(x78, x79, x80, x24);
+  f115(x78, x79, x80, x24);
   goto b24;
 b23:;
   UNREACHABLE();
@@ -10567,7 +10503,7 @@ b12:;
   x81 = ldp_8(x24);
   x82 = ld64_8(x48);
   x83 = FAR(x81, (u64)x49);
-  x84 = f121(x46, x47, x83, ((u64)((u64)x82 - x49)));
+  x84 = f116(x46, x47, x83, ((u64)((u64)x82 - x49)));
   st8_1(FAR(x83, 2), ((u8)(((u16)((u32)x84 >> 8)))));
   st8_1(FAR(x83, 3), ((u8)(x84)));
   x85 = ld64_8(ADD(x24, 16));
@@ -10587,7 +10523,7 @@ b36:;
   return;
 }
 
-static void f130(Q x0)
+static void f125(Q x0)
 {
   u64 x2, x4, x9, x10, x12, x3, x1;
   Q x6, x8, x11, x13;
@@ -10645,7 +10581,7 @@ b15:;
   return;
 }
 
-static void f131(Q x0, u64 x1, Q x2)
+static void f126(Q x0, u64 x1, Q x2)
 {
   u8 x4;
   Q x5, x7, x9;
@@ -10653,24 +10589,24 @@ static void f131(Q x0, u64 x1, Q x2)
   _Alignas(1) u8 y0_[16];
   Q const x3 = Q_OF(y0_);
   MEMCPY(x3, x2, 16);
-  x4 = f132(x0, x1, x3);
+  x4 = f127(x0, x1, x3);
   if (x4) goto b0; else goto b1;
 b0:;
-  x5 = FAR(x0, 1576);
+  x5 = FAR(x0, 1552);
   x6 = ld64_8(x5);
   if (((u8)(x6 == UINT64_C(18446744073709551615)))) goto b2; else goto b3;
 b3:;
   st64_8(x5, ((u64)((u64)x6 + 1u)));
   goto b2;
 b1:;
-  x7 = FAR(x0, 1584);
+  x7 = FAR(x0, 1560);
   x8 = ld64_8(x7);
   if (((u8)(x8 == UINT64_C(18446744073709551615)))) goto b4; else goto b5;
 b5:;
   st64_8(x7, ((u64)((u64)x8 + 1u)));
   goto b4;
 b4:;
-  x9 = FAR(x0, 1576);
+  x9 = FAR(x0, 1552);
   x10 = ld64_8(x9);
   if (((u8)(x10 == UINT64_C(18446744073709551615)))) goto b2; else goto b6;
 b6:;
@@ -10680,7 +10616,7 @@ b2:;
   return;
 }
 
-static u8 f132(Q x0, u64 x1, Q x2)
+static u8 f127(Q x0, u64 x1, Q x2)
 {
   u64 x4, x6, x9, x11, x12, x3, x21, x5, x22, x23;
   u8 x8, x16, x19, x20, x7;
@@ -10692,7 +10628,7 @@ static u8 f132(Q x0, u64 x1, Q x2)
   x10 = ldp_8(FAR(x0, 448));
   x11 = ld64_8(FAR(x0, 456));
   x12 = (u64)((u64)x9 + x1);
-  x13 = f102(x10, x11, x2);
+  x13 = f97(x10, x11, x2);
   if (((u8)((x13.f0) == 0u))) goto b0; else goto b1;
 b0:;
   x14 = FAR(x10, (u64)((u64)((u64)(x13.f1) * 72u)));
@@ -10730,14 +10666,14 @@ b1:;
 b2:;
   { x8 = 1u; goto b8; }
 b9:;
-  f85(FAR(x0, 472), 1u, x22, 1u, x23, x24);
+  f80(FAR(x0, 472), 1u, x22, 1u, x23, x24);
   { x8 = x7; goto b8; }
 b8:;
   st64_8(FAR(x0, 64), x1);
   return x8;
 }
 
-static void f133(Q x0)
+static void f128(Q x0)
 {
   u64 x2, x4, x6, x7, x8, x9, x10, x11, x13, x1, x15, x17, x3;
   Q x5, x12, x14, x16, x18;
@@ -10781,29 +10717,25 @@ b0:;
   return;
 }
 
-static void f134(Q x0, Q x1, u64 x2, Q x3)
+static void f129(Q x0, Q x1, u64 x2, Q x3)
 {
-  u8 x4, x5, x12;
-  u64 x7, x11, x6;
-  Q x10;
-  _Alignas(8) u8 y0_[88];
+  u8 x4, x5, x11;
+  u64 x7, x10, x6;
+  Q x9;
+  _Alignas(8) u8 y0_[80];
   Q const x8 = Q_OF(y0_);
-  _Alignas(8) u8 y1_[80];
-  Q const x9 = Q_OF(y1_);
-  MEMSET(x8, 0u, 88);
-  st64_8(ADD(x9, 72), 0u);
-  x10 = FAR(x1, 64);
-  x11 = ld64_8(x10);
-  st64_8(x9, x2);
-  st8_1(ADD(x9, 8), 15u);
-  MEMSET(ADD(x9, 9), 0u, 7);
-  st64_8(ADD(x9, 16), x11);
-  MEMSET(ADD(x9, 24), 0u, 53);
-  f135(x8, x3, x9);
-  x12 = ld8_1(x8);
-  if (((u8)(x12 == 0u))) goto b0; else goto b1;
-b0:;
-  x6 = ld64_8(x10);
+  st64_8(ADD(x8, 72), 0u);
+  x9 = FAR(x1, 64);
+  x10 = ld64_8(x9);
+  st64_8(x8, x2);
+  st8_1(ADD(x8, 8), 15u);
+  MEMSET(ADD(x8, 9), 0u, 7);
+  st64_8(ADD(x8, 16), x10);
+  MEMSET(ADD(x8, 24), 0u, 53);
+  x11 = f130(x3, x8);
+  if (((u8)((x11) & 1u))) goto b0; else goto b1;
+b1:;
+  x6 = ld64_8(x9);
   MEMSET(FAR(x0, 10), 0u, 6);
   { x4 = 0u; x5 = 3u; x7 = x6; goto b2; }
 b2:;
@@ -10813,466 +10745,538 @@ b2:;
   st64_1(FAR(x0, 16), x7);
   st16_1(FAR(x0, 24), 0u);
   return;
-b1:;
-  f136(ADD(x8, 8));
+b0:;
   MEMSET(FAR(x0, 10), 0u, 6);
   { x4 = 1u; x5 = 0u; x7 = 0u; goto b2; }
 }
 
-static void f135(Q x0, Q x1, Q x2)
+static u8 f130(Q x0, Q x1)
 {
-  u64 x5, x7, x4, x3;
-  Q x8, x10;
-  u8 x9;
-  _Alignas(8) u8 y0_[80];
-  Q const x6 = Q_OF(y0_);
-  MEMCPY(x6, x2, 80);
-  x7 = ld64_8(FAR(x1, 16));
-  x8 = FAR(x1, 8);
-  x4 = ld64_8(x8);
-  if (((u8)(x7 == x4))) goto b0; else { x5 = x4; goto b1; }
+  u64 x4, x6, x8, x12, x13, x18, x3, x2, x24, x5;
+  u8 x7, x9, x15, x20;
+  Q x11, x19, x21, x22, x23, x25;
+  u16 x14;
+  _Alignas(1) u8 y0_[34];
+  Q const x16 = Q_OF(y0_);
+  _Alignas(1) u8 y1_[7];
+  Q const x10 = Q_OF(y1_);
+  _Alignas(1) u8 y2_[3];
+  Q const x17 = Q_OF(y2_);
+  x8 = ld64_1(x1);
+  x9 = ld8_1(ADD(x1, 8));
+  MEMCPY(x10, ADD(x1, 9), 7);
+  x11 = ldp_1(ADD(x1, 16));
+  x12 = ld64_1(ADD(x1, 24));
+  x13 = ld64_1(ADD(x1, 32));
+  x14 = ld16_1(ADD(x1, 40));
+  x15 = ld8_1(ADD(x1, 42));
+  MEMCPY(x16, ADD(x1, 43), 34);
+  MEMCPY(x17, ADD(x1, 77), 3);
+  x18 = ld64_8(FAR(x0, 40));
+  x19 = FAR(x0, 32);
+  x3 = ld64_8(x19);
+  if (((u8)(x18 == x3))) goto b0; else { x4 = x3; goto b1; }
 b0:;
-  x9 = f83(x1, 1u);
-  if (x9) goto b2; else goto b3;
+  x20 = f78(FAR(x0, 24), 1u);
+  if (x20) goto b2; else goto b3;
 b2:;
-  x3 = ld64_8(x8);
-  { x5 = x3; goto b1; }
-b4:;
-  return;
-b3:;
-  st8_1(x0, 1u);
-  MEMCPY(FAR(x0, 8), x6, 80);
-  goto b4;
+  x2 = ld64_8(x19);
+  { x4 = x2; goto b1; }
 b1:;
-  x10 = ldp_8(x1);
-  MEMCPY(ADD(x10, (u64)((u64)((u64)x5 * 80u))), x6, 80);
-  st64_8(x8, ((u64)((u64)x5 + 1u)));
-  st8_1(x0, 0u);
-  MEMSET(FAR(x0, 8), 0u, 80);
-  goto b4;
-}
-
-static void f136(Q x0)
-{
-  u64 x2, x5, x6, x8, x1;
-  u8 x3;
-  Q x4, x7, x9;
-  x3 = ld8_1(ADD(x0, 8));
-  x4 = ldp_1(ADD(x0, 16));
-  x5 = ld64_1(ADD(x0, 24));
-  x6 = ld64_1(ADD(x0, 32));
-  switch (x3) { case 0u: goto b0; case 1u: goto b1; case 2u: goto b1; case 3u: goto b2; case 4u: goto b1; case 5u: goto b1; case 6u: goto b1; case 7u: goto b1; case 8u: goto b1; case 9u: goto b3; case 10u: goto b1; case 11u: goto b1; case 12u: goto b4; case 13u: goto b1; case 14u: goto b1; case 15u: goto b1; default: goto b5; }
-b0:;
-  if (((u8)(x6 == 0u))) goto b1; else goto b6;
-b6:;
-  os_rattle_dealloc(x4);
-  goto b1;
-b2:;
-  if (((u8)(x6 == 0u))) goto b1; else goto b7;
-b7:;
-  os_rattle_dealloc(x4);
-  goto b1;
+  x21 = ldp_8(FAR(x0, 24));
+  x22 = ADD(x21, (u64)((u64)((u64)x4 * 80u)));
+  st64_1(x22, x8);
+  st8_1(ADD(x22, 8), x9);
+  MEMCPY(ADD(x22, 9), x10, 7);
+  stp_1(ADD(x22, 16), x11);
+  st64_1(ADD(x22, 24), x12);
+  st64_1(ADD(x22, 32), x13);
+  st16_1(ADD(x22, 40), x14);
+  st8_1(ADD(x22, 42), x15);
+  MEMCPY(ADD(x22, 43), x16, 34);
+  MEMCPY(ADD(x22, 77), x17, 3);
+  st64_8(x19, ((u64)((u64)x4 + 1u)));
+  { x7 = 0u; goto b4; }
 b3:;
-  if (((u8)(x6 == 0u))) goto b1; else goto b8;
-b8:;
-  os_rattle_dealloc(x4);
-  goto b1;
-b4:;
-  if (((u8)(x5 == 0u))) goto b9; else { x2 = 0u; goto b10; }
-b10:;
-  x7 = ADD(x4, (u64)((u64)((u64)x2 * 24u)));
-  x8 = ld64_1(ADD(x7, 16));
-  if (((u8)(x8 == 0u))) goto b11; else goto b12;
-b12:;
-  x9 = ldp_1(x7);
-  os_rattle_dealloc(x9);
-  goto b11;
-b11:;
-  x1 = (u64)((u64)x2 + 1u);
-  if (((u8)(x1 == x5))) goto b9; else { x2 = x1; goto b10; }
-b9:;
-  if (((u8)(x6 == 0u))) goto b1; else goto b13;
-b13:;
-  os_rattle_dealloc(x4);
-  goto b1;
+  switch (x9) { case 0u: goto b5; case 3u: goto b6; case 9u: goto b7; case 12u: goto b8; case 1u: { x7 = 1u; goto b4; } case 2u: { x7 = 1u; goto b4; } case 4u: { x7 = 1u; goto b4; } case 5u: { x7 = 1u; goto b4; } case 6u: { x7 = 1u; goto b4; } case 7u: { x7 = 1u; goto b4; } case 8u: { x7 = 1u; goto b4; } case 10u: { x7 = 1u; goto b4; } case 11u: { x7 = 1u; goto b4; } case 13u: { x7 = 1u; goto b4; } case 14u: { x7 = 1u; goto b4; } case 15u: { x7 = 1u; goto b4; } default: goto b9; }
 b5:;
+  if (((u8)(x13 == 0u))) { x7 = 1u; goto b4; } else goto b10;
+b10:;
+  os_rattle_dealloc(x11);
+  { x7 = 1u; goto b4; }
+b6:;
+  if (((u8)(x13 == 0u))) { x7 = 1u; goto b4; } else goto b11;
+b11:;
+  os_rattle_dealloc(x11);
+  { x7 = 1u; goto b4; }
+b7:;
+  if (((u8)(x13 == 0u))) { x7 = 1u; goto b4; } else goto b12;
+b12:;
+  os_rattle_dealloc(x11);
+  { x7 = 1u; goto b4; }
+b8:;
+  if (((u8)(x12 == 0u))) goto b13; else { x6 = 0u; goto b14; }
+b14:;
+  x23 = ADD(x11, (u64)((u64)((u64)x6 * 24u)));
+  x24 = ld64_1(ADD(x23, 16));
+  if (((u8)(x24 == 0u))) goto b15; else goto b16;
+b16:;
+  x25 = ldp_1(x23);
+  os_rattle_dealloc(x25);
+  goto b15;
+b15:;
+  x5 = (u64)((u64)x6 + 1u);
+  if (((u8)(x5 == x12))) goto b13; else { x6 = x5; goto b14; }
+b13:;
+  if (((u8)(x13 == 0u))) { x7 = 1u; goto b4; } else goto b17;
+b17:;
+  os_rattle_dealloc(x11);
+  { x7 = 1u; goto b4; }
+b4:;
+  return x7;
+b9:;
   UNREACHABLE();
-b1:;
-  return;
 }
 
-static void f137(Q x0, Q x1, u64 x2, Q x3, u64 x4, Q x5)
+static void f131(Q x0, Q x1, u64 x2, Q x3, u64 x4, Q x5)
 {
-  u8 x8, x10, x15, x17, x19, x20, x23, x25, x27, x28, x30, x31, x32, x33, x36, x37, x38, x29, x47, x6, x7, x52, x53, x55, x56, x9, x57, x60, x61, x62, x63, x64, x65, x73, x74, x16, x18, x14, x82, x13, x87, x88, x90, x102, x103, x108, x109, x112, x115, x117, x118, x123, x124, x22, x127, x132, x21, x135, x24, x26;
-  u64 x12, x49, x50, x11, x67, x68, x70, x71, x78, x79, x80, x81, x83, x96, x97, x106, x107, x110, x111, x113, x114, x120, x121, x128, x129, x130, x131;
-  Q x40, x44, x45, x46, x58, x69, x84, x85, x89, x91, x93, x98, x99, x100, x104;
-  u128 x51, x122;
-  u32 x92, x94;
+  u8 x8, x10, x13, x14, x16, x18, x19, x20, x21, x22, x24, x26, x27, x28, x29, x30, x31, x34, x35, x36, x38, x47, x6, x7, x52, x53, x55, x56, x9, x57, x60, x61, x62, x63, x64, x65, x73, x74, x15, x17, x76, x83, x85, x90, x91, x93, x106, x107, x112, x113, x116, x119, x121, x122, x127, x128, x130, x132, x137, x140, x141, x23, x25;
+  u64 x12, x49, x50, x11, x67, x68, x70, x71, x79, x80, x81, x82, x86, x100, x101, x110, x111, x114, x115, x117, x118, x124, x125, x133, x134, x135, x136;
+  Q x39, x44, x45, x46, x58, x69, x87, x88, x92, x94, x96, x102, x103, x104, x108;
+  u128 x51, x126;
+  u32 x95, x97;
   _Alignas(8) u8 y0_[96];
-  Q const x34 = Q_OF(y0_);
+  Q const x32 = Q_OF(y0_);
   _Alignas(8) u8 y1_[88];
-  Q const x86 = Q_OF(y1_);
-  _Alignas(8) u8 y2_[72];
-  Q const x134 = Q_OF(y2_);
-  Q const x125 = Q_OF(y2_);
+  Q const x89 = Q_OF(y1_);
+  _Alignas(8) u8 y2_[80];
+  Q const x139 = Q_OF(y2_);
+  Q const x129 = Q_OF(y2_);
+  Q const x84 = Q_OF(y2_);
   Q const x75 = Q_OF(y2_);
-  Q const x39 = Q_OF(y2_);
+  Q const x37 = Q_OF(y2_);
   Q const x66 = Q_OF(y2_);
-  Q const x133 = Q_OF(y2_);
-  _Alignas(8) u8 y3_[72];
-  Q const x42 = Q_OF(y3_);
-  _Alignas(8) u8 y4_[64];
-  Q const x43 = Q_OF(y4_);
+  Q const x138 = Q_OF(y2_);
+  _Alignas(8) u8 y3_[64];
+  Q const x43 = Q_OF(y3_);
+  _Alignas(1) u8 y4_[33];
+  Q const x42 = Q_OF(y4_);
   _Alignas(8) u8 y5_[24];
-  Q const x77 = Q_OF(y5_);
+  Q const x78 = Q_OF(y5_);
   _Alignas(1) u8 y6_[17];
-  Q const x126 = Q_OF(y6_);
+  Q const x131 = Q_OF(y6_);
   _Alignas(1) u8 y7_[17];
   Q const x72 = Q_OF(y7_);
   _Alignas(8) u8 y8_[16];
-  Q const x116 = Q_OF(y8_);
+  Q const x120 = Q_OF(y8_);
   _Alignas(8) u8 y9_[16];
-  Q const x105 = Q_OF(y9_);
+  Q const x109 = Q_OF(y9_);
   _Alignas(1) u8 y10_[16];
-  Q const x101 = Q_OF(y10_);
+  Q const x105 = Q_OF(y10_);
   _Alignas(8) u8 y11_[16];
-  Q const x119 = Q_OF(y11_);
+  Q const x123 = Q_OF(y11_);
   _Alignas(1) u8 y12_[16];
   Q const x59 = Q_OF(y12_);
   _Alignas(8) u8 y13_[16];
   Q const x48 = Q_OF(y13_);
   _Alignas(2) u8 y14_[16];
-  Q const x41 = Q_OF(y14_);
+  Q const x40 = Q_OF(y14_);
   _Alignas(2) u8 y15_[16];
-  Q const x95 = Q_OF(y15_);
+  Q const x41 = Q_OF(y15_);
   _Alignas(2) u8 y16_[16];
-  Q const x35 = Q_OF(y16_);
-  _Alignas(1) u8 y17_[6];
-  Q const x54 = Q_OF(y17_);
-  _Alignas(1) u8 y18_[1];
-  Q const x76 = Q_OF(y18_);
-  MEMSET(x34, 0u, 96);
-  MEMSET(x35, 0u, 16);
-  x36 = ld8_1(x1);
-  f6(x34, x3, x4, x36);
-  x37 = ld8_1(x34);
-  switch (x37) { case 2u: goto b0; case 1u: goto b1; case 0u: goto b2; default: goto b3; }
+  Q const x98 = Q_OF(y16_);
+  _Alignas(2) u8 y17_[16];
+  Q const x99 = Q_OF(y17_);
+  _Alignas(2) u8 y18_[16];
+  Q const x33 = Q_OF(y18_);
+  _Alignas(1) u8 y19_[6];
+  Q const x54 = Q_OF(y19_);
+  _Alignas(1) u8 y20_[1];
+  Q const x77 = Q_OF(y20_);
+  MEMSET(x32, 0u, 96);
+  MEMSET(x33, 0u, 16);
+  x34 = ld8_1(x1);
+  f6(x32, x3, x4, x34);
+  x35 = ld8_1(x32);
+  switch (x35) { case 2u: goto b0; case 1u: goto b1; case 0u: goto b2; default: goto b3; }
 b0:;
-  x38 = ld8_1(ADD(x34, 1));
-  MEMSET(x39, 0u, 72);
-  st8_1(x39, 2u);
-  st8_1(ADD(x39, 1), x38);
-  x29 = f248(x1, x2, x39, x5);
-  MEMSET(x35, 0u, 16);
-  { x30 = x29; x31 = 0u; x32 = 0u; x33 = 0u; goto b4; }
+  x36 = ld8_1(ADD(x32, 1));
+  MEMSET(ADD(x37, 10), 0u, 32);
+  st64_8(ADD(x37, 72), 0u);
+  st8_1(ADD(x37, 9), x36);
+  MEMSET(ADD(x37, 43), 0u, 34);
+  st64_8(x37, x2);
+  st8_1(ADD(x37, 8), 2u);
+  st8_1(ADD(x37, 42), 0u);
+  x38 = f130(x5, x37);
+  if (((u8)((x38) & 1u))) goto b4; else goto b5;
+b5:;
+  st64_8(FAR(x1, 64), x2);
+  MEMSET(x33, 0u, 16);
+  { x28 = 0u; x29 = 0u; x30 = 0u; x31 = 0u; goto b6; }
+b4:;
+  MEMSET(x33, 0u, 16);
+  { x28 = 1u; x29 = 0u; x30 = 0u; x31 = 0u; goto b6; }
 b1:;
-  x40 = ADD(x34, 8);
+  x39 = ADD(x32, 8);
+  MEMSET(x40, 0u, 16);
   MEMSET(x41, 0u, 16);
-  MEMSET(x42, 0u, 72);
-  MEMCPY(x43, x40, 64);
+  MEMSET(x42, 0u, 33);
+  MEMCPY(x43, x39, 64);
   x44 = ADD(x43, 26);
   x45 = FAR(x1, 280);
   x46 = FAR(x1, 286);
-  x47 = f138(x45, 1u, x46);
-  if (x47) goto b5; else goto b6;
-b6:;
+  x47 = f132(x45, 1u, x46);
+  if (x47) goto b7; else goto b8;
+b8:;
   x6 = ld8_1(x1);
-  { x8 = x6; goto b7; }
-b5:;
-  MEMCPY(x48, ADD(x34, 34), 16);
+  { x8 = x6; goto b9; }
+b7:;
+  MEMCPY(x48, ADD(x32, 34), 16);
   x49 = ld64_8(x48);
   x50 = ld64_8(ADD(x48, 8));
   x51 = u128_or(u128_shl(u128_of(0, x50), (unsigned)u128_low(u128_of(0u, 64u)) & 127u), u128_of(0, x49));
-  if (((u8)u128_eq(x51, u128_of(UINT64_C(72057594037927936), 767u)))) goto b8; else goto b9;
-b9:;
+  if (((u8)u128_eq(x51, u128_of(UINT64_C(72057594037927936), 767u)))) goto b10; else goto b11;
+b11:;
   x7 = ld8_1(x1);
-  if (((u8)(((u8)u128_eq(x51, u128_of(UINT64_C(144115188075855872), 767u))) & ((u8)(x7 == 1u))))) goto b8; else goto b10;
-b8:;
-  goto b11;
+  if (((u8)(((u8)u128_eq(x51, u128_of(UINT64_C(144115188075855872), 767u))) & ((u8)(x7 == 1u))))) goto b10; else goto b12;
 b10:;
-  x52 = f139(x45, 1u, x48);
-  if (x52) goto b11; else { x8 = x7; goto b7; }
-b7:;
-  if (((u8)(x8 == 0u))) goto b12; else goto b13;
-b13:;
+  goto b13;
+b12:;
+  x52 = f133(x45, 1u, x48);
+  if (x52) goto b13; else { x8 = x7; goto b9; }
+b9:;
+  if (((u8)(x8 == 0u))) goto b14; else goto b15;
+b15:;
   x53 = ld8_1(FAR(x1, 34));
-  if (((u8)((x53) & 1u))) goto b14; else goto b15;
-b14:;
-  MEMCPY(x54, FAR(x1, 1), 6);
-  if (((u8)(x4 > 5u))) { x10 = 0u; x12 = 0u; goto b16; } else goto b17;
+  if (((u8)((x53) & 1u))) goto b16; else goto b17;
 b16:;
+  MEMCPY(x54, FAR(x1, 1), 6);
+  if (((u8)(x4 > 5u))) { x10 = 0u; x12 = 0u; goto b18; } else goto b19;
+b18:;
   x55 = ld8_1(FAR(x3, (u64)x12));
   x56 = ld8_1(FAR(x54, (u64)x12));
   x9 = (u8)(x10 | ((u8)(x55 != x56)));
   x11 = (u64)((u64)x12 + 1u);
-  if (((u8)(x11 == 4u))) goto b18; else { x10 = x9; x12 = x11; goto b16; }
-b18:;
-  if (x9) goto b17; else goto b19;
-b17:;
-  goto b12;
-b19:;
-  x57 = f141(x3, 6u, x54, 6u);
-  if (x57) goto b15; else goto b12;
-b15:;
-  x58 = ADD(x43, 10);
-  MEMCPY(x59, ADD(x34, 18), 16);
-  x60 = ld8_1(FAR(x1, 33));
-  if (((u8)((x60) & 1u))) goto b20; else goto b21;
-b21:;
-  goto b22;
+  if (((u8)(x11 == 4u))) goto b20; else { x10 = x9; x12 = x11; goto b18; }
 b20:;
-  x61 = f138(x45, 0u, x59);
-  if (x61) goto b12; else goto b22;
-b22:;
-  x62 = f138(x45, 1u, x46);
-  if (x62) goto b23; else goto b12;
+  if (x9) goto b19; else goto b21;
+b19:;
+  goto b14;
+b21:;
+  x57 = f135(x3, 6u, x54, 6u);
+  if (x57) goto b17; else goto b14;
+b17:;
+  x58 = ADD(x43, 10);
+  MEMCPY(x59, ADD(x32, 18), 16);
+  x60 = ld8_1(FAR(x1, 33));
+  if (((u8)((x60) & 1u))) goto b22; else goto b23;
 b23:;
-  x63 = f142(x58);
-  if (x63) goto b12; else goto b24;
+  goto b24;
+b22:;
+  x61 = f132(x45, 0u, x59);
+  if (x61) goto b14; else goto b24;
 b24:;
-  x64 = f142(x44);
-  if (x64) goto b12; else goto b25;
+  x62 = f132(x45, 1u, x46);
+  if (x62) goto b25; else goto b14;
 b25:;
-  x65 = f138(x45, 0u, x44);
-  if (x65) goto b12; else goto b26;
+  x63 = f136(x58);
+  if (x63) goto b14; else goto b26;
 b26:;
+  x64 = f136(x44);
+  if (x64) goto b14; else goto b27;
+b27:;
+  x65 = f132(x45, 0u, x44);
+  if (x65) goto b14; else goto b28;
+b28:;
   MEMSET(x66, 0u, 32);
   x67 = ld64_8(ADD(x43, 56));
   x68 = umin64(x4, 14u);
   x69 = FAR(x3, (u64)x68);
   x70 = uadd_sat64(x67, 40u);
   x71 = umin64(((u64)((u64)x4 - x68)), x70);
-  f143(x72, FAR(x1, 1312), x40, 0u);
+  f137(x72, FAR(x1, 1312), x39, 0u);
   x73 = ld8_1(x72);
-  switch (x73) { case 2u: goto b27; case 3u: goto b28; case 0u: goto b29; case 1u: goto b30; default: goto b31; }
-b27:;
-  f147(x66, x1, x2, 3u, x40, x5);
-  goto b32;
-b28:;
-  f147(x66, x1, x2, 4u, x40, x5);
-  goto b32;
+  switch (x73) { case 2u: goto b29; case 3u: goto b30; case 0u: goto b31; case 1u: goto b32; default: goto b33; }
 b29:;
-  f150(x66, x1, x2, x44, 0u, x40, x69, x71, x5);
-  goto b32;
+  f141(x66, x1, x2, 3u, x39, x5);
+  goto b34;
 b30:;
-  f150(x66, x1, x2, ADD(x72, 1), 0u, x40, x69, x71, x5);
-  goto b32;
+  f141(x66, x1, x2, 4u, x39, x5);
+  goto b34;
 b31:;
-  UNREACHABLE();
+  f145(x66, x1, x2, x44, 0u, x39, x69, x71, x5);
+  goto b34;
 b32:;
-  x74 = ld8_1(x66);
-  x16 = ld8_1(ADD(x66, 8));
-  x18 = ld8_1(ADD(x66, 9));
-  MEMCPY(x41, ADD(x66, 10), 16);
-  if (((u8)(x74 == 0u))) goto b33; else goto b34;
+  f145(x66, x1, x2, ADD(x72, 1), 0u, x39, x69, x71, x5);
+  goto b34;
 b33:;
-  MEMCPY(x35, x41, 16);
-  { x15 = 0u; x17 = x16; x19 = x18; x20 = 1u; goto b35; }
+  UNREACHABLE();
 b34:;
-  MEMSET(x35, 0u, 16);
-  { x15 = 1u; x17 = 0u; x19 = 0u; x20 = 0u; goto b35; }
-b12:;
-  MEMSET(x75, 0u, 72);
-  st8_1(x75, 2u);
-  st8_1(ADD(x75, 1), 18u);
-  x14 = f248(x1, x2, x75, x5);
-  MEMSET(x35, 0u, 16);
-  { x15 = x14; x17 = 0u; x19 = 0u; x20 = 0u; goto b35; }
-b11:;
-  stp_8(x77, x76);
-  MEMSET(ADD(x77, 8), 0u, 16);
-  x78 = ld64_8(ADD(x43, 56));
-  x79 = umin64(x4, 14u);
-  x80 = uadd_sat64(x78, 40u);
-  x81 = umin64(((u64)((u64)x4 - x79)), x80);
-  x82 = f112(x77, FAR(x3, (u64)x79), x81);
-  if (((u8)((x82) & 1u))) goto b36; else goto b37;
-b37:;
-  st8_1(x42, 3u);
-  MEMCPY(ADD(x42, 8), x77, 24);
-  x13 = f248(x1, x2, x42, x5);
-  MEMSET(x35, 0u, 16);
-  { x15 = x13; x17 = 0u; x19 = 0u; x20 = 0u; goto b35; }
-b36:;
-  x83 = ld64_8(ADD(x77, 16));
-  if (((u8)(x83 == 0u))) goto b38; else goto b39;
-b39:;
-  x84 = ldp_8(x77);
-  os_rattle_dealloc(x84);
-  goto b38;
-b38:;
-  MEMSET(x35, 0u, 16);
-  { x15 = 1u; x17 = 0u; x19 = 0u; x20 = 0u; goto b35; }
+  x74 = ld8_1(x66);
+  x15 = ld8_1(ADD(x66, 8));
+  x17 = ld8_1(ADD(x66, 9));
+  MEMCPY(x41, ADD(x66, 10), 16);
+  if (((u8)(x74 == 0u))) goto b35; else goto b36;
 b35:;
-  { x30 = x15; x31 = x17; x32 = x19; x33 = x20; goto b4; }
-b2:;
-  x85 = ADD(x34, 8);
-  MEMCPY(x86, x85, 88);
-  x87 = ld8_1(FAR(x1, 32));
-  x88 = ld8_1(ADD(x86, 32));
-  if ((((u8)(x88 == 1u)) ? ((u8)((x87) & 1u)) : 0u)) goto b40; else goto b41;
+  MEMCPY(x33, x41, 16);
+  { x14 = 0u; x16 = x15; x18 = x17; x19 = 1u; goto b37; }
+b36:;
+  MEMSET(x33, 0u, 16);
+  { x14 = 1u; x16 = 0u; x18 = 0u; x19 = 0u; goto b37; }
+b14:;
+  MEMSET(ADD(x75, 10), 0u, 32);
+  st64_8(ADD(x75, 72), 0u);
+  st8_1(ADD(x75, 9), 18u);
+  MEMSET(ADD(x75, 43), 0u, 34);
+  st64_8(x75, x2);
+  st8_1(ADD(x75, 8), 2u);
+  st8_1(ADD(x75, 42), 0u);
+  x76 = f130(x5, x75);
+  if (((u8)((x76) & 1u))) goto b38; else goto b39;
+b39:;
+  st64_8(FAR(x1, 64), x2);
+  MEMSET(x40, 0u, 16);
+  { x13 = 0u; goto b40; }
+b38:;
+  MEMSET(x40, 0u, 16);
+  { x13 = 1u; goto b40; }
 b40:;
-  x89 = ADD(x86, 36);
-  x90 = ld8_1(x89);
-  st8_1(x89, (((u8)(x90 < 32u)) ? 0u : x90));
-  x91 = ADD(x86, 44);
-  x92 = ld32_4(x91);
-  st32_4(x91, (((u8)(((u32)((u32)x92 + 4291367295u)) < 4291368295u)) ? 0u : x92));
-  x93 = ADD(x86, 48);
-  x94 = ld32_4(x93);
-  st32_4(x93, (((u8)(((u32)((u32)x94 + 4294937295u)) < 4294937395u)) ? 0u : x94));
-  goto b41;
-b41:;
-  MEMSET(x95, 0u, 16);
-  x96 = ld64_8(x86);
-  x97 = ld64_8(ADD(x86, 8));
-  x98 = ADD(x34, 24);
-  x99 = FAR(x1, 280);
-  if (((u8)(x88 == 2u))) goto b42; else goto b43;
+  MEMCPY(x33, x40, 16);
+  { x14 = x13; x16 = 0u; x18 = 0u; x19 = 0u; goto b37; }
+b13:;
+  stp_8(x78, x77);
+  MEMSET(ADD(x78, 8), 0u, 16);
+  x79 = ld64_8(ADD(x43, 56));
+  x80 = umin64(x4, 14u);
+  x81 = uadd_sat64(x79, 40u);
+  x82 = umin64(((u64)((u64)x4 - x80)), x81);
+  x83 = f107(x78, FAR(x3, (u64)x80), x82);
+  if (((u8)((x83) & 1u))) goto b41; else goto b42;
 b42:;
-  x100 = ADD(x86, 33);
-  MEMCPY(x101, x100, 16);
-  x102 = f138(x99, 1u, x100);
-  if (x102) goto b44; else goto b45;
-b44:;
-  goto b43;
-b45:;
-  x103 = f138(x99, 0u, x101);
-  if (x103) goto b46; else goto b47;
-b47:;
-  goto b48;
+  MEMCPY(ADD(x42, 7), x78, 24);
+  st64_8(ADD(x84, 72), 0u);
+  MEMCPY(ADD(x84, 9), x42, 33);
+  MEMSET(ADD(x84, 43), 0u, 34);
+  st64_8(x84, x2);
+  st8_1(ADD(x84, 8), 3u);
+  st8_1(ADD(x84, 42), 0u);
+  x85 = f130(x5, x84);
+  if (((u8)((x85) & 1u))) goto b43; else goto b44;
+b41:;
+  x86 = ld64_8(ADD(x78, 16));
+  if (((u8)(x86 == 0u))) goto b45; else goto b46;
 b46:;
-  if (((u8)((x97 | x96) == 0u))) goto b43; else goto b48;
+  x87 = ldp_8(x78);
+  os_rattle_dealloc(x87);
+  goto b45;
+b45:;
+  MEMSET(x33, 0u, 16);
+  { x14 = 1u; x16 = 0u; x18 = 0u; x19 = 0u; goto b37; }
+b44:;
+  st64_8(FAR(x1, 64), x2);
+  MEMSET(x33, 0u, 16);
+  { x14 = 0u; x16 = 0u; x18 = 0u; x19 = 0u; goto b37; }
 b43:;
-  x104 = FAR(x1, 286);
-  MEMCPY(x105, x104, 16);
-  x106 = ld64_8(x105);
-  x107 = ld64_8(ADD(x105, 8));
-  x108 = f138(x99, 1u, x104);
-  if (x108) goto b49; else goto b50;
-b49:;
-  goto b51;
-b50:;
-  x109 = f138(x99, 0u, x105);
-  if (x109) goto b52; else goto b53;
-b52:;
-  switch (x88) { case 2u: goto b54; case 3u: goto b55; case 0u: goto b53; case 1u: goto b53; case 4u: goto b53; default: goto b56; }
-b54:;
-  x110 = ld64_1(ADD(x86, 33));
-  x111 = ld64_1(ADD(x86, 41));
-  x112 = (u8)u128_eq(u128_or(u128_shl(u128_of(0, x111), (unsigned)u128_low(u128_of(0u, 64u)) & 127u), u128_of(0, x110)), u128_or(u128_shl(u128_of(0, x107), (unsigned)u128_low(u128_of(0u, 64u)) & 127u), u128_of(0, x106)));
-  if (x112) goto b57; else goto b53;
-b57:;
-  if (((u8)((x97 | x96) == 0u))) goto b51; else goto b48;
-b56:;
-  UNREACHABLE();
-b53:;
+  MEMSET(x33, 0u, 16);
+  { x14 = 1u; x16 = 0u; x18 = 0u; x19 = 0u; goto b37; }
+b37:;
+  { x28 = x14; x29 = x16; x30 = x18; x31 = x19; goto b6; }
+b2:;
+  x88 = ADD(x32, 8);
+  MEMCPY(x89, x88, 88);
+  x90 = ld8_1(FAR(x1, 32));
+  x91 = ld8_1(ADD(x89, 32));
+  if ((((u8)(x91 == 1u)) ? ((u8)((x90) & 1u)) : 0u)) goto b47; else goto b48;
+b47:;
+  x92 = ADD(x89, 36);
+  x93 = ld8_1(x92);
+  st8_1(x92, (((u8)(x93 < 32u)) ? 0u : x93));
+  x94 = ADD(x89, 44);
+  x95 = ld32_4(x94);
+  st32_4(x94, (((u8)(((u32)((u32)x95 + 4291367295u)) < 4291368295u)) ? 0u : x95));
+  x96 = ADD(x89, 48);
+  x97 = ld32_4(x96);
+  st32_4(x96, (((u8)(((u32)((u32)x97 + 4294937295u)) < 4294937395u)) ? 0u : x97));
   goto b48;
-b55:;
-  x113 = ld64_4(ADD(x86, 36));
-  x114 = ld64_4(ADD(x86, 44));
-  x115 = (u8)u128_eq(u128_or(u128_shl(u128_of(0, x114), (unsigned)u128_low(u128_of(0u, 64u)) & 127u), u128_of(0, x113)), u128_or(u128_shl(u128_of(0, x107), (unsigned)u128_low(u128_of(0u, 64u)) & 127u), u128_of(0, x106)));
-  if (x115) goto b51; else goto b48;
-b51:;
-  st64_8(x116, x96);
-  st64_8(ADD(x116, 8), x97);
-  x117 = ld8_1(FAR(x1, 33));
-  if (((u8)((x117) & 1u))) goto b58; else goto b59;
-b59:;
-  goto b60;
-b58:;
-  x118 = f138(x99, 1u, x116);
-  if (x118) goto b48; else goto b60;
-b60:;
-  MEMCPY(x119, x98, 16);
-  x120 = ld64_8(x119);
-  x121 = ld64_8(ADD(x119, 8));
-  x122 = u128_or(u128_shl(u128_of(0, x121), (unsigned)u128_low(u128_of(0u, 64u)) & 127u), u128_of(0, x120));
-  if (((u8)u128_eq(x122, u128_of(UINT64_C(72057594037927936), 767u)))) goto b61; else goto b62;
-b62:;
-  x123 = ld8_1(x1);
-  if (((u8)(((u8)u128_eq(x122, u128_of(UINT64_C(144115188075855872), 767u))) & ((u8)(x123 == 1u))))) goto b61; else goto b63;
-b61:;
-  goto b64;
-b63:;
-  x124 = f139(x99, 0u, x119);
-  if (x124) goto b64; else goto b48;
 b48:;
-  MEMSET(x125, 0u, 72);
-  st8_1(x125, 2u);
-  st8_1(ADD(x125, 1), 18u);
-  x22 = f248(x1, x2, x125, x5);
-  MEMSET(x35, 0u, 16);
-  { x23 = x22; x25 = 0u; x27 = 0u; x28 = 0u; goto b65; }
+  MEMSET(x98, 0u, 16);
+  MEMSET(x99, 0u, 16);
+  x100 = ld64_8(x89);
+  x101 = ld64_8(ADD(x89, 8));
+  x102 = ADD(x32, 24);
+  x103 = FAR(x1, 280);
+  if (((u8)(x91 == 2u))) goto b49; else goto b50;
+b49:;
+  x104 = ADD(x89, 33);
+  MEMCPY(x105, x104, 16);
+  x106 = f132(x103, 1u, x104);
+  if (x106) goto b51; else goto b52;
+b51:;
+  goto b50;
+b52:;
+  x107 = f132(x103, 0u, x105);
+  if (x107) goto b53; else goto b54;
+b54:;
+  goto b55;
+b53:;
+  if (((u8)((x101 | x100) == 0u))) goto b50; else goto b55;
+b50:;
+  x108 = FAR(x1, 286);
+  MEMCPY(x109, x108, 16);
+  x110 = ld64_8(x109);
+  x111 = ld64_8(ADD(x109, 8));
+  x112 = f132(x103, 1u, x108);
+  if (x112) goto b56; else goto b57;
+b56:;
+  goto b58;
+b57:;
+  x113 = f132(x103, 0u, x109);
+  if (x113) goto b59; else goto b60;
+b59:;
+  switch (x91) { case 2u: goto b61; case 3u: goto b62; case 0u: goto b60; case 1u: goto b60; case 4u: goto b60; default: goto b63; }
+b61:;
+  x114 = ld64_1(ADD(x89, 33));
+  x115 = ld64_1(ADD(x89, 41));
+  x116 = (u8)u128_eq(u128_or(u128_shl(u128_of(0, x115), (unsigned)u128_low(u128_of(0u, 64u)) & 127u), u128_of(0, x114)), u128_or(u128_shl(u128_of(0, x111), (unsigned)u128_low(u128_of(0u, 64u)) & 127u), u128_of(0, x110)));
+  if (x116) goto b64; else goto b60;
 b64:;
-  if (((u8)(x88 == 4u))) goto b66; else goto b67;
-b66:;
-  f170(x126, x1, x2, ADD(x86, 49));
-  x127 = ld8_1(x126);
-  if (((u8)(x127 == 1u))) goto b68; else goto b69;
-b69:;
-  goto b70;
-b68:;
-  x128 = ld64_8(ADD(x34, 16));
-  x129 = ld64_8(x85);
-  x130 = ld64_1(ADD(x126, 9));
-  x131 = ld64_1(ADD(x126, 1));
-  x132 = (u8)u128_eq(u128_or(u128_shl(u128_of(0, x130), (unsigned)u128_low(u128_of(0u, 64u)) & 127u), u128_of(0, x131)), u128_or(u128_shl(u128_of(0, x128), (unsigned)u128_low(u128_of(0u, 64u)) & 127u), u128_of(0, x129)));
-  if (x132) goto b71; else goto b70;
-b71:;
-  MEMSET(x133, 0u, 32);
-  f228(x133, x1, x2, x86, ADD(x86, 33), x5);
-  goto b72;
-b70:;
-  MEMSET(x134, 0u, 72);
-  st8_1(x134, 2u);
-  st8_1(ADD(x134, 1), 19u);
-  x21 = f248(x1, x2, x134, x5);
-  MEMSET(x35, 0u, 16);
-  { x23 = x21; x25 = 0u; x27 = 0u; x28 = 0u; goto b65; }
-b67:;
-  MEMSET(x133, 0u, 32);
-  switch (x88) { case 0u: goto b73; case 1u: goto b74; case 2u: goto b75; case 3u: goto b76; default: goto b77; }
-b73:;
-  f174(x133, x1, x2, x86, x5);
-  goto b72;
-b74:;
-  f189(x133, x1, x2, x86, ADD(x86, 36), x5);
-  goto b72;
-b75:;
-  f224(x133, x1, x2, x86, ADD(x86, 33), x5);
-  goto b72;
-b76:;
-  f227(x133, x1, x2, x86, ADD(x86, 33), x5);
-  goto b72;
-b77:;
+  if (((u8)((x101 | x100) == 0u))) goto b58; else goto b55;
+b63:;
   UNREACHABLE();
-b72:;
-  x135 = ld8_1(x133);
-  x24 = ld8_1(ADD(x133, 8));
-  x26 = ld8_1(ADD(x133, 9));
-  MEMCPY(x95, ADD(x133, 10), 16);
-  if (((u8)(x135 == 0u))) goto b78; else goto b79;
-b78:;
-  MEMCPY(x35, x95, 16);
-  { x23 = 0u; x25 = x24; x27 = x26; x28 = 1u; goto b65; }
-b79:;
-  MEMSET(x35, 0u, 16);
-  { x23 = 1u; x25 = 0u; x27 = 0u; x28 = 0u; goto b65; }
+b60:;
+  goto b55;
+b62:;
+  x117 = ld64_4(ADD(x89, 36));
+  x118 = ld64_4(ADD(x89, 44));
+  x119 = (u8)u128_eq(u128_or(u128_shl(u128_of(0, x118), (unsigned)u128_low(u128_of(0u, 64u)) & 127u), u128_of(0, x117)), u128_or(u128_shl(u128_of(0, x111), (unsigned)u128_low(u128_of(0u, 64u)) & 127u), u128_of(0, x110)));
+  if (x119) goto b58; else goto b55;
+b58:;
+  st64_8(x120, x100);
+  st64_8(ADD(x120, 8), x101);
+  x121 = ld8_1(FAR(x1, 33));
+  if (((u8)((x121) & 1u))) goto b65; else goto b66;
+b66:;
+  goto b67;
 b65:;
-  { x30 = x23; x31 = x25; x32 = x27; x33 = x28; goto b4; }
-b4:;
-  st8_1(x0, x30);
-  st8_1(FAR(x0, 8), x31);
-  st8_1(FAR(x0, 9), x32);
-  MEMCPY(FAR(x0, 10), x35, 16);
-  st8_1(FAR(x0, 32), x33);
+  x122 = f132(x103, 1u, x120);
+  if (x122) goto b55; else goto b67;
+b67:;
+  MEMCPY(x123, x102, 16);
+  x124 = ld64_8(x123);
+  x125 = ld64_8(ADD(x123, 8));
+  x126 = u128_or(u128_shl(u128_of(0, x125), (unsigned)u128_low(u128_of(0u, 64u)) & 127u), u128_of(0, x124));
+  if (((u8)u128_eq(x126, u128_of(UINT64_C(72057594037927936), 767u)))) goto b68; else goto b69;
+b69:;
+  x127 = ld8_1(x1);
+  if (((u8)(((u8)u128_eq(x126, u128_of(UINT64_C(144115188075855872), 767u))) & ((u8)(x127 == 1u))))) goto b68; else goto b70;
+b68:;
+  goto b71;
+b70:;
+  x128 = f133(x103, 0u, x123);
+  if (x128) goto b71; else goto b55;
+b55:;
+  MEMSET(ADD(x129, 10), 0u, 32);
+  st64_8(ADD(x129, 72), 0u);
+  st8_1(ADD(x129, 9), 18u);
+  MEMSET(ADD(x129, 43), 0u, 34);
+  st64_8(x129, x2);
+  st8_1(ADD(x129, 8), 2u);
+  st8_1(ADD(x129, 42), 0u);
+  x130 = f130(x5, x129);
+  if (((u8)((x130) & 1u))) goto b72; else goto b73;
+b73:;
+  st64_8(FAR(x1, 64), x2);
+  MEMSET(x98, 0u, 16);
+  { x20 = 0u; goto b74; }
+b72:;
+  MEMSET(x98, 0u, 16);
+  { x20 = 1u; goto b74; }
+b74:;
+  MEMCPY(x33, x98, 16);
+  { x22 = x20; x24 = 0u; x26 = 0u; x27 = 0u; goto b75; }
+b71:;
+  if (((u8)(x91 == 4u))) goto b76; else goto b77;
+b76:;
+  f166(x131, x1, x2, ADD(x89, 49));
+  x132 = ld8_1(x131);
+  if (((u8)(x132 == 1u))) goto b78; else goto b79;
+b79:;
+  goto b80;
+b78:;
+  x133 = ld64_8(ADD(x32, 16));
+  x134 = ld64_8(x88);
+  x135 = ld64_1(ADD(x131, 9));
+  x136 = ld64_1(ADD(x131, 1));
+  x137 = (u8)u128_eq(u128_or(u128_shl(u128_of(0, x135), (unsigned)u128_low(u128_of(0u, 64u)) & 127u), u128_of(0, x136)), u128_or(u128_shl(u128_of(0, x133), (unsigned)u128_low(u128_of(0u, 64u)) & 127u), u128_of(0, x134)));
+  if (x137) goto b81; else goto b80;
+b81:;
+  MEMSET(x138, 0u, 32);
+  f223(x138, x1, x2, x89, ADD(x89, 33), x5);
+  goto b82;
+b80:;
+  MEMSET(ADD(x139, 10), 0u, 32);
+  st64_8(ADD(x139, 72), 0u);
+  st8_1(ADD(x139, 9), 19u);
+  MEMSET(ADD(x139, 43), 0u, 34);
+  st64_8(x139, x2);
+  st8_1(ADD(x139, 8), 2u);
+  st8_1(ADD(x139, 42), 0u);
+  x140 = f130(x5, x139);
+  if (((u8)((x140) & 1u))) goto b83; else goto b84;
+b84:;
+  st64_8(FAR(x1, 64), x2);
+  MEMSET(x98, 0u, 16);
+  { x21 = 0u; goto b85; }
+b83:;
+  MEMSET(x98, 0u, 16);
+  { x21 = 1u; goto b85; }
+b85:;
+  MEMCPY(x33, x98, 16);
+  { x22 = x21; x24 = 0u; x26 = 0u; x27 = 0u; goto b75; }
+b77:;
+  MEMSET(x138, 0u, 32);
+  switch (x91) { case 0u: goto b86; case 1u: goto b87; case 2u: goto b88; case 3u: goto b89; default: goto b90; }
+b86:;
+  f170(x138, x1, x2, x89, x5);
+  goto b82;
+b87:;
+  f185(x138, x1, x2, x89, ADD(x89, 36), x5);
+  goto b82;
+b88:;
+  f219(x138, x1, x2, x89, ADD(x89, 33), x5);
+  goto b82;
+b89:;
+  f222(x138, x1, x2, x89, ADD(x89, 33), x5);
+  goto b82;
+b90:;
+  UNREACHABLE();
+b82:;
+  x141 = ld8_1(x138);
+  x23 = ld8_1(ADD(x138, 8));
+  x25 = ld8_1(ADD(x138, 9));
+  MEMCPY(x99, ADD(x138, 10), 16);
+  if (((u8)(x141 == 0u))) goto b91; else goto b92;
+b91:;
+  MEMCPY(x33, x99, 16);
+  { x22 = 0u; x24 = x23; x26 = x25; x27 = 1u; goto b75; }
+b92:;
+  MEMSET(x33, 0u, 16);
+  { x22 = 1u; x24 = 0u; x26 = 0u; x27 = 0u; goto b75; }
+b75:;
+  { x28 = x22; x29 = x24; x30 = x26; x31 = x27; goto b6; }
+b6:;
+  st8_1(x0, x28);
+  st8_1(FAR(x0, 8), x29);
+  st8_1(FAR(x0, 9), x30);
+  MEMCPY(FAR(x0, 10), x33, 16);
+  st8_1(FAR(x0, 32), x31);
   return;
 b3:;
   UNREACHABLE();
 }
 
-static u8 f138(Q x0, u8 x1, Q x2)
+static u8 f132(Q x0, u8 x1, Q x2)
 {
   u8 x5, x13, x14, x3, x17, x4;
   u64 x6, x7, x9, x11, x12;
@@ -11304,7 +11308,7 @@ b6:;
 b0:;
   st64_8(x15, x6);
   st64_8(ADD(x15, 8), x7);
-  x16 = f102(x8, x9, x15);
+  x16 = f97(x8, x9, x15);
   if (((u8)((x16.f0) == 0u))) goto b7; else { x5 = 0u; goto b4; }
 b7:;
   x17 = ld8_1(FAR(FAR(x8, (u64)((u64)((u64)(x16.f1) * 72u))), 48));
@@ -11320,7 +11324,7 @@ b4:;
   return x5;
 }
 
-static u8 f139(Q x0, u8 x1, Q x2)
+static u8 f133(Q x0, u8 x1, Q x2)
 {
   u64 x4, x9, x10, x12, x3, x26, x27;
   u8 x7, x8, x13, x14, x15, x18, x19, x21, x22, x23, x24, x28, x5, x31, x6;
@@ -11381,7 +11385,7 @@ b15:;
 b10:;
   st64_8(x29, x9);
   st64_8(ADD(x29, 8), x10);
-  x30 = f102(x11, x12, x29);
+  x30 = f97(x11, x12, x29);
   if (((u8)((x30.f0) == 0u))) goto b16; else { x7 = 0u; goto b13; }
 b16:;
   x31 = ld8_1(FAR(FAR(x11, (u64)((u64)((u64)(x30.f1) * 72u))), 48));
@@ -11399,7 +11403,7 @@ b7:;
   return x8;
 }
 
-static u8 f140(Q x0, u64 x1, u64 x2)
+static u8 f134(Q x0, u64 x1, u64 x2)
 {
   u8 x4, x8, x12, x16, x21, x22, x3, x26, x27, x7, x30, x31, x11, x33, x34, x15;
   u64 x6, x10, x14, x18, x5, x23, x24, x25, x9, x28, x29, x13, x32, x17;
@@ -11445,7 +11449,7 @@ b6:;
   return ((u8)(((u8)(((u8)(x3 | x7)) | x11)) | x15));
 }
 
-static u8 f141(Q x0, u64 x1, Q x2, u64 x3)
+static u8 f135(Q x0, u64 x1, Q x2, u64 x3)
 {
   u8 x5, x9, x13, x17, x23, x33, x37, x43, x45, x46, x4, x49, x50, x8, x41, x42, x51, x52, x12, x55, x56, x16, x40, x58, x59, x22, x61, x62, x32, x65, x66, x36;
   u64 x7, x11, x15, x19, x21, x25, x28, x29, x31, x35, x39, x6, x47, x48, x10, x14, x53, x54, x18, x57, x24, x26, x20, x27, x60, x34, x30, x63, x64, x38;
@@ -11478,7 +11482,7 @@ b4:;
 b1:;
   if (((u8)(x1 < 33u))) goto b6; else goto b7;
 b6:;
-  x42 = f140(x44, x1, 8u);
+  x42 = f134(x44, x1, 8u);
   { x43 = x42; goto b5; }
 b7:;
   if (((u8)(x1 < 65u))) { x13 = 0u; x15 = 0u; goto b8; } else { x21 = 0u; goto b9; }
@@ -11551,7 +11555,7 @@ b5:;
   return ((u8)(x43 ^ 1u));
 }
 
-static u8 f142(Q x0)
+static u8 f136(Q x0)
 {
   u8 x2, x1;
   u64 x3, x4;
@@ -11569,7 +11573,7 @@ b0:;
   return x2;
 }
 
-static void f143(Q x0, Q x1, Q x2, u8 x3)
+static void f137(Q x0, Q x1, Q x2, u8 x3)
 {
   u8 x4, x5, x8;
   Q x9;
@@ -11583,7 +11587,7 @@ static void f143(Q x0, Q x1, Q x2, u8 x3)
   Q const x6 = Q_OF(y3_);
   x5 = ld8_1(FAR(x2, 9));
   MEMCPY(x6, FAR(x2, 26), 16);
-  f144(x7, x1, x6, x3);
+  f138(x7, x1, x6, x3);
   x8 = ld8_1(x7);
   x9 = ADD(x7, 1);
   MEMSET(x10, 0u, 16);
@@ -11602,7 +11606,7 @@ b0:;
   return;
 }
 
-static void f144(Q x0, Q x1, Q x2, u8 x3)
+static void f138(Q x0, Q x1, Q x2, u8 x3)
 {
   u8 x4, x5, x10, x11, x13, x18;
   u64 x8, x9;
@@ -11623,7 +11627,7 @@ static void f144(Q x0, Q x1, Q x2, u8 x3)
   Q const x6 = Q_OF(y6_);
   MEMCPY(x6, x2, 16);
   MEMSET(x7, 0u, 18);
-  f145(x7, x1, x6);
+  f139(x7, x1, x6);
   x8 = ld64_8(x6);
   x9 = ld64_8(ADD(x6, 8));
   x10 = ld8_1(x7);
@@ -11646,7 +11650,7 @@ b5:;
   MEMSET(ADD(x16, 2), 0u, 14);
   f12(x17, x16, 64u);
   st8_1(ADD(x17, 16), 64u);
-  x18 = f146(x17, x15);
+  x18 = f140(x17, x15);
   if (x18) goto b4; else goto b6;
 b4:;
   MEMSET(x14, 0u, 16);
@@ -11668,7 +11672,7 @@ b3:;
   return;
 }
 
-static void f145(Q x0, Q x1, Q x2)
+static void f139(Q x0, Q x1, Q x2)
 {
   u64 x5, x11, x10, x4, x9, x3;
   Q x8, x14, x7, x13, x12, x6;
@@ -11696,7 +11700,7 @@ b3:;
 b4:;
   x6 = FAR(x8, 17);
   x3 = (u64)((u64)x5 + UINT64_C(18446744073709551615));
-  x27 = f146(x14, x2);
+  x27 = f140(x14, x2);
   if (x27) goto b5; else { x19 = x20; x17 = x18; x15 = x16; goto b6; }
 b5:;
   x21 = ld8_1(FAR(x14, 16));
@@ -11719,7 +11723,7 @@ b0:;
   return;
 }
 
-static u8 f146(Q x0, Q x1)
+static u8 f140(Q x0, Q x1)
 {
   u8 x2, x7;
   _Alignas(8) u8 y0_[32];
@@ -11738,38 +11742,36 @@ static u8 f146(Q x0, Q x1)
   st64_8(ADD(x6, 8), 16u);
   stp_8(ADD(x6, 16), x4);
   st64_8(ADD(x6, 24), 16u);
-  x7 = f140(x6, 16u, 8u);
+  x7 = f134(x6, 16u, 8u);
   return ((u8)(x7 ^ 1u));
 }
 
-static void f147(Q x0, Q x1, u64 x2, u8 x3, Q x4, Q x5)
+static void f141(Q x0, Q x1, u64 x2, u8 x3, Q x4, Q x5)
 {
   Q x8, x14;
   u64 x9;
   u8 x10, x13;
-  _Alignas(8) u8 y0_[72];
-  Q const x12 = Q_OF(y0_);
+  _Alignas(8) u8 y0_[32];
   Q const x7 = Q_OF(y0_);
   _Alignas(1) u8 y1_[24];
   Q const x11 = Q_OF(y1_);
-  _Alignas(1) u8 y2_[6];
-  Q const x6 = Q_OF(y2_);
+  _Alignas(8) u8 y2_[24];
+  Q const x12 = Q_OF(y2_);
+  _Alignas(1) u8 y3_[6];
+  Q const x6 = Q_OF(y3_);
   MEMCPY(x6, FAR(x1, 1), 6);
   MEMSET(x7, 0u, 32);
   x8 = ldp_1(FAR(x4, 48));
   x9 = ld64_1(FAR(x4, 56));
-  f148(x7, x6, x4, x8, x9);
+  f142(x7, x6, x4, x8, x9);
   x10 = ld8_1(x7);
   MEMCPY(x11, ADD(x7, 8), 24);
   if (((u8)(x10 == 0u))) goto b0; else goto b1;
 b4:;
   return;
 b0:;
-  MEMSET(x12, 0u, 72);
-  MEMCPY(ADD(x12, 8), x11, 24);
-  st8_1(x12, 9u);
-  st8_1(ADD(x12, 1), x3);
-  x13 = f248(x1, x2, x12, x5);
+  MEMCPY(x12, x11, 24);
+  x13 = f144(x1, x2, x3, x12, x5);
   x14 = FAR(x0, 8);
   if (((u8)((x13) & 1u))) goto b2; else goto b3;
 b1:;
@@ -11786,7 +11788,7 @@ b2:;
   goto b4;
 }
 
-static void f148(Q x0, Q x1, Q x2, Q x3, u64 x4)
+static void f142(Q x0, Q x1, Q x2, Q x3, u64 x4)
 {
   u8 x8;
   Q x9;
@@ -11800,7 +11802,7 @@ static void f148(Q x0, Q x1, Q x2, Q x3, u64 x4)
   MEMSET(x5, 0u, 32);
   MEMCPY(x6, x1, 6);
   MEMSET(x7, 0u, 6);
-  f149(x5, x7, x6, x2, x3, x4);
+  f143(x5, x7, x6, x2, x3, x4);
   x8 = ld8_1(x5);
   if (((u8)(x8 == 0u))) goto b0; else goto b1;
 b0:;
@@ -11830,7 +11832,7 @@ b4:;
   UNREACHABLE();
 }
 
-static void f149(Q x0, Q x1, Q x2, Q x3, Q x4, u64 x5)
+static void f143(Q x0, Q x1, Q x2, Q x3, Q x4, u64 x5)
 {
   u8 x9, x11;
   _Alignas(8) u8 y0_[32];
@@ -11844,13 +11846,13 @@ static void f149(Q x0, Q x1, Q x2, Q x3, Q x4, u64 x5)
   MEMCPY(x6, x1, 6);
   MEMCPY(x7, x2, 6);
   MEMSET(x8, 0u, 32);
-  f75(x8, ((u64)((u64)x5 + 54u)));
+  f72(x8, ((u64)((u64)x5 + 54u)));
   x9 = ld8_1(x8);
   if (((u8)(x9 == 0u))) goto b0; else goto b1;
 b0:;
   MEMCPY(x10, ADD(x8, 8), 24);
-  f111(x10, x6, x7, x3, ((u16)(x5)));
-  x11 = f112(x10, x4, x5);
+  f106(x10, x6, x7, x3, ((u16)(x5)));
+  x11 = f107(x10, x4, x5);
   if (((u8)((x11) & 1u))) goto b2; else goto b3;
 b2:;
   TRAP();
@@ -11867,633 +11869,668 @@ b1:;
   goto b4;
 }
 
-static void f150(Q x0, Q x1, u64 x2, Q x3, u8 x4, Q x5, Q x6, u64 x7, Q x8)
+static u8 f144(Q x0, u64 x1, u8 x2, Q x3, Q x4)
 {
-  u64 x11, x14, x16, x21, x23, x58, x15, x12, x9, x10, x13, x64, x65, x66, x71, x72, x73, x90, x91, x92, x112, x119, x121, x124, x125, x131, x142, x153, x163, x167, x170, x172, x173, x22, x177, x184, x20, x186, x189, x194, x195, x200, x201, x204, x205, x206, x207;
-  u8 x19, x25, x27, x29, x31, x33, x35, x37, x47, x49, x51, x53, x54, x56, x60, x61, x18, x63, x17, x67, x68, x74, x76, x77, x78, x36, x34, x32, x30, x93, x28, x95, x26, x24, x104, x111, x117, x118, x130, x136, x137, x140, x146, x161, x174, x178, x179, x181, x182, x190, x192, x198, x202, x208, x209;
-  Q x43, x46, x48, x55, x57, x62, x70, x87, x89, x96, x105, x116, x120, x122, x123, x132, x134, x139, x141, x152, x155, x156, x157, x158, x159, x160, x162, x166, x169, x175, x176, x183, x185, x187, x193, x199, x203;
-  s_u8_u64 x145, x149, x171;
-  u32 x164, x165, x168;
-  u16 x188;
-  _Alignas(8) u8 y0_[72];
-  Q const x94 = Q_OF(y0_);
-  Q const x75 = Q_OF(y0_);
-  Q const x148 = Q_OF(y0_);
-  Q const x127 = Q_OF(y0_);
-  Q const x196 = Q_OF(y0_);
-  Q const x191 = Q_OF(y0_);
+  u8 x5, x8;
+  _Alignas(8) u8 y0_[80];
+  Q const x7 = Q_OF(y0_);
+  _Alignas(2) u8 y1_[30];
+  Q const x6 = Q_OF(y1_);
+  MEMSET(x6, 0u, 6);
+  MEMCPY(ADD(x6, 6), x3, 24);
+  st64_8(ADD(x7, 72), 0u);
+  st8_1(ADD(x7, 9), x2);
+  MEMCPY(ADD(x7, 10), x6, 30);
+  st16_2(ADD(x7, 40), 0u);
+  MEMSET(ADD(x7, 43), 0u, 34);
+  st64_8(x7, x1);
+  st8_1(ADD(x7, 8), 9u);
+  st8_1(ADD(x7, 42), 0u);
+  x8 = f130(x4, x7);
+  if (((u8)((x8) & 1u))) { x5 = 1u; goto b0; } else goto b1;
+b1:;
+  st64_8(FAR(x0, 64), x1);
+  { x5 = 0u; goto b0; }
+b0:;
+  return x5;
+}
+
+static void f145(Q x0, Q x1, u64 x2, Q x3, u8 x4, Q x5, Q x6, u64 x7, Q x8)
+{
+  u64 x11, x14, x16, x21, x23, x57, x15, x12, x9, x10, x13, x63, x64, x65, x70, x71, x72, x93, x94, x95, x113, x120, x122, x125, x126, x132, x143, x154, x164, x168, x171, x173, x174, x22, x178, x185, x20, x187, x190, x195, x196, x201, x202, x205, x206, x207, x208;
+  u8 x19, x25, x27, x29, x31, x33, x35, x46, x48, x50, x52, x53, x55, x59, x60, x18, x62, x17, x66, x67, x73, x76, x77, x78, x79, x34, x32, x30, x96, x28, x26, x24, x105, x112, x118, x119, x131, x137, x138, x141, x147, x162, x175, x179, x180, x182, x183, x191, x193, x199, x203, x209, x210;
+  Q x42, x45, x47, x54, x56, x61, x69, x90, x92, x97, x106, x117, x121, x123, x124, x133, x135, x140, x142, x153, x156, x157, x158, x159, x160, x161, x163, x167, x170, x176, x177, x184, x186, x188, x194, x200, x204;
+  s_u8_u64 x146, x150, x172;
+  u32 x165, x166, x169;
+  u16 x189;
+  _Alignas(8) u8 y0_[44];
+  Q const x149 = Q_OF(y0_);
+  Q const x128 = Q_OF(y0_);
+  Q const x197 = Q_OF(y0_);
+  Q const x192 = Q_OF(y0_);
+  Q const x74 = Q_OF(y0_);
   _Alignas(8) u8 y1_[40];
-  Q const x109 = Q_OF(y1_);
-  Q const x197 = Q_OF(y1_);
+  Q const x110 = Q_OF(y1_);
+  Q const x198 = Q_OF(y1_);
   _Alignas(4) u8 y2_[36];
-  Q const x107 = Q_OF(y2_);
+  Q const x108 = Q_OF(y2_);
   _Alignas(8) u8 y3_[32];
-  Q const x144 = Q_OF(y3_);
-  Q const x138 = Q_OF(y3_);
+  Q const x145 = Q_OF(y3_);
+  Q const x139 = Q_OF(y3_);
   _Alignas(8) u8 y4_[32];
-  Q const x128 = Q_OF(y4_);
+  Q const x129 = Q_OF(y4_);
   _Alignas(8) u8 y5_[32];
-  Q const x110 = Q_OF(y5_);
+  Q const x111 = Q_OF(y5_);
   _Alignas(1) u8 y6_[32];
-  Q const x102 = Q_OF(y6_);
+  Q const x103 = Q_OF(y6_);
   _Alignas(8) u8 y7_[32];
-  Q const x80 = Q_OF(y7_);
+  Q const x81 = Q_OF(y7_);
   _Alignas(8) u8 y8_[32];
-  Q const x82 = Q_OF(y8_);
+  Q const x83 = Q_OF(y8_);
   _Alignas(8) u8 y9_[32];
-  Q const x84 = Q_OF(y9_);
+  Q const x85 = Q_OF(y9_);
   _Alignas(8) u8 y10_[32];
-  Q const x39 = Q_OF(y10_);
+  Q const x87 = Q_OF(y10_);
   _Alignas(8) u8 y11_[32];
-  Q const x41 = Q_OF(y11_);
-  _Alignas(1) u8 y12_[31];
-  Q const x133 = Q_OF(y12_);
+  Q const x38 = Q_OF(y11_);
+  _Alignas(8) u8 y12_[32];
+  Q const x40 = Q_OF(y12_);
   _Alignas(1) u8 y13_[31];
-  Q const x126 = Q_OF(y13_);
+  Q const x134 = Q_OF(y13_);
   _Alignas(1) u8 y14_[31];
-  Q const x108 = Q_OF(y14_);
-  _Alignas(8) u8 y15_[24];
-  Q const x147 = Q_OF(y15_);
+  Q const x127 = Q_OF(y14_);
+  _Alignas(1) u8 y15_[31];
+  Q const x109 = Q_OF(y15_);
   _Alignas(8) u8 y16_[24];
-  Q const x129 = Q_OF(y16_);
+  Q const x148 = Q_OF(y16_);
   _Alignas(8) u8 y17_[24];
-  Q const x135 = Q_OF(y17_);
+  Q const x130 = Q_OF(y17_);
   _Alignas(8) u8 y18_[24];
-  Q const x115 = Q_OF(y18_);
+  Q const x136 = Q_OF(y18_);
   _Alignas(8) u8 y19_[24];
-  Q const x106 = Q_OF(y19_);
+  Q const x116 = Q_OF(y19_);
   _Alignas(8) u8 y20_[24];
-  Q const x81 = Q_OF(y20_);
+  Q const x107 = Q_OF(y20_);
   _Alignas(8) u8 y21_[24];
-  Q const x83 = Q_OF(y21_);
-  _Alignas(1) u8 y22_[18];
-  Q const x45 = Q_OF(y22_);
+  Q const x84 = Q_OF(y21_);
+  _Alignas(8) u8 y22_[24];
+  Q const x86 = Q_OF(y22_);
   _Alignas(1) u8 y23_[18];
   Q const x44 = Q_OF(y23_);
-  _Alignas(1) u8 y24_[17];
-  Q const x88 = Q_OF(y24_);
+  _Alignas(1) u8 y24_[18];
+  Q const x43 = Q_OF(y24_);
   _Alignas(1) u8 y25_[17];
-  Q const x50 = Q_OF(y25_);
+  Q const x91 = Q_OF(y25_);
   _Alignas(1) u8 y26_[17];
-  Q const x69 = Q_OF(y26_);
-  _Alignas(1) u8 y27_[16];
-  Q const x150 = Q_OF(y27_);
-  _Alignas(1) u8 y28_[16];
-  Q const x151 = Q_OF(y28_);
-  _Alignas(1) u8 y29_[16];
-  Q const x99 = Q_OF(y29_);
+  Q const x82 = Q_OF(y26_);
+  _Alignas(1) u8 y27_[17];
+  Q const x75 = Q_OF(y27_);
+  _Alignas(1) u8 y28_[17];
+  Q const x49 = Q_OF(y28_);
+  _Alignas(1) u8 y29_[17];
+  Q const x68 = Q_OF(y29_);
   _Alignas(1) u8 y30_[16];
-  Q const x103 = Q_OF(y30_);
-  _Alignas(8) u8 y31_[16];
-  Q const x100 = Q_OF(y31_);
+  Q const x151 = Q_OF(y30_);
+  _Alignas(1) u8 y31_[16];
+  Q const x152 = Q_OF(y31_);
   _Alignas(1) u8 y32_[16];
-  Q const x79 = Q_OF(y32_);
+  Q const x100 = Q_OF(y32_);
   _Alignas(1) u8 y33_[16];
-  Q const x86 = Q_OF(y33_);
-  _Alignas(1) u8 y34_[16];
-  Q const x52 = Q_OF(y34_);
+  Q const x104 = Q_OF(y33_);
+  _Alignas(8) u8 y34_[16];
+  Q const x101 = Q_OF(y34_);
   _Alignas(1) u8 y35_[16];
-  Q const x59 = Q_OF(y35_);
+  Q const x80 = Q_OF(y35_);
   _Alignas(1) u8 y36_[16];
-  Q const x38 = Q_OF(y36_);
-  _Alignas(1) u8 y37_[16];
-  Q const x40 = Q_OF(y37_);
-  _Alignas(1) u8 y38_[15];
-  Q const x85 = Q_OF(y38_);
-  _Alignas(8) u8 y39_[8];
-  Q const x180 = Q_OF(y39_);
-  _Alignas(8) u8 y40_[8];
-  Q const x154 = Q_OF(y40_);
-  _Alignas(8) u8 y41_[8];
-  Q const x113 = Q_OF(y41_);
-  _Alignas(1) u8 y42_[7];
-  Q const x101 = Q_OF(y42_);
-  _Alignas(1) u8 y43_[6];
-  Q const x143 = Q_OF(y43_);
-  _Alignas(1) u8 y44_[6];
-  Q const x98 = Q_OF(y44_);
-  _Alignas(1) u8 y45_[6];
-  Q const x97 = Q_OF(y45_);
-  _Alignas(1) u8 y46_[6];
-  Q const x42 = Q_OF(y46_);
-  _Alignas(8) u8 y47_[1];
-  Q const x114 = Q_OF(y47_);
-  MEMCPY(x38, x3, 16);
-  MEMSET(x39, 0u, 32);
-  MEMSET(x40, 0u, 16);
-  MEMSET(x41, 0u, 32);
-  MEMSET(x42, 0u, 6);
-  x43 = FAR(x1, 1312);
+  Q const x89 = Q_OF(y36_);
+  _Alignas(2) u8 y37_[16];
+  Q const x88 = Q_OF(y37_);
+  _Alignas(1) u8 y38_[16];
+  Q const x51 = Q_OF(y38_);
+  _Alignas(1) u8 y39_[16];
+  Q const x58 = Q_OF(y39_);
+  _Alignas(2) u8 y40_[16];
+  Q const x37 = Q_OF(y40_);
+  _Alignas(1) u8 y41_[16];
+  Q const x36 = Q_OF(y41_);
+  _Alignas(1) u8 y42_[16];
+  Q const x39 = Q_OF(y42_);
+  _Alignas(8) u8 y43_[8];
+  Q const x181 = Q_OF(y43_);
+  _Alignas(8) u8 y44_[8];
+  Q const x155 = Q_OF(y44_);
+  _Alignas(8) u8 y45_[8];
+  Q const x114 = Q_OF(y45_);
+  _Alignas(1) u8 y46_[7];
+  Q const x102 = Q_OF(y46_);
+  _Alignas(1) u8 y47_[6];
+  Q const x144 = Q_OF(y47_);
+  _Alignas(1) u8 y48_[6];
+  Q const x99 = Q_OF(y48_);
+  _Alignas(1) u8 y49_[6];
+  Q const x98 = Q_OF(y49_);
+  _Alignas(1) u8 y50_[6];
+  Q const x41 = Q_OF(y50_);
+  _Alignas(8) u8 y51_[1];
+  Q const x115 = Q_OF(y51_);
+  MEMCPY(x36, x3, 16);
+  MEMSET(x37, 0u, 16);
+  MEMSET(x38, 0u, 32);
+  MEMSET(x39, 0u, 16);
+  MEMSET(x40, 0u, 32);
+  MEMSET(x41, 0u, 6);
+  x42 = FAR(x1, 1312);
+  MEMSET(x43, 0u, 18);
   MEMSET(x44, 0u, 18);
-  MEMSET(x45, 0u, 18);
-  x46 = FAR(x5, 10);
-  x47 = f142(x46);
-  if (x47) goto b0; else goto b1;
+  x45 = FAR(x5, 10);
+  x46 = f136(x45);
+  if (x46) goto b0; else goto b1;
 b1:;
-  x48 = FAR(x5, 26);
-  x49 = f142(x48);
-  if (x49) goto b0; else goto b2;
+  x47 = FAR(x5, 26);
+  x48 = f136(x47);
+  if (x48) goto b0; else goto b2;
 b2:;
-  f143(x50, x43, x5, x4);
-  x51 = ld8_1(x50);
-  if (((u8)(x51 < 2u))) goto b3; else goto b0;
+  f137(x49, x42, x5, x4);
+  x50 = ld8_1(x49);
+  if (((u8)(x50 < 2u))) goto b3; else goto b0;
 b0:;
   goto b4;
 b3:;
-  MEMCPY(x52, x46, 16);
-  f145(x45, x43, x52);
-  x53 = ld8_1(x45);
-  x54 = ld8_1(ADD(x45, 1));
-  if ((((u8)(x53 == 1u)) ? ((u8)(x54 == 0u)) : 0u)) goto b5; else goto b4;
+  MEMCPY(x51, x45, 16);
+  f139(x44, x42, x51);
+  x52 = ld8_1(x44);
+  x53 = ld8_1(ADD(x44, 1));
+  if ((((u8)(x52 == 1u)) ? ((u8)(x53 == 0u)) : 0u)) goto b5; else goto b4;
 b5:;
-  x55 = FAR(x1, 1432);
-  x56 = ld8_1(x55);
-  x57 = FAR(x1, 1440);
-  x58 = ld64_1(x57);
-  if ((((u8)(x56 != 1u)) ? 1u : (((u8)(x58 <= x2)) ? ((u8)(((u64)((u64)x2 - x58)) > 99u)) : 0u))) goto b6; else goto b4;
+  x54 = FAR(x1, 1432);
+  x55 = ld8_1(x54);
+  x56 = FAR(x1, 1440);
+  x57 = ld64_1(x56);
+  if ((((u8)(x55 != 1u)) ? 1u : (((u8)(x57 <= x2)) ? ((u8)(((u64)((u64)x2 - x57)) > 99u)) : 0u))) goto b6; else goto b4;
 b6:;
-  x15 = ld64_1(x48);
+  x15 = ld64_1(x47);
   x12 = ld64_1(FAR(x5, 34));
-  MEMCPY(x59, x48, 16);
-  f145(x44, x43, x59);
-  x60 = ld8_1(x44);
-  x61 = ld8_1(ADD(x44, 2));
-  x18 = ld8_1(ADD(x44, 3));
-  x62 = ADD(x44, 4);
-  if (((u8)(x60 == 1u))) goto b7; else goto b4;
+  MEMCPY(x58, x47, 16);
+  f139(x43, x42, x58);
+  x59 = ld8_1(x43);
+  x60 = ld8_1(ADD(x43, 2));
+  x18 = ld8_1(ADD(x43, 3));
+  x61 = ADD(x43, 4);
+  if (((u8)(x59 == 1u))) goto b7; else goto b4;
 b7:;
-  x63 = ld8_1(ADD(x44, 1));
+  x62 = ld8_1(ADD(x43, 1));
   x9 = (u64)((((u64)((u64)x15 >> 16))) & UINT64_C(281474976710655));
   x17 = (u8)(((u64)((u64)x15 >> 8)));
-  if (((u8)(x63 == 0u))) { x11 = x9; x14 = x12; x16 = x15; x19 = x17; goto b8; } else goto b9;
+  if (((u8)(x62 == 0u))) { x11 = x9; x14 = x12; x16 = x15; x19 = x17; goto b8; } else goto b9;
 b9:;
-  if ((((u8)(x61 == 254u)) ? ((u8)((int8_t)x18 < (int8_t)192u)) : 0u)) goto b10; else goto b4;
+  if ((((u8)(x60 == 254u)) ? ((u8)((int8_t)x18 < (int8_t)192u)) : 0u)) goto b10; else goto b4;
 b10:;
-  x10 = (u64)((ldn(x62, 6)) & UINT64_C(281474976710655));
-  x13 = ld64_1(ADD(x44, 10));
+  x10 = (u64)((ldn(x61, 6)) & UINT64_C(281474976710655));
+  x13 = ld64_1(ADD(x43, 10));
   { x11 = x10; x14 = x13; x16 = 254u; x19 = x18; goto b8; }
 b8:;
-  x64 = ((((u64)((u64)((u64)x19) << 8)) | ((u64)((u64)((u64)x11) << 16))) | (x16 & 255u));
-  x65 = ld64_1(FAR(x5, 18));
-  x66 = ld64_1(x46);
-  x67 = (u8)u128_eq(u128_or(u128_shl(u128_of(0, x14), (unsigned)u128_low(u128_of(0u, 64u)) & 127u), u128_of(0, x64)), u128_or(u128_shl(u128_of(0, x65), (unsigned)u128_low(u128_of(0u, 64u)) & 127u), u128_of(0, x66)));
-  if (x67) goto b4; else goto b11;
+  x63 = ((((u64)((u64)((u64)x19) << 8)) | ((u64)((u64)((u64)x11) << 16))) | (x16 & 255u));
+  x64 = ld64_1(FAR(x5, 18));
+  x65 = ld64_1(x45);
+  x66 = (u8)u128_eq(u128_or(u128_shl(u128_of(0, x14), (unsigned)u128_low(u128_of(0u, 64u)) & 127u), u128_of(0, x63)), u128_or(u128_shl(u128_of(0, x64), (unsigned)u128_low(u128_of(0u, 64u)) & 127u), u128_of(0, x65)));
+  if (x66) goto b4; else goto b11;
 b11:;
-  x68 = f138(FAR(x1, 280), 0u, x46);
-  if (x68) goto b12; else goto b13;
+  x67 = f132(FAR(x1, 280), 0u, x45);
+  if (x67) goto b12; else goto b13;
 b4:;
   goto b12;
 b12:;
-  st8_1(x69, 0u);
-  MEMCPY(ADD(x69, 1), x40, 16);
-  x70 = ldp_8(FAR(x1, 448));
-  x71 = ld64_8(FAR(x1, 456));
-  x72 = ld64_8(FAR(x1, 616));
-  x73 = ld64_8(FAR(x1, 624));
-  x74 = f151(x70, x71, x72, x2, x38, x69, x73);
-  if (x74) goto b14; else goto b15;
+  st8_1(x68, 0u);
+  MEMCPY(ADD(x68, 1), x39, 16);
+  x69 = ldp_8(FAR(x1, 448));
+  x70 = ld64_8(FAR(x1, 456));
+  x71 = ld64_8(FAR(x1, 616));
+  x72 = ld64_8(FAR(x1, 624));
+  x73 = f146(x69, x70, x71, x2, x36, x68, x72);
+  if (x73) goto b14; else goto b15;
 b16:;
   return;
 b15:;
-  MEMSET(ADD(x75, 16), 0u, 56);
-  st8_1(x75, 13u);
-  st8_1(ADD(x75, 1), 5u);
-  MEMSET(ADD(x75, 2), 0u, 16);
-  x76 = f248(x1, x2, x75, x8);
-  x77 = (u8)((x76) & 1u);
+  MEMSET(x74, 0u, 32);
+  MEMSET(ADD(x75, 2), 0u, 15);
+  st8_1(x75, 5u);
+  st8_1(ADD(x75, 1), 0u);
+  f149(x74, x1, x2, x75, x8);
+  x76 = ld8_1(x74);
+  x77 = ld8_1(ADD(x74, 8));
+  x78 = ld8_1(ADD(x74, 9));
+  MEMCPY(x37, ADD(x74, 10), 16);
   st8_1(x0, x76);
-  st8_1(FAR(x0, 8), (x77 ? 0u : 2u));
-  st8_1(FAR(x0, 9), (x77 ? 0u : 5u));
-  MEMSET(FAR(x0, 10), 0u, 16);
+  st8_1(FAR(x0, 8), x77);
+  st8_1(FAR(x0, 9), x78);
+  MEMCPY(FAR(x0, 10), x37, 16);
   goto b16;
 b14:;
-  MEMCPY(x42, FAR(x1, 1), 6);
-  f154(x41, x42, x5);
-  x78 = ld8_1(x41);
-  if (((u8)(x78 == 0u))) goto b17; else goto b18;
+  MEMCPY(x41, FAR(x1, 1), 6);
+  f150(x40, x41, x5);
+  x79 = ld8_1(x40);
+  if (((u8)(x79 == 0u))) goto b17; else goto b18;
 b17:;
-  f155(x39, x1, x2, x38, ADD(x41, 8), x8);
-  x36 = ld8_1(x39);
-  x34 = ld8_1(ADD(x39, 8));
-  x32 = ld8_1(ADD(x39, 9));
-  x30 = ld8_1(ADD(x39, 10));
-  { x31 = x30; x33 = x32; x35 = x34; x37 = x36; goto b19; }
+  f151(x38, x1, x2, x36, ADD(x40, 8), x8);
+  x34 = ld8_1(x38);
+  x32 = ld8_1(ADD(x38, 8));
+  x30 = ld8_1(ADD(x38, 9));
+  { x31 = x30; x33 = x32; x35 = x34; goto b19; }
 b18:;
   st8_1(x0, 1u);
   MEMSET(FAR(x0, 8), 0u, 18);
   goto b16;
 b13:;
-  MEMCPY(x79, x38, 16);
-  MEMSET(x80, 0u, 32);
-  MEMSET(x81, 0u, 24);
-  MEMSET(x82, 0u, 32);
-  MEMSET(x83, 0u, 24);
-  MEMSET(x84, 0u, 32);
-  MEMSET(x85, 0u, 15);
-  MEMCPY(x86, x46, 16);
-  x87 = FAR(x1, 448);
-  st8_1(x88, 1u);
-  MEMCPY(ADD(x88, 1), x38, 16);
-  x89 = ldp_8(x87);
-  x90 = ld64_8(FAR(x1, 456));
-  x91 = ld64_8(FAR(x1, 616));
-  x92 = ld64_8(FAR(x1, 624));
-  x93 = f151(x89, x90, x91, x2, x46, x88, x92);
-  if (x93) goto b20; else goto b21;
+  MEMCPY(x80, x36, 16);
+  MEMSET(x81, 0u, 32);
+  MEMSET(x82, 0u, 17);
+  MEMSET(x83, 0u, 32);
+  MEMSET(x84, 0u, 24);
+  MEMSET(x85, 0u, 32);
+  MEMSET(x86, 0u, 24);
+  MEMSET(x87, 0u, 32);
+  MEMSET(x88, 0u, 16);
+  MEMCPY(x89, x45, 16);
+  x90 = FAR(x1, 448);
+  st8_1(x91, 1u);
+  MEMCPY(ADD(x91, 1), x36, 16);
+  x92 = ldp_8(x90);
+  x93 = ld64_8(FAR(x1, 456));
+  x94 = ld64_8(FAR(x1, 616));
+  x95 = ld64_8(FAR(x1, 624));
+  x96 = f146(x92, x93, x94, x2, x45, x91, x95);
+  if (x96) goto b20; else goto b21;
 b21:;
-  MEMSET(ADD(x94, 16), 0u, 56);
-  st8_1(x94, 13u);
-  st8_1(ADD(x94, 1), 5u);
-  MEMSET(ADD(x94, 2), 0u, 16);
-  x28 = f248(x1, x2, x94, x8);
-  x95 = (u8)((x28) & 1u);
-  x26 = (x95 ? 0u : 2u);
-  x24 = (x95 ? 0u : 5u);
-  MEMSET(ADD(x39, 10), 0u, 16);
+  st8_1(x82, 5u);
+  st8_1(ADD(x82, 1), 0u);
+  f149(x81, x1, x2, x82, x8);
+  x28 = ld8_1(x81);
+  x26 = ld8_1(ADD(x81, 8));
+  x24 = ld8_1(ADD(x81, 9));
+  MEMCPY(ADD(x38, 10), ADD(x81, 10), 16);
   { x25 = x24; x27 = x26; x29 = x28; goto b22; }
 b20:;
-  x96 = FAR(x1, 1);
-  MEMCPY(x97, x96, 6);
-  MEMCPY(x98, x96, 6);
-  MEMCPY(x99, FAR(x1, 286), 16);
-  st64_8(x100, x64);
-  st64_8(ADD(x100, 8), x14);
-  f163(x101, x87, x100);
-  MEMCPY(x102, x100, 16);
-  MEMCPY(ADD(x102, 16), x48, 16);
-  MEMCPY(x103, x46, 16);
-  x104 = ld8_1(x101);
-  x105 = ADD(x101, 1);
-  MEMSET(x106, 0u, 24);
-  MEMSET(x107, 0u, 36);
-  MEMSET(x108, 0u, 31);
-  MEMSET(x109, 0u, 40);
-  MEMSET(x110, 0u, 32);
-  x111 = (u8)(x104 == 1u);
-  x112 = umin64(x7, (x111 ? 1184u : 1192u));
-  st64_8(x113, 0u);
-  stp_8(x115, x114);
-  x116 = ADD(x115, 8);
-  MEMSET(x116, 0u, 16);
-  x117 = f112(x115, x6, x112);
-  if (((u8)((x117) & 1u))) goto b23; else goto b24;
+  x97 = FAR(x1, 1);
+  MEMCPY(x98, x97, 6);
+  MEMCPY(x99, x97, 6);
+  MEMCPY(x100, FAR(x1, 286), 16);
+  st64_8(x101, x63);
+  st64_8(ADD(x101, 8), x14);
+  f159(x102, x90, x101);
+  MEMCPY(x103, x101, 16);
+  MEMCPY(ADD(x103, 16), x47, 16);
+  MEMCPY(x104, x45, 16);
+  x105 = ld8_1(x102);
+  x106 = ADD(x102, 1);
+  MEMSET(x107, 0u, 24);
+  MEMSET(x108, 0u, 36);
+  MEMSET(x109, 0u, 31);
+  MEMSET(x110, 0u, 40);
+  MEMSET(x111, 0u, 32);
+  x112 = (u8)(x105 == 1u);
+  x113 = umin64(x7, (x112 ? 1184u : 1192u));
+  st64_8(x114, 0u);
+  stp_8(x116, x115);
+  x117 = ADD(x116, 8);
+  MEMSET(x117, 0u, 16);
+  x118 = f107(x116, x6, x113);
+  if (((u8)((x118) & 1u))) goto b23; else goto b24;
 b24:;
-  x118 = f112(x115, x113, (((u64)((u64)0u - x112)) & 7u));
-  if (((u8)((x118) & 1u))) goto b25; else goto b26;
+  x119 = f107(x116, x114, (((u64)((u64)0u - x113)) & 7u));
+  if (((u8)((x119) & 1u))) goto b25; else goto b26;
 b23:;
-  x119 = ld64_8(ADD(x115, 16));
-  if (((u8)(x119 == 0u))) goto b27; else goto b28;
+  x120 = ld64_8(ADD(x116, 16));
+  if (((u8)(x120 == 0u))) goto b27; else goto b28;
 b28:;
-  x120 = ldp_8(x115);
-  os_rattle_dealloc(x120);
+  x121 = ldp_8(x116);
+  os_rattle_dealloc(x121);
   goto b27;
 b25:;
-  x121 = ld64_8(ADD(x115, 16));
-  if (((u8)(x121 == 0u))) goto b27; else goto b29;
+  x122 = ld64_8(ADD(x116, 16));
+  if (((u8)(x122 == 0u))) goto b27; else goto b29;
 b29:;
-  x122 = ldp_8(x115);
-  os_rattle_dealloc(x122);
+  x123 = ldp_8(x116);
+  os_rattle_dealloc(x123);
   goto b27;
 b26:;
-  x123 = ldp_8(x115);
-  x124 = ld64_8(x116);
-  x125 = ld64_8(ADD(x115, 16));
-  MEMSET(x126, 0u, 31);
-  MEMSET(x127, 0u, 40);
-  MEMSET(x128, 0u, 32);
-  stp_8(x129, x114);
-  MEMSET(ADD(x129, 8), 0u, 16);
-  x130 = f164(x129, 2u);
-  if (x130) goto b30; else goto b31;
+  x124 = ldp_8(x116);
+  x125 = ld64_8(x117);
+  x126 = ld64_8(ADD(x116, 16));
+  MEMSET(x127, 0u, 31);
+  MEMSET(x128, 0u, 40);
+  MEMSET(x129, 0u, 32);
+  stp_8(x130, x115);
+  MEMSET(ADD(x130, 8), 0u, 16);
+  x131 = f160(x130, 2u);
+  if (x131) goto b30; else goto b31;
 b31:;
-  x131 = ld64_8(ADD(x129, 16));
-  if (((u8)(x131 == 0u))) goto b32; else goto b33;
+  x132 = ld64_8(ADD(x130, 16));
+  if (((u8)(x132 == 0u))) goto b32; else goto b33;
 b33:;
-  x132 = ldp_8(x129);
-  os_rattle_dealloc(x132);
+  x133 = ldp_8(x130);
+  os_rattle_dealloc(x133);
   goto b32;
 b30:;
-  x134 = ADD(x133, 7);
-  MEMCPY(x134, x129, 24);
-  MEMCPY(x135, x134, 24);
-  if (x111) goto b34; else goto b35;
+  x135 = ADD(x134, 7);
+  MEMCPY(x135, x130, 24);
+  MEMCPY(x136, x135, 24);
+  if (x112) goto b34; else goto b35;
 b32:;
   goto b36;
 b34:;
-  st8_1(x128, 1u);
-  MEMCPY(ADD(x128, 1), x105, 6);
-  f166(x127, x135, x128);
-  x136 = ld8_1(x127);
-  if (((u8)(x136 == 0u))) goto b37; else goto b38;
+  st8_1(x129, 1u);
+  MEMCPY(ADD(x129, 1), x106, 6);
+  f162(x128, x136, x129);
+  x137 = ld8_1(x128);
+  if (((u8)(x137 == 0u))) goto b37; else goto b38;
 b37:;
-  MEMCPY(ADD(x126, 7), x135, 24);
+  MEMCPY(ADD(x127, 7), x136, 24);
   goto b39;
 b38:;
-  x137 = ld8_1(ADD(x127, 8));
-  MEMCPY(ADD(x138, 1), ADD(x127, 9), 31);
-  st8_1(x138, x137);
-  f165(x138);
-  f169(x135);
+  x138 = ld8_1(ADD(x128, 8));
+  MEMCPY(ADD(x139, 1), ADD(x128, 9), 31);
+  st8_1(x139, x138);
+  f161(x139);
+  f165(x136);
   goto b36;
 b35:;
-  MEMCPY(ADD(x126, 7), x134, 24);
+  MEMCPY(ADD(x127, 7), x135, 24);
   goto b39;
 b27:;
   goto b40;
 b39:;
-  x139 = ADD(x108, 7);
-  MEMCPY(x139, ADD(x126, 7), 24);
-  MEMCPY(x106, x139, 24);
-  st8_1(x110, 3u);
-  stp_8(ADD(x110, 8), x123);
-  st64_8(ADD(x110, 16), x124);
-  st64_8(ADD(x110, 24), x125);
-  f166(x109, x106, x110);
-  x140 = ld8_1(x109);
-  if (((u8)(x140 == 0u))) goto b41; else goto b42;
+  x140 = ADD(x109, 7);
+  MEMCPY(x140, ADD(x127, 7), 24);
+  MEMCPY(x107, x140, 24);
+  st8_1(x111, 3u);
+  stp_8(ADD(x111, 8), x124);
+  st64_8(ADD(x111, 16), x125);
+  st64_8(ADD(x111, 24), x126);
+  f162(x110, x107, x111);
+  x141 = ld8_1(x110);
+  if (((u8)(x141 == 0u))) goto b41; else goto b42;
 b36:;
-  if (((u8)(x125 == 0u))) goto b40; else goto b43;
+  if (((u8)(x126 == 0u))) goto b40; else goto b43;
 b43:;
-  os_rattle_dealloc(x123);
+  os_rattle_dealloc(x124);
   goto b40;
 b41:;
-  st8_1(x107, 4u);
-  MEMCPY(ADD(x107, 1), x102, 32);
-  x141 = ldp_8(x106);
-  x142 = ld64_8(ADD(x106, 8));
-  MEMSET(x143, 0u, 6);
-  MEMSET(x144, 0u, 32);
-  x145 = f168(x107, x141, x142);
-  if (((u8)((x145.f0) == 1u))) goto b44; else goto b45;
+  st8_1(x108, 4u);
+  MEMCPY(ADD(x108, 1), x103, 32);
+  x142 = ldp_8(x107);
+  x143 = ld64_8(ADD(x107, 8));
+  MEMSET(x144, 0u, 6);
+  MEMSET(x145, 0u, 32);
+  x146 = f164(x108, x142, x143);
+  if (((u8)((x146.f0) == 1u))) goto b44; else goto b45;
 b44:;
-  f75(x144, ((u64)((u64)(x145.f1) + 54u)));
-  x146 = ld8_1(x144);
-  if (((u8)(x146 == 0u))) goto b46; else goto b47;
+  f72(x145, ((u64)((u64)(x146.f1) + 54u)));
+  x147 = ld8_1(x145);
+  if (((u8)(x147 == 0u))) goto b46; else goto b47;
 b47:;
-  f169(x106);
+  f165(x107);
   goto b48;
 b45:;
   TRAP();
   UNREACHABLE();
 b46:;
-  MEMCPY(x147, ADD(x144, 8), 24);
-  MEMSET(x148, 0u, 44);
-  x149 = f168(x107, x141, x142);
-  if (((u8)((x149.f0) == 1u))) goto b49; else goto b50;
+  MEMCPY(x148, ADD(x145, 8), 24);
+  MEMSET(x149, 0u, 44);
+  x150 = f164(x108, x142, x143);
+  if (((u8)((x150.f0) == 1u))) goto b49; else goto b50;
 b49:;
-  st8_1(x148, 0u);
-  st32_4(ADD(x148, 4), 0u);
-  st8_1(ADD(x148, 8), 58u);
-  st8_1(ADD(x148, 9), 255u);
-  MEMCPY(ADD(x148, 10), x99, 16);
-  MEMCPY(ADD(x148, 26), x103, 16);
-  f111(x147, x143, x98, x148, ((u16)((x149.f1))));
-  MEMCPY(x150, x99, 16);
-  MEMCPY(x151, x103, 16);
-  x152 = ADD(x147, 8);
-  x153 = ld64_8(x152);
-  f114(x107, x147);
-  if (((u8)(x142 == 0u))) goto b51; else goto b52;
+  st8_1(x149, 0u);
+  st32_4(ADD(x149, 4), 0u);
+  st8_1(ADD(x149, 8), 58u);
+  st8_1(ADD(x149, 9), 255u);
+  MEMCPY(ADD(x149, 10), x100, 16);
+  MEMCPY(ADD(x149, 26), x104, 16);
+  f106(x148, x144, x99, x149, ((u16)((x150.f1))));
+  MEMCPY(x151, x100, 16);
+  MEMCPY(x152, x104, 16);
+  x153 = ADD(x148, 8);
+  x154 = ld64_8(x153);
+  f109(x108, x148);
+  if (((u8)(x143 == 0u))) goto b51; else goto b52;
 b52:;
-  x155 = ADD(x154, 1);
-  x156 = ADD(x154, 4);
-  x157 = ADD(x154, 5);
-  x158 = ADD(x154, 6);
-  x159 = ADD(x154, 7);
+  x156 = ADD(x155, 1);
+  x157 = ADD(x155, 4);
+  x158 = ADD(x155, 5);
+  x159 = ADD(x155, 6);
+  x160 = ADD(x155, 7);
   { x21 = 0u; goto b53; }
 b53:;
-  x160 = FAR(x141, (u64)((u64)((u64)x21 << 5)));
-  x161 = ld8_1(x160);
-  switch (x161) { case 0u: goto b54; case 1u: goto b55; case 2u: goto b56; case 3u: goto b57; case 4u: goto b58; case 5u: goto b59; case 6u: goto b60; case 7u: goto b61; default: goto b62; }
+  x161 = FAR(x142, (u64)((u64)((u64)x21 << 5)));
+  x162 = ld8_1(x161);
+  switch (x162) { case 0u: goto b54; case 1u: goto b55; case 2u: goto b56; case 3u: goto b57; case 4u: goto b58; case 5u: goto b59; case 6u: goto b60; case 7u: goto b61; default: goto b62; }
 b54:;
-  f115(1u, FAR(x160, 1), x147);
+  f110(1u, FAR(x161, 1), x148);
   goto b63;
 b55:;
-  f115(2u, FAR(x160, 1), x147);
+  f110(2u, FAR(x161, 1), x148);
   goto b63;
 b56:;
-  f116(FAR(x160, 4), x147);
+  f111(FAR(x161, 4), x148);
   goto b63;
 b57:;
-  x162 = ldp_8(FAR(x160, 8));
-  x163 = ld64_8(FAR(x160, 16));
-  f117(x162, x163, x147);
+  x163 = ldp_8(FAR(x161, 8));
+  x164 = ld64_8(FAR(x161, 16));
+  f112(x163, x164, x148);
   goto b63;
 b58:;
-  x164 = ld32_4(FAR(x160, 4));
-  f118(x164, x147);
+  x165 = ld32_4(FAR(x161, 4));
+  f113(x165, x148);
   goto b63;
 b59:;
-  x165 = ld32_4(FAR(x160, 4));
-  x166 = ldp_8(FAR(x160, 8));
-  x167 = ld64_8(FAR(x160, 16));
-  f119(x165, x166, x167, x147);
+  x166 = ld32_4(FAR(x161, 4));
+  x167 = ldp_8(FAR(x161, 8));
+  x168 = ld64_8(FAR(x161, 16));
+  f114(x166, x167, x168, x148);
   goto b63;
 b60:;
-  x168 = ld32_4(FAR(x160, 4));
-  x169 = ldp_8(FAR(x160, 8));
-  x170 = ld64_8(FAR(x160, 16));
-  st64_8(x154, 31u);
-  x171 = f108(x169, x170);
-  x172 = (((u8)(((x171.f0)) & 1u)) ? (x171.f1) : 0u);
-  x173 = (((u64)((u64)0u - x172)) & 7u);
-  st8_1(x155, ((u8)(((u64)((u64)((u64)((u64)((u64)((u64)x172 + 8u)) + x173)) >> 3)))));
-  st8_1(x156, ((u8)(((u32)((u32)x168 >> 24)))));
-  st8_1(x157, ((u8)(((u32)((u32)x168 >> 16)))));
-  st8_1(x158, ((u8)(((u32)((u32)x168 >> 8)))));
-  st8_1(x159, ((u8)(x168)));
-  x174 = f112(x147, x154, 8u);
-  if (((u8)((x174) & 1u))) goto b64; else goto b65;
+  x169 = ld32_4(FAR(x161, 4));
+  x170 = ldp_8(FAR(x161, 8));
+  x171 = ld64_8(FAR(x161, 16));
+  st64_8(x155, 31u);
+  x172 = f103(x170, x171);
+  x173 = (((u8)(((x172.f0)) & 1u)) ? (x172.f1) : 0u);
+  x174 = (((u64)((u64)0u - x173)) & 7u);
+  st8_1(x156, ((u8)(((u64)((u64)((u64)((u64)((u64)((u64)x173 + 8u)) + x174)) >> 3)))));
+  st8_1(x157, ((u8)(((u32)((u32)x169 >> 24)))));
+  st8_1(x158, ((u8)(((u32)((u32)x169 >> 16)))));
+  st8_1(x159, ((u8)(((u32)((u32)x169 >> 8)))));
+  st8_1(x160, ((u8)(x169)));
+  x175 = f107(x148, x155, 8u);
+  if (((u8)((x175) & 1u))) goto b64; else goto b65;
 b64:;
   TRAP();
   UNREACHABLE();
 b65:;
-  if (((u8)(x170 == 0u))) goto b66; else { x23 = 0u; goto b67; }
+  if (((u8)(x171 == 0u))) goto b66; else { x23 = 0u; goto b67; }
 b71:;
   x22 = (u64)((u64)x23 + 1u);
-  if (((u8)(x22 == x170))) goto b66; else { x23 = x22; goto b67; }
+  if (((u8)(x22 == x171))) goto b66; else { x23 = x22; goto b67; }
 b67:;
-  x175 = FAR(x169, (u64)((u64)((u64)x23 * 24u)));
-  x176 = ldp_8(x175);
-  x177 = ld64_8(FAR(x175, 8));
-  x178 = f112(x147, x176, x177);
-  if (((u8)((x178) & 1u))) goto b68; else goto b69;
+  x176 = FAR(x170, (u64)((u64)((u64)x23 * 24u)));
+  x177 = ldp_8(x176);
+  x178 = ld64_8(FAR(x176, 8));
+  x179 = f107(x148, x177, x178);
+  if (((u8)((x179) & 1u))) goto b68; else goto b69;
 b68:;
   TRAP();
   UNREACHABLE();
 b69:;
-  x179 = f112(x147, Q_OF(g0), 1u);
-  if (((u8)((x179) & 1u))) goto b70; else goto b71;
+  x180 = f107(x148, Q_OF(g0), 1u);
+  if (((u8)((x180) & 1u))) goto b70; else goto b71;
 b70:;
   TRAP();
   UNREACHABLE();
 b66:;
-  st64_8(x180, 0u);
-  x181 = f112(x147, x180, x173);
-  if (((u8)((x181) & 1u))) goto b72; else goto b73;
+  st64_8(x181, 0u);
+  x182 = f107(x148, x181, x174);
+  if (((u8)((x182) & 1u))) goto b72; else goto b73;
 b72:;
   TRAP();
   UNREACHABLE();
 b73:;
   goto b63;
 b61:;
-  x182 = ld8_1(FAR(x160, 1));
-  x183 = ldp_8(FAR(x160, 8));
-  x184 = ld64_8(FAR(x160, 16));
-  f120(x182, x183, x184, x147);
+  x183 = ld8_1(FAR(x161, 1));
+  x184 = ldp_8(FAR(x161, 8));
+  x185 = ld64_8(FAR(x161, 16));
+  f115(x183, x184, x185, x148);
   goto b63;
 b62:;
   UNREACHABLE();
 b63:;
   x20 = (u64)((u64)x21 + 1u);
-  if (((u8)(x20 == x142))) goto b51; else { x21 = x20; goto b53; }
+  if (((u8)(x20 == x143))) goto b51; else { x21 = x20; goto b53; }
 b50:;
   TRAP();
   UNREACHABLE();
 b51:;
-  x185 = ldp_8(x147);
-  x186 = ld64_8(x152);
-  x187 = FAR(x185, (u64)x153);
-  x188 = f121(x150, x151, x187, ((u64)((u64)x186 - x153)));
-  st8_1(FAR(x187, 2), ((u8)(((u16)((u32)x188 >> 8)))));
-  st8_1(FAR(x187, 3), ((u8)(x188)));
-  x189 = ld64_8(ADD(x147, 16));
-  if (((u8)(x186 < 14u))) goto b74; else goto b75;
+  x186 = ldp_8(x148);
+  x187 = ld64_8(x153);
+  x188 = FAR(x186, (u64)x154);
+  x189 = f116(x151, x152, x188, ((u64)((u64)x187 - x154)));
+  st8_1(FAR(x188, 2), ((u8)(((u16)((u32)x189 >> 8)))));
+  st8_1(FAR(x188, 3), ((u8)(x189)));
+  x190 = ld64_8(ADD(x148, 16));
+  if (((u8)(x187 < 14u))) goto b74; else goto b75;
 b74:;
-  if (((u8)(x189 == 0u))) goto b76; else goto b77;
+  if (((u8)(x190 == 0u))) goto b76; else goto b77;
 b77:;
-  os_rattle_dealloc(x185);
+  os_rattle_dealloc(x186);
   goto b76;
 b76:;
   TRAP();
   UNREACHABLE();
 b42:;
-  x190 = ld8_1(ADD(x109, 8));
-  MEMCPY(ADD(x191, 1), ADD(x109, 9), 31);
-  st8_1(x191, x190);
-  f165(x191);
-  f169(x106);
+  x191 = ld8_1(ADD(x110, 8));
+  MEMCPY(ADD(x192, 1), ADD(x110, 9), 31);
+  st8_1(x192, x191);
+  f161(x192);
+  f165(x107);
   goto b40;
 b40:;
   goto b48;
 b75:;
-  f169(x106);
-  MEMCPY(x97, x96, 6);
-  f154(x80, x97, x5);
-  x192 = ld8_1(x80);
-  if (((u8)(x192 == 0u))) goto b78; else goto b79;
+  f165(x107);
+  MEMCPY(x98, x97, 6);
+  f150(x83, x98, x5);
+  x193 = ld8_1(x83);
+  if (((u8)(x193 == 0u))) goto b78; else goto b79;
 b48:;
-  MEMSET(ADD(x39, 8), 0u, 18);
+  MEMSET(ADD(x38, 8), 0u, 18);
   { x25 = 0u; x27 = 0u; x29 = 1u; goto b22; }
 b78:;
-  x193 = ldp_8(ADD(x80, 8));
-  x194 = ld64_8(ADD(x80, 16));
-  x195 = ld64_8(ADD(x80, 24));
-  MEMSET(x196, 0u, 32);
+  x194 = ldp_8(ADD(x83, 8));
+  x195 = ld64_8(ADD(x83, 16));
+  x196 = ld64_8(ADD(x83, 24));
   MEMSET(x197, 0u, 32);
-  f157(x196);
-  x198 = ld8_1(x196);
-  if (((u8)(x198 == 0u))) goto b80; else goto b81;
+  MEMSET(x198, 0u, 32);
+  f153(x197);
+  x199 = ld8_1(x197);
+  if (((u8)(x199 == 0u))) goto b80; else goto b81;
 b80:;
-  x199 = ldp_8(ADD(x196, 8));
-  x200 = ld64_8(ADD(x196, 16));
-  x201 = ld64_8(ADD(x196, 24));
-  f157(x197);
-  x202 = ld8_1(x197);
-  if (((u8)(x202 == 0u))) goto b82; else goto b83;
+  x200 = ldp_8(ADD(x197, 8));
+  x201 = ld64_8(ADD(x197, 16));
+  x202 = ld64_8(ADD(x197, 24));
+  f153(x198);
+  x203 = ld8_1(x198);
+  if (((u8)(x203 == 0u))) goto b82; else goto b83;
 b82:;
-  x203 = ldp_8(ADD(x197, 8));
-  x204 = ld64_8(ADD(x197, 16));
-  x205 = ld64_8(ADD(x197, 24));
-  x206 = ld64_8(FAR(x8, 16));
-  x207 = ld64_8(FAR(x8, 8));
-  if (((u8)(((u64)((u64)x206 - x207)) < 2u))) goto b84; else goto b85;
+  x204 = ldp_8(ADD(x198, 8));
+  x205 = ld64_8(ADD(x198, 16));
+  x206 = ld64_8(ADD(x198, 24));
+  x207 = ld64_8(FAR(x8, 40));
+  x208 = ld64_8(FAR(x8, 32));
+  if (((u8)(((u64)((u64)x207 - x208)) < 2u))) goto b84; else goto b85;
 b84:;
-  x208 = f83(x8, 2u);
-  if (x208) goto b85; else goto b86;
+  x209 = f78(FAR(x8, 24), 2u);
+  if (x209) goto b85; else goto b86;
 b83:;
-  if (((u8)(x201 == 0u))) goto b81; else goto b87;
+  if (((u8)(x202 == 0u))) goto b81; else goto b87;
 b87:;
-  os_rattle_dealloc(x199);
+  os_rattle_dealloc(x200);
   goto b81;
 b85:;
-  x209 = f158(x87, 2u);
-  if (((u8)((x209) & 1u))) goto b88; else goto b89;
+  x210 = f154(x90, 2u);
+  if (((u8)((x210) & 1u))) goto b88; else goto b89;
 b86:;
-  if (((u8)(x205 == 0u))) goto b90; else goto b91;
+  if (((u8)(x206 == 0u))) goto b90; else goto b91;
 b91:;
-  os_rattle_dealloc(x203);
+  os_rattle_dealloc(x204);
   goto b90;
 b90:;
-  if (((u8)(x201 == 0u))) goto b81; else goto b92;
+  if (((u8)(x202 == 0u))) goto b81; else goto b92;
 b92:;
-  os_rattle_dealloc(x199);
+  os_rattle_dealloc(x200);
   goto b81;
 b88:;
-  if (((u8)(x205 == 0u))) goto b93; else goto b94;
+  if (((u8)(x206 == 0u))) goto b93; else goto b94;
 b94:;
-  os_rattle_dealloc(x203);
+  os_rattle_dealloc(x204);
   goto b93;
 b93:;
-  if (((u8)(x201 == 0u))) goto b81; else goto b95;
+  if (((u8)(x202 == 0u))) goto b81; else goto b95;
 b95:;
-  os_rattle_dealloc(x199);
+  os_rattle_dealloc(x200);
   goto b81;
 b79:;
-  if (((u8)(x189 == 0u))) goto b96; else goto b97;
+  if (((u8)(x190 == 0u))) goto b96; else goto b97;
 b97:;
-  os_rattle_dealloc(x185);
+  os_rattle_dealloc(x186);
   goto b96;
 b96:;
-  MEMSET(ADD(x39, 8), 0u, 18);
+  MEMSET(ADD(x38, 8), 0u, 18);
   { x25 = 0u; x27 = 0u; x29 = 1u; goto b22; }
 b89:;
-  st64_1(x55, 1u);
-  st64_1(x57, x2);
+  st64_1(x54, 1u);
+  st64_1(x56, x2);
   st64_8(FAR(x1, 64), x2);
-  stp_8(x81, x185);
-  st64_8(ADD(x81, 8), x186);
-  st64_8(ADD(x81, 16), x189);
-  st64_8(x82, 1u);
-  stp_8(ADD(x82, 8), x199);
-  st64_8(ADD(x82, 16), x200);
-  st64_8(ADD(x82, 24), x201);
-  f159(x1, x2, x86, x81, x82, x8);
-  stp_8(x83, x193);
-  st64_8(ADD(x83, 8), x194);
-  st64_8(ADD(x83, 16), x195);
-  st64_8(x84, 1u);
-  stp_8(ADD(x84, 8), x203);
-  st64_8(ADD(x84, 16), x204);
-  st64_8(ADD(x84, 24), x205);
-  f159(x1, x2, x79, x83, x84, x8);
-  MEMCPY(ADD(x39, 11), x85, 15);
+  stp_8(x84, x186);
+  st64_8(ADD(x84, 8), x187);
+  st64_8(ADD(x84, 16), x190);
+  st64_8(x85, 1u);
+  stp_8(ADD(x85, 8), x200);
+  st64_8(ADD(x85, 16), x201);
+  st64_8(ADD(x85, 24), x202);
+  f155(x1, x2, x89, x84, x85, x8);
+  stp_8(x86, x194);
+  st64_8(ADD(x86, 8), x195);
+  st64_8(ADD(x86, 16), x196);
+  st64_8(x87, 1u);
+  stp_8(ADD(x87, 8), x204);
+  st64_8(ADD(x87, 16), x205);
+  st64_8(ADD(x87, 24), x206);
+  f155(x1, x2, x80, x86, x87, x8);
+  MEMCPY(ADD(x38, 10), x88, 16);
   { x25 = 0u; x27 = 0u; x29 = 0u; goto b22; }
 b81:;
-  if (((u8)(x195 == 0u))) goto b98; else goto b99;
+  if (((u8)(x196 == 0u))) goto b98; else goto b99;
 b99:;
-  os_rattle_dealloc(x193);
+  os_rattle_dealloc(x194);
   goto b98;
 b98:;
-  if (((u8)(x189 == 0u))) goto b100; else goto b101;
+  if (((u8)(x190 == 0u))) goto b100; else goto b101;
 b101:;
-  os_rattle_dealloc(x185);
+  os_rattle_dealloc(x186);
   goto b100;
 b100:;
-  MEMSET(ADD(x39, 8), 0u, 18);
+  MEMSET(ADD(x38, 8), 0u, 18);
   { x25 = 0u; x27 = 0u; x29 = 1u; goto b22; }
 b22:;
-  { x31 = 0u; x33 = x25; x35 = x27; x37 = x29; goto b19; }
+  { x31 = x25; x33 = x27; x35 = x29; goto b19; }
 b19:;
-  st8_1(x0, x37);
-  st8_1(FAR(x0, 8), x35);
-  st8_1(FAR(x0, 9), x33);
-  st8_1(FAR(x0, 10), x31);
-  MEMCPY(FAR(x0, 11), ADD(x39, 11), 15);
+  st8_1(x0, x35);
+  st8_1(FAR(x0, 8), x33);
+  st8_1(FAR(x0, 9), x31);
+  MEMCPY(FAR(x0, 10), ADD(x38, 10), 16);
   goto b16;
 }
 
-static u8 f151(Q x0, u64 x1, u64 x2, u64 x3, Q x4, Q x5, u64 x6)
+static u8 f146(Q x0, u64 x1, u64 x2, u64 x3, Q x4, Q x5, u64 x6)
 {
   u64 x8, x10, x16, x17, x31, x32, x33, x34, x7, x39, x40, x41, x44, x46, x47, x50, x51, x59, x60, x61, x9;
   u8 x11, x13, x15, x18, x14, x27, x29, x30, x35, x42, x12, x55, x57, x58;
@@ -12514,18 +12551,18 @@ static u8 f151(Q x0, u64 x1, u64 x2, u64 x3, Q x4, Q x5, u64 x6)
 b0:;
   if (((u8)(x1 < x2))) { x15 = 1u; goto b2; } else goto b3;
 b3:;
-  x20 = f152(x0, x1, x4, x6);
+  x20 = f147(x0, x1, x4, x6);
   if (((u8)((x20.f0) == 0u))) { x15 = 1u; goto b2; } else goto b4;
 b4:;
-  x21 = f153(x0, x1, x3);
+  x21 = f148(x0, x1, x3);
   x14 = (u8)(((x21.f0)) & 1u);
   { x15 = x14; goto b2; }
 b1:;
   MEMCPY(x22, x19, 16);
-  x23 = f152(x0, x1, x4, x6);
+  x23 = f147(x0, x1, x4, x6);
   if (((u8)((x23.f0) == 0u))) goto b5; else goto b6;
 b5:;
-  x24 = f102(x0, x1, x22);
+  x24 = f97(x0, x1, x22);
   if (((u8)(((u8)(x1 < x2)) | ((u8)((x24.f0) == 0u))))) { x15 = 1u; goto b2; } else goto b7;
 b7:;
   if (((u8)(x1 == 0u))) { x15 = 0u; goto b2; } else goto b8;
@@ -12560,11 +12597,11 @@ b6:;
   x35 = (u8)(x1 < x2);
   if (x35) goto b16; else goto b17;
 b17:;
-  x36 = f153(x0, x1, x3);
+  x36 = f148(x0, x1, x3);
   if (((u8)(((x36.f0)) & 1u))) goto b16; else { x15 = 0u; goto b2; }
 b16:;
   MEMCPY(x37, x19, 16);
-  x38 = f153(x0, x1, x3);
+  x38 = f148(x0, x1, x3);
   x39 = x38.f1;
   if (((u8)((x38.f0) == 0u))) goto b18; else goto b19;
 b18:;
@@ -12573,7 +12610,7 @@ b18:;
   x42 = (u8)u128_eq(u128_or(u128_shl(u128_of(0, x17), (unsigned)u128_low(u128_of(0u, 64u)) & 127u), u128_of(0, x16)), u128_or(u128_shl(u128_of(0, x41), (unsigned)u128_low(u128_of(0u, 64u)) & 127u), u128_of(0, x40)));
   if (x42) { x13 = 1u; goto b20; } else goto b21;
 b21:;
-  x43 = f102(x0, x1, x37);
+  x43 = f97(x0, x1, x37);
   if (((u8)((x43.f0) == 0u))) { x13 = 1u; goto b20; } else goto b22;
 b22:;
   x44 = usub_sat64(x2, 1u);
@@ -12594,7 +12631,7 @@ b25:;
   x52 = u128_or(u128_shl(u128_of(0, x50), (unsigned)u128_low(u128_of(0u, 64u)) & 127u), u128_of(0, x51));
   if (((u8)u128_eq(x52, x48))) goto b26; else goto b27;
 b27:;
-  x53 = f102(x0, x1, x45);
+  x53 = f97(x0, x1, x45);
   if (((u8)((x53.f0) == 0u))) { x11 = 1u; goto b24; } else goto b26;
 b26:;
   if (((u8)(x1 == 0u))) { x11 = 0u; goto b24; } else { x10 = 0u; goto b28; }
@@ -12627,7 +12664,7 @@ b2:;
   return x15;
 }
 
-static s_u8_u64 f152(Q x0, u64 x1, Q x2, u64 x3)
+static s_u8_u64 f147(Q x0, u64 x1, Q x2, u64 x3)
 {
   s_u8_u64 x6, x4, x5;
   Q x8;
@@ -12649,13 +12686,13 @@ b2:;
   x4 = s_u8_u64_set1(((s_u8_u64){0u, 0u}), x3);
   { x6 = x4; goto b3; }
 b1:;
-  x5 = f102(x0, x1, x7);
+  x5 = f97(x0, x1, x7);
   { x6 = x5; goto b3; }
 b3:;
   return x6;
 }
 
-static s_u8_u64 f153(Q x0, u64 x1, u64 x2)
+static s_u8_u64 f148(Q x0, u64 x1, u64 x2)
 {
   u64 x4, x6, x5, x11, x17, x20, x21, x9, x3;
   u8 x8, x7, x10, x13, x15, x16, x19;
@@ -12693,7 +12730,42 @@ b0:;
   return s_u8_u64_set1(s_u8_u64_set0(((s_u8_u64){0u, 0u}), x10), x11);
 }
 
-static void f154(Q x0, Q x1, Q x2)
+static void f149(Q x0, Q x1, u64 x2, Q x3, Q x4)
+{
+  u8 x5, x6, x8, x7, x12;
+  Q x9;
+  _Alignas(8) u8 y0_[80];
+  Q const x11 = Q_OF(y0_);
+  _Alignas(1) u8 y1_[16];
+  Q const x10 = Q_OF(y1_);
+  x7 = ld8_1(x3);
+  x9 = FAR(x3, 1);
+  MEMCPY(x10, x9, 16);
+  MEMSET(ADD(x11, 26), 0u, 16);
+  MEMCPY(ADD(x11, 10), x9, 16);
+  st64_8(ADD(x11, 72), 0u);
+  st8_1(ADD(x11, 9), x7);
+  MEMSET(ADD(x11, 43), 0u, 34);
+  st64_8(x11, x2);
+  st8_1(ADD(x11, 8), 13u);
+  st8_1(ADD(x11, 42), 0u);
+  x12 = f130(x4, x11);
+  if (((u8)((x12) & 1u))) goto b0; else goto b1;
+b1:;
+  st64_8(FAR(x1, 64), x2);
+  MEMCPY(FAR(x0, 10), x10, 16);
+  { x5 = 0u; x6 = 2u; x8 = x7; goto b2; }
+b2:;
+  st8_1(x0, x5);
+  st8_1(FAR(x0, 8), x6);
+  st8_1(FAR(x0, 9), x8);
+  return;
+b0:;
+  MEMSET(FAR(x0, 10), 0u, 16);
+  { x5 = 1u; x6 = 0u; x8 = 0u; goto b2; }
+}
+
+static void f150(Q x0, Q x1, Q x2)
 {
   u8 x6, x7, x8, x10, x13;
   u32 x9;
@@ -12721,14 +12793,14 @@ static void f154(Q x0, Q x1, Q x2)
   st8_1(ADD(x5, 9), x7);
   x11 = ldp_4(FAR(x2, 48));
   x12 = ld64_4(FAR(x2, 56));
-  f148(x4, x3, x5, x11, x12);
+  f142(x4, x3, x5, x11, x12);
   x13 = ld8_1(x4);
   st8_1(x0, x13);
   MEMCPY(FAR(x0, 8), ADD(x4, 8), 24);
   return;
 }
 
-static void f155(Q x0, Q x1, u64 x2, Q x3, Q x4, Q x5)
+static void f151(Q x0, Q x1, u64 x2, Q x3, Q x4, Q x5)
 {
   Q x7;
   u64 x8, x9;
@@ -12746,7 +12818,7 @@ static void f155(Q x0, Q x1, u64 x2, Q x3, Q x4, Q x5)
   x8 = ld64_1(ADD(x4, 8));
   x9 = ld64_1(ADD(x4, 16));
   MEMSET(x10, 0u, 40);
-  f156(x10, FAR(x1, 448), x6, x5);
+  f152(x10, FAR(x1, 448), x6, x5);
   x11 = ld8_1(x10);
   if (((u8)(x11 == 0u))) goto b0; else goto b1;
 b0:;
@@ -12757,7 +12829,7 @@ b0:;
   st64_8(ADD(x13, 16), x9);
   st64_8(x14, ((u64)x12));
   MEMCPY(ADD(x14, 8), ADD(x10, 16), 24);
-  f159(x1, x2, x6, x13, x14, x5);
+  f155(x1, x2, x6, x13, x14, x5);
   st8_1(x0, 0u);
   MEMSET(FAR(x0, 8), 0u, 18);
   goto b2;
@@ -12774,7 +12846,7 @@ b3:;
   goto b2;
 }
 
-static void f156(Q x0, Q x1, Q x2, Q x3)
+static void f152(Q x0, Q x1, Q x2, Q x3)
 {
   u64 x6, x7, x10, x12, x16, x17;
   u8 x8, x14, x18;
@@ -12786,18 +12858,18 @@ static void f156(Q x0, Q x1, Q x2, Q x3)
   Q const x4 = Q_OF(y1_);
   MEMCPY(x4, x2, 16);
   MEMSET(x5, 0u, 32);
-  x6 = ld64_8(FAR(x3, 16));
-  x7 = ld64_8(FAR(x3, 8));
+  x6 = ld64_8(FAR(x3, 40));
+  x7 = ld64_8(FAR(x3, 32));
   if (((u8)(x6 == x7))) goto b0; else goto b1;
 b0:;
-  x8 = f83(x3, 1u);
+  x8 = f78(FAR(x3, 24), 1u);
   if (x8) goto b1; else goto b2;
 b1:;
   x9 = ldp_8(x1);
   x10 = ld64_8(FAR(x1, 8));
   x11 = FAR(x1, 176);
   x12 = ld64_8(x11);
-  x13 = f152(x9, x10, x4, x12);
+  x13 = f147(x9, x10, x4, x12);
   if (((u8)((x13.f0) == 0u))) goto b3; else goto b4;
 b5:;
   return;
@@ -12811,14 +12883,14 @@ b3:;
   MEMSET(FAR(x0, 8), 0u, 32);
   goto b5;
 b4:;
-  f157(x5);
+  f153(x5);
   x14 = ld8_1(x5);
   if (((u8)(x14 == 0u))) goto b6; else goto b7;
 b6:;
   x15 = ldp_8(ADD(x5, 8));
   x16 = ld64_8(ADD(x5, 16));
   x17 = ld64_8(ADD(x5, 24));
-  x18 = f158(x1, 1u);
+  x18 = f154(x1, 1u);
   if (((u8)((x18) & 1u))) goto b8; else goto b9;
 b7:;
   st8_1(x0, 1u);
@@ -12842,7 +12914,7 @@ b9:;
   goto b5;
 }
 
-static void f157(Q x0)
+static void f153(Q x0)
 {
   u8 x1, x4;
   _Alignas(8) u8 y0_[32];
@@ -12851,7 +12923,7 @@ static void f157(Q x0)
   Q const x2 = Q_OF(y1_);
   MEMSET(x2, 0u, 31);
   MEMSET(x3, 0u, 32);
-  f75(x3, 86u);
+  f72(x3, 86u);
   x4 = ld8_1(x3);
   if (((u8)(x4 == 0u))) goto b0; else goto b1;
 b0:;
@@ -12866,7 +12938,7 @@ b2:;
   return;
 }
 
-static u8 f158(Q x0, u64 x1)
+static u8 f154(Q x0, u64 x1)
 {
   u8 x2, x5, x9, x13, x17;
   Q x3, x4, x10, x12, x18;
@@ -12897,7 +12969,7 @@ b4:;
   MEMSET(FAR(x0, 112), 0u, 16);
   if (((u8)(x9 == 1u))) goto b5; else goto b0;
 b5:;
-  f133(x11);
+  f128(x11);
   goto b0;
 b0:;
   if (((u8)(x1 > 1u))) goto b6; else { x2 = 0u; goto b3; }
@@ -12922,13 +12994,13 @@ b9:;
   MEMSET(FAR(x0, 152), 0u, 16);
   if (((u8)(x17 == 1u))) goto b10; else { x2 = 0u; goto b3; }
 b10:;
-  f133(x19);
+  f128(x19);
   { x2 = 0u; goto b3; }
 b3:;
   return x2;
 }
 
-static void f159(Q x0, u64 x1, Q x2, Q x3, Q x4, Q x5)
+static void f155(Q x0, u64 x1, Q x2, Q x3, Q x4, Q x5)
 {
   u64 x8, x11, x14, x16, x18, x20, x25, x26, x27, x28, x29, x30, x31, x32, x33, x36, x37, x24, x10, x13, x41, x42, x49, x50, x52, x7, x23, x9, x12, x19, x17, x65, x6, x15, x67, x71, x76, x84, x90, x94;
   u8 x22, x34, x35, x39, x57, x58, x61, x64, x21, x70, x75, x80;
@@ -12979,7 +13051,7 @@ static void f159(Q x0, u64 x1, Q x2, Q x3, Q x4, Q x5)
   x48 = ldp_8(x45);
   x49 = ld64_8(FAR(x0, 456));
   x50 = ld64_8(FAR(x0, 624));
-  x51 = f152(x48, x49, x2, x50);
+  x51 = f147(x48, x49, x2, x50);
   x52 = x51.f1;
   if (((u8)((x51.f0) == 0u))) goto b0; else goto b1;
 b0:;
@@ -12995,7 +13067,7 @@ b2:;
   st64_8(x59, x24);
   st64_8(ADD(x59, 8), x10);
   st64_8(ADD(x59, 16), x13);
-  f160(x60, FAR(x55, 40), x59);
+  f156(x60, FAR(x55, 40), x59);
   x61 = ld8_1(x60);
   x23 = (u64)x61;
   x9 = ld64_8(ADD(x60, 8));
@@ -13026,18 +13098,18 @@ b5:;
 b4:;
   if (((u8)(x7 == x18))) goto b8; else goto b9;
 b9:;
-  f85(x53, 1u, x7, 1u, x18, x54);
+  f80(x53, 1u, x7, 1u, x18, x54);
   goto b8;
 b1:;
   x66 = FAR(x0, 616);
   x67 = ld64_8(x66);
   if (((u8)(x49 < x67))) goto b10; else goto b11;
 b11:;
-  x68 = f153(x48, x49, x1);
+  x68 = f148(x48, x49, x1);
   if (((u8)(((x68.f0)) & 1u))) goto b10; else goto b12;
 b10:;
   x69 = FAR(x0, 472);
-  f161(x47, FAR(x0, 528));
+  f157(x47, FAR(x0, 528));
   x70 = ld8_1(x47);
   if (((u8)(x70 == 0u))) goto b13; else goto b12;
 b13:;
@@ -13046,7 +13118,7 @@ b13:;
   st64_8(ADD(x72, 8), x10);
   st64_8(ADD(x72, 16), x13);
   MEMCPY(x73, ADD(x47, 8), 32);
-  f160(x74, x73, x72);
+  f156(x74, x73, x72);
   x75 = ld8_1(x74);
   x76 = ld64_8(ADD(x74, 24));
   if ((((u8)(x75 != 1u)) ? 1u : ((u8)(x76 == 0u)))) goto b14; else goto b15;
@@ -13061,14 +13133,14 @@ b14:;
   st32_4(ADD(x78, 32), 0u);
   st32_4(ADD(x78, 36), x44);
   MEMCPY(ADD(x78, 40), x73, 32);
-  f162(x45, x69, x71, x1, x52, x78);
+  f158(x45, x69, x71, x1, x52, x78);
   { x26 = 0u; x27 = 0u; x28 = 0u; x29 = 0u; x30 = 0u; goto b16; }
 b8:;
   if (x58) goto b17; else { x31 = x20; x32 = x25; x33 = x16; x34 = x22; x35 = 1u; x36 = x14; x37 = x11; goto b18; }
 b17:;
   if (((u8)((x22) & 1u))) { x26 = x11; x27 = x14; x28 = x16; x29 = x25; x30 = x20; goto b16; } else { x31 = x20; x32 = x25; x33 = x16; x34 = 0u; x35 = 0u; x36 = x14; x37 = x11; goto b18; }
 b16:;
-  f99(FAR(x0, 864));
+  f94(FAR(x0, 864));
   { x31 = x30; x32 = x29; x33 = x28; x34 = 1u; x35 = 0u; x36 = x27; x37 = x26; goto b18; }
 b18:;
   MEMCPY(x79, FAR(x0, 1), 6);
@@ -13079,9 +13151,9 @@ b19:;
   x82 = (Q)(u64)x32;
   st8_1(x82, x34);
   stn(ADD(x82, 1), x33, 5);
-  x83 = FAR(x5, 8);
+  x83 = FAR(x5, 32);
   x84 = ld64_8(x83);
-  x85 = ldp_8(x5);
+  x85 = ldp_8(FAR(x5, 24));
   x86 = ADD(x85, (u64)((u64)((u64)x84 * 80u)));
   st64_1(x86, x1);
   st64_1(ADD(x86, 8), 0u);
@@ -13102,11 +13174,11 @@ b25:;
   stp_8(x87, x40);
   st64_8(ADD(x87, 8), x41);
   st64_8(ADD(x87, 16), x42);
-  f122(x88, x87, x79, x43, x38);
+  f117(x88, x87, x79, x43, x38);
   MEMCPY(ADD(x81, 7), x88, 24);
-  x89 = FAR(x5, 8);
+  x89 = FAR(x5, 32);
   x90 = ld64_8(x89);
-  x91 = ldp_8(x5);
+  x91 = ldp_8(FAR(x5, 24));
   x92 = ADD(x91, (u64)((u64)((u64)x90 * 80u)));
   st64_1(x92, x1);
   st8_1(ADD(x92, 8), 0u);
@@ -13123,9 +13195,9 @@ b26:;
 b24:;
   if (((u8)(x80 == 1u))) goto b28; else goto b29;
 b28:;
-  x93 = FAR(x5, 8);
+  x93 = FAR(x5, 32);
   x94 = ld64_8(x93);
-  x95 = ldp_8(x5);
+  x95 = ldp_8(FAR(x5, 24));
   x96 = ADD(x95, (u64)((u64)((u64)x94 * 80u)));
   st64_1(x96, x1);
   st8_1(ADD(x96, 8), 9u);
@@ -13152,7 +13224,7 @@ b12:;
   UNREACHABLE();
 }
 
-static void f160(Q x0, Q x1, Q x2)
+static void f156(Q x0, Q x1, Q x2)
 {
   u64 x3, x4, x7, x10, x12, x13, x14, x15, x17, x18, x20;
   Q x9, x11, x16, x19;
@@ -13202,7 +13274,7 @@ b2:;
   return;
 }
 
-static void f161(Q x0, Q x1)
+static void f157(Q x0, Q x1)
 {
   u64 x4, x7, x10, x12, x2, x5, x3, x6, x11, x9;
   u8 x8, x14, x18;
@@ -13260,7 +13332,7 @@ b4:;
   return;
 }
 
-static void f162(Q x0, Q x1, u64 x2, u64 x3, u64 x4, Q x5)
+static void f158(Q x0, Q x1, u64 x2, u64 x3, u64 x4, Q x5)
 {
   u64 x7, x8, x14, x17, x6, x18, x21, x22;
   Q x13, x15;
@@ -13287,21 +13359,21 @@ static void f162(Q x0, Q x1, u64 x2, u64 x3, u64 x4, Q x5)
   if (((u8)(x14 < x2))) { x7 = x4; goto b0; } else goto b1;
 b1:;
   x15 = ldp_8(x0);
-  x16 = f153(x15, x14, x3);
+  x16 = f148(x15, x14, x3);
   if (((u8)((x16.f0) == 1u))) goto b2; else goto b3;
 b2:;
   x17 = x16.f1;
   x6 = (u64)((u64)x4 + ((u64)((u64)0 - ((u8)(x17 < x4)))));
-  f103(x12, x0, x17);
+  f98(x12, x0, x17);
   x18 = ld64_8(ADD(x12, 24));
   x19 = ld8_1(ADD(x12, 32));
-  f85(x1, 1u, x18, 0u, 0u, x12);
+  f80(x1, 1u, x18, 0u, 0u, x12);
   if (((u8)(x19 == 0u))) goto b4; else { x7 = x6; goto b0; }
 b3:;
   TRAP();
   UNREACHABLE();
 b4:;
-  f133(ADD(x12, 40));
+  f128(ADD(x12, 40));
   { x7 = x6; goto b0; }
 b0:;
   MEMCPY(x20, x9, 24);
@@ -13314,25 +13386,25 @@ b5:;
   MEMCPY(x23, x9, 24);
   st64_8(ADD(x23, 24), x8);
   MEMCPY(ADD(x23, 32), x10, 40);
-  f222(x0, x7, x23);
+  f217(x0, x7, x23);
   goto b7;
 b6:;
   if (((u8)(x22 == x21))) goto b8; else goto b9;
 b8:;
-  x24 = f221(x0);
+  x24 = f216(x0);
   if (x24) goto b9; else goto b10;
 b9:;
-  f222(x0, x7, x20);
+  f217(x0, x7, x20);
   goto b7;
 b10:;
   TRAP();
   UNREACHABLE();
 b7:;
-  f85(x1, 0u, 0u, 1u, x8, x11);
+  f80(x1, 0u, 0u, 1u, x8, x11);
   return;
 }
 
-static void f163(Q x0, Q x1, Q x2)
+static void f159(Q x0, Q x1, Q x2)
 {
   Q x3, x7;
   u64 x4, x5;
@@ -13343,7 +13415,7 @@ static void f163(Q x0, Q x1, Q x2)
   x3 = ldp_8(x1);
   x4 = ld64_8(FAR(x1, 8));
   x5 = ld64_8(FAR(x1, 176));
-  x6 = f152(x3, x4, x2, x5);
+  x6 = f147(x3, x4, x2, x5);
   x7 = FAR(x3, (u64)((u64)((u64)(x6.f1) * 72u)));
   if (((u8)((x6.f0) == 0u))) goto b0; else goto b1;
 b0:;
@@ -13364,7 +13436,7 @@ b3:;
   goto b4;
 }
 
-static u8 f164(Q x0, u64 x1)
+static u8 f160(Q x0, u64 x1)
 {
   u8 x2;
   s_u64_u64 x5, x3, x10, x4;
@@ -13392,7 +13464,7 @@ b4:;
   { x2 = 1u; goto b1; }
 }
 
-static void f165(Q x0)
+static void f161(Q x0)
 {
   u64 x2, x5, x6, x8, x1;
   u8 x3;
@@ -13441,7 +13513,7 @@ b5:;
   UNREACHABLE();
 }
 
-static void f166(Q x0, Q x1, Q x2)
+static void f162(Q x0, Q x1, Q x2)
 {
   u64 x5, x8, x4, x3;
   u8 x6, x10;
@@ -13455,7 +13527,7 @@ static void f166(Q x0, Q x1, Q x2)
   x4 = ld64_8(x9);
   if (((u8)(x8 == x4))) goto b0; else { x5 = x4; goto b1; }
 b0:;
-  x10 = f167(x1);
+  x10 = f163(x1);
   if (x10) goto b2; else goto b3;
 b2:;
   x3 = ld64_8(x9);
@@ -13478,7 +13550,7 @@ b1:;
   goto b4;
 }
 
-static u8 f167(Q x0)
+static u8 f163(Q x0)
 {
   u8 x2, x1;
   u64 x3, x4, x5, x6, x7;
@@ -13491,17 +13563,17 @@ b1:;
   x5 = umax64(x3, 3u);
   x6 = (u64)((u64)x5 + 1u);
   x7 = umax64(x6, ((u64)((u64)x4 << 1)));
-  x1 = f164(x0, (((u8)(x4 < UINT64_C(4611686018427387904))) ? x7 : x6));
+  x1 = f160(x0, (((u8)(x4 < UINT64_C(4611686018427387904))) ? x7 : x6));
   { x2 = x1; goto b0; }
 }
 
-static s_u8_u64 f168(Q x0, Q x1, u64 x2)
+static s_u8_u64 f164(Q x0, Q x1, u64 x2)
 {
   u64 x5, x7, x12, x13, x4, x6, x18, x11, x20, x23, x10, x27, x29, x8, x31, x9, x3;
   u8 x14, x17, x22, x24, x28;
   s_u8_u64 x15, x21, x32;
   Q x16, x19, x25, x26, x30;
-  x15 = f106(x0);
+  x15 = f101(x0);
   if (((u8)((x15.f0) == 1u))) goto b0; else { x13 = 0u; x14 = 0u; goto b1; }
 b0:;
   x4 = x15.f1;
@@ -13522,7 +13594,7 @@ b5:;
 b7:;
   x19 = ldp_8(FAR(x16, 8));
   x20 = ld64_8(FAR(x16, 16));
-  x21 = f108(x19, x20);
+  x21 = f103(x19, x20);
   x22 = (u8)((x21.f0) == 1u);
   x23 = (x22 ? (x21.f1) : 0u);
   x10 = (u64)((u64)((u64)((u64)x23 + 8u)) + (((u64)((u64)0u - x23)) & 7u));
@@ -13532,7 +13604,7 @@ b8:;
   x25 = ldp_8(FAR(x16, 8));
   x26 = FAR(x16, 16);
   x27 = ld64_8(x26);
-  x28 = f110(x24, x25, x27);
+  x28 = f105(x24, x25, x27);
   x29 = ld64_8(x26);
   x8 = (u64)((u64)x29 + 2u);
   if (x28) { x12 = x8; goto b4; } else { x13 = 0u; x14 = 0u; goto b1; }
@@ -13541,7 +13613,7 @@ b9:;
 b6:;
   x30 = ldp_8(FAR(x16, 8));
   x31 = ld64_8(FAR(x16, 16));
-  x32 = f107(x30, x31);
+  x32 = f102(x30, x31);
   x9 = x32.f1;
   if (((u8)((x32.f0) == 1u))) { x12 = x9; goto b4; } else { x13 = 0u; x14 = 0u; goto b1; }
 b4:;
@@ -13551,7 +13623,7 @@ b1:;
   return s_u8_u64_set1(s_u8_u64_set0(((s_u8_u64){0u, 0u}), x14), x13);
 }
 
-static void f169(Q x0)
+static void f165(Q x0)
 {
   u64 x2, x4, x5, x1;
   Q x3, x7, x8;
@@ -13570,7 +13642,7 @@ b2:;
   x9 = ld8_1(x8);
   st8_1(x6, x9);
   MEMCPY(x7, FAR(x8, 1), 31);
-  f165(x6);
+  f161(x6);
   x1 = (u64)((u64)x2 + 1u);
   if (((u8)(x1 == x4))) goto b0; else { x2 = x1; goto b2; }
 b0:;
@@ -13582,7 +13654,7 @@ b3:;
   return;
 }
 
-static void f170(Q x0, Q x1, u64 x2, Q x3)
+static void f166(Q x0, Q x1, u64 x2, Q x3)
 {
   u8 x8;
   _Alignas(8) u8 y0_[40];
@@ -13602,8 +13674,8 @@ static void f170(Q x0, Q x1, u64 x2, Q x3)
   stp_8(ADD(x5, 24), FAR(x1, 280));
   stp_8(ADD(x5, 32), FAR(x1, 448));
   MEMSET(x6, 0u, 17);
-  f171(x7, FAR(x1, 696), x4);
-  f172(x6, x7, x4, x5);
+  f167(x7, FAR(x1, 696), x4);
+  f168(x6, x7, x4, x5);
   x8 = ld8_1(x6);
   MEMCPY(x9, ADD(x6, 1), 16);
   st8_1(x0, x8);
@@ -13611,7 +13683,7 @@ static void f170(Q x0, Q x1, u64 x2, Q x3)
   return;
 }
 
-static void f171(Q x0, Q x1, Q x2)
+static void f167(Q x0, Q x1, Q x2)
 {
   u8 x4, x3;
   u64 x5, x6, x8;
@@ -13635,7 +13707,7 @@ b0:;
 b1:;
   x9 = bswap128(u128_or(u128_shl(u128_of(0, x6), (unsigned)u128_low(u128_of(0u, 64u)) & 127u), u128_of(0, x5)));
   st128_8(x10, x9);
-  x11 = f237(x1, x10);
+  x11 = f232(x1, x10);
   if (((u8)((x11.f0) == 1u))) goto b3; else { x4 = 0u; goto b4; }
 b3:;
   x12 = x11.f1;
@@ -13648,7 +13720,7 @@ b4:;
   goto b2;
 }
 
-static void f172(Q x0, Q x1, Q x2, Q x3)
+static void f168(Q x0, Q x1, Q x2, Q x3)
 {
   Q x6, x46, x49, x4, x5, x65, x67, x68, x70, x71, x72, x73, x74, x79, x82, x83;
   u64 x9, x11, x13, x15, x17, x26, x27, x12, x10, x16, x36, x37, x40, x41, x42, x43, x50, x53, x54, x7, x8, x58, x60, x61, x66, x69, x75, x76, x77, x80, x81, x25, x84, x85, x34, x33, x14;
@@ -13680,7 +13752,7 @@ b0:;
   goto b2;
 b1:;
   x46 = ldp_8(FAR(x3, 24));
-  x47 = f138(x46, 0u, x44);
+  x47 = f132(x46, 0u, x44);
   if (x47) goto b2; else goto b3;
 b4:;
   return;
@@ -13754,7 +13826,7 @@ b18:;
   { x11 = 0u; x13 = 0u; x15 = 0u; x17 = 0u; x19 = 0u; x21 = 0u; x23 = 0u; x24 = 0u; goto b19; }
 b19:;
   x73 = FAR(x67, (u64)((u64)((u64)x15 << 5)));
-  x35 = f173(x68, x69, x73);
+  x35 = f169(x68, x69, x73);
   x74 = ldp_8(x70);
   x75 = ld64_8(x71);
   if (((u8)(x75 == 0u))) { x27 = 0u; x29 = 1u; x30 = 0u; goto b20; } else goto b21;
@@ -13777,7 +13849,7 @@ b20:;
   x83 = ldp_8(x82);
   x84 = ld64_8(FAR(x82, 8));
   x85 = ld64_8(FAR(x82, 176));
-  x86 = f152(x83, x84, x73, x85);
+  x86 = f147(x83, x84, x73, x85);
   if (((u8)((x86.f0) == 0u))) goto b24; else { x32 = 0u; goto b25; }
 b24:;
   x31 = ld8_1(FAR(FAR(x83, (u64)((u64)((u64)(x86.f1) * 72u))), 32));
@@ -13823,7 +13895,7 @@ b37:;
   goto b4;
 }
 
-static u8 f173(Q x0, u64 x1, Q x2)
+static u8 f169(Q x0, u64 x1, Q x2)
 {
   u64 x4, x7, x8, x3, x11, x12;
   u8 x6, x5;
@@ -13850,355 +13922,345 @@ b0:;
   return x6;
 }
 
-static void f174(Q x0, Q x1, u64 x2, Q x3, Q x4)
+static void f170(Q x0, Q x1, u64 x2, Q x3, Q x4)
 {
-  u8 x5, x6, x7, x9, x10, x11, x13, x18, x20, x22, x24, x25, x26, x27, x28, x44, x54, x8, x56, x58, x12, x19, x61, x64, x65, x66, x67, x23, x21, x71, x72, x75, x77, x78, x80, x85, x87, x94, x96, x98, x99, x101, x102, x104, x105, x111;
-  u64 x15, x17, x34, x16, x14, x43, x81, x82, x84, x89, x92, x107, x109, x112, x113, x32, x33, x114;
-  u32 x31, x29, x108, x30, x110;
-  Q x41, x42, x55, x60, x68, x69, x70, x73, x83, x90, x91, x93, x100, x103, x106, x115, x116;
-  _Alignas(8) u8 y0_[72];
-  Q const x79 = Q_OF(y0_);
-  Q const x86 = Q_OF(y0_);
+  u8 x5, x6, x7, x9, x10, x11, x13, x18, x20, x22, x24, x25, x41, x51, x8, x53, x55, x12, x19, x58, x61, x62, x63, x64, x23, x21, x68, x69, x72, x74, x75, x76, x77, x78, x83, x85, x93, x95, x97, x98, x100, x101, x103, x104, x110;
+  u64 x15, x17, x31, x16, x14, x40, x79, x80, x82, x88, x91, x106, x108, x111, x112, x29, x30, x113;
+  u32 x28, x26, x107, x27, x109;
+  Q x38, x39, x52, x57, x65, x66, x67, x70, x81, x87, x89, x90, x92, x99, x102, x105, x114, x115;
+  _Alignas(1) u8 y0_[32];
+  Q const x84 = Q_OF(y0_);
   _Alignas(1) u8 y1_[32];
-  Q const x88 = Q_OF(y1_);
-  _Alignas(1) u8 y2_[28];
-  Q const x95 = Q_OF(y2_);
+  Q const x86 = Q_OF(y1_);
+  _Alignas(8) u8 y2_[32];
+  Q const x32 = Q_OF(y2_);
   _Alignas(1) u8 y3_[28];
-  Q const x48 = Q_OF(y3_);
+  Q const x94 = Q_OF(y3_);
   _Alignas(1) u8 y4_[28];
-  Q const x36 = Q_OF(y4_);
+  Q const x45 = Q_OF(y4_);
   _Alignas(1) u8 y5_[28];
-  Q const x37 = Q_OF(y5_);
-  _Alignas(1) u8 y6_[27];
-  Q const x74 = Q_OF(y6_);
+  Q const x33 = Q_OF(y5_);
+  _Alignas(1) u8 y6_[28];
+  Q const x34 = Q_OF(y6_);
   _Alignas(1) u8 y7_[27];
-  Q const x76 = Q_OF(y7_);
-  _Alignas(1) u8 y8_[17];
-  Q const x97 = Q_OF(y8_);
+  Q const x71 = Q_OF(y7_);
+  _Alignas(1) u8 y8_[27];
+  Q const x73 = Q_OF(y8_);
   _Alignas(1) u8 y9_[17];
-  Q const x38 = Q_OF(y9_);
-  _Alignas(1) u8 y10_[16];
-  Q const x63 = Q_OF(y10_);
-  _Alignas(1) u8 y11_[15];
-  Q const x35 = Q_OF(y11_);
-  _Alignas(1) u8 y12_[15];
-  Q const x39 = Q_OF(y12_);
-  _Alignas(1) u8 y13_[15];
-  Q const x40 = Q_OF(y13_);
+  Q const x96 = Q_OF(y9_);
+  _Alignas(1) u8 y10_[17];
+  Q const x35 = Q_OF(y10_);
+  _Alignas(1) u8 y11_[17];
+  Q const x36 = Q_OF(y11_);
+  _Alignas(1) u8 y12_[16];
+  Q const x60 = Q_OF(y12_);
+  _Alignas(2) u8 y13_[16];
+  Q const x37 = Q_OF(y13_);
   _Alignas(1) u8 y14_[7];
-  Q const x47 = Q_OF(y14_);
+  Q const x44 = Q_OF(y14_);
   _Alignas(1) u8 y15_[7];
-  Q const x49 = Q_OF(y15_);
+  Q const x46 = Q_OF(y15_);
   _Alignas(1) u8 y16_[7];
-  Q const x50 = Q_OF(y16_);
+  Q const x47 = Q_OF(y16_);
   _Alignas(1) u8 y17_[7];
-  Q const x51 = Q_OF(y17_);
+  Q const x48 = Q_OF(y17_);
   _Alignas(1) u8 y18_[7];
-  Q const x52 = Q_OF(y18_);
+  Q const x49 = Q_OF(y18_);
   _Alignas(1) u8 y19_[7];
-  Q const x53 = Q_OF(y19_);
+  Q const x50 = Q_OF(y19_);
   _Alignas(1) u8 y20_[6];
-  Q const x45 = Q_OF(y20_);
+  Q const x42 = Q_OF(y20_);
   _Alignas(1) u8 y21_[6];
-  Q const x46 = Q_OF(y21_);
+  Q const x43 = Q_OF(y21_);
   _Alignas(1) u8 y22_[5];
-  Q const x62 = Q_OF(y22_);
+  Q const x59 = Q_OF(y22_);
   _Alignas(1) u8 y23_[5];
-  Q const x59 = Q_OF(y23_);
+  Q const x56 = Q_OF(y23_);
   _Alignas(1) u8 y24_[5];
-  Q const x57 = Q_OF(y24_);
-  MEMSET(x35, 0u, 15);
-  MEMSET(x36, 0u, 28);
-  MEMSET(x37, 0u, 28);
-  MEMSET(x38, 0u, 17);
-  MEMSET(x39, 0u, 15);
-  MEMSET(x40, 0u, 15);
+  Q const x54 = Q_OF(y24_);
+  MEMSET(x32, 0u, 32);
+  MEMSET(x33, 0u, 28);
+  MEMSET(x34, 0u, 28);
+  MEMSET(x35, 0u, 17);
+  MEMSET(x36, 0u, 17);
+  MEMSET(x37, 0u, 16);
   x16 = ld64_1(x3);
   x14 = ld64_1(ADD(x3, 8));
-  x41 = FAR(x3, 32);
-  x42 = ldp_1(FAR(x3, 72));
-  x43 = ld64_1(FAR(x3, 80));
-  x44 = ld8_1(FAR(x1, 33));
-  if (((u8)((x44) & 1u))) goto b0; else goto b1;
+  x38 = FAR(x3, 32);
+  x39 = ldp_1(FAR(x3, 72));
+  x40 = ld64_1(FAR(x3, 80));
+  x41 = ld8_1(FAR(x1, 33));
+  if (((u8)((x41) & 1u))) goto b0; else goto b1;
 b0:;
-  MEMCPY(x45, FAR(x1, 1), 6);
+  MEMCPY(x42, FAR(x1, 1), 6);
   { x5 = 1u; goto b2; }
 b1:;
-  MEMSET(x45, 0u, 6);
+  MEMSET(x42, 0u, 6);
   { x5 = 0u; goto b2; }
 b2:;
-  MEMCPY(x46, x45, 6);
-  st8_1(x47, x5);
-  MEMCPY(ADD(x47, 1), x46, 6);
-  MEMSET(x48, 0u, 28);
+  MEMCPY(x43, x42, 6);
+  st8_1(x44, x5);
+  MEMCPY(ADD(x44, 1), x43, 6);
+  MEMSET(x45, 0u, 28);
+  MEMSET(x46, 0u, 7);
+  MEMSET(x47, 0u, 7);
+  MEMSET(x48, 0u, 7);
   MEMSET(x49, 0u, 7);
   MEMSET(x50, 0u, 7);
-  MEMSET(x51, 0u, 7);
-  MEMSET(x52, 0u, 7);
-  MEMSET(x53, 0u, 7);
-  x54 = ld8_1(x41);
-  switch (x54) { case 0u: goto b3; case 1u: goto b4; case 2u: goto b5; case 3u: goto b6; case 4u: goto b7; default: goto b8; }
+  x51 = ld8_1(x38);
+  switch (x51) { case 0u: goto b3; case 1u: goto b4; case 2u: goto b5; case 3u: goto b6; case 4u: goto b7; default: goto b8; }
 b3:;
-  f175(x49, x42, x43, x47);
-  x8 = ld8_1(ADD(x49, 1));
-  x55 = ADD(x49, 2);
+  f171(x46, x39, x40, x44);
+  x8 = ld8_1(ADD(x46, 1));
+  x52 = ADD(x46, 2);
   if (((u8)((x14 | x16) == 0u))) goto b9; else goto b10;
 b9:;
-  MEMSET(x48, 0u, 28);
+  MEMSET(x45, 0u, 28);
   { x22 = 0u; x24 = 0u; goto b11; }
 b10:;
-  x56 = ld8_1(x49);
-  if (((u8)(x56 == 1u))) goto b12; else goto b13;
+  x53 = ld8_1(x46);
+  if (((u8)(x53 == 1u))) goto b12; else goto b13;
 b12:;
-  MEMCPY(x57, x55, 5);
+  MEMCPY(x54, x52, 5);
   { x6 = 1u; x7 = 0u; x9 = x8; goto b14; }
 b13:;
-  MEMSET(x57, 0u, 5);
+  MEMSET(x54, 0u, 5);
   { x6 = 0u; x7 = 2u; x9 = 0u; goto b14; }
 b14:;
-  st64_1(ADD(x48, 2), x16);
-  st64_1(ADD(x48, 10), x14);
-  st8_1(ADD(x48, 18), x9);
-  MEMCPY(ADD(x48, 19), x57, 5);
-  st8_1(ADD(x48, 24), x6);
-  st8_1(ADD(x48, 25), 0u);
-  st16_1(ADD(x48, 26), 0u);
+  st64_1(ADD(x45, 2), x16);
+  st64_1(ADD(x45, 10), x14);
+  st8_1(ADD(x45, 18), x9);
+  MEMCPY(ADD(x45, 19), x54, 5);
+  st8_1(ADD(x45, 24), x6);
+  st8_1(ADD(x45, 25), 0u);
+  st16_1(ADD(x45, 26), 0u);
   { x22 = x7; x24 = 1u; goto b11; }
 b4:;
-  f175(x50, x42, x43, x47);
-  x58 = ld8_1(x50);
-  if (((u8)(x58 == 1u))) goto b15; else goto b16;
+  f171(x47, x39, x40, x44);
+  x55 = ld8_1(x47);
+  if (((u8)(x55 == 1u))) goto b15; else goto b16;
 b15:;
-  x12 = ld8_1(ADD(x50, 1));
-  MEMCPY(x59, ADD(x50, 2), 5);
+  x12 = ld8_1(ADD(x47, 1));
+  MEMCPY(x56, ADD(x47, 2), 5);
   { x10 = 1u; x11 = 0u; x13 = x12; goto b17; }
 b16:;
-  MEMSET(x59, 0u, 5);
+  MEMSET(x56, 0u, 5);
   { x10 = 0u; x11 = 2u; x13 = 1u; goto b17; }
 b17:;
-  st64_1(ADD(x48, 2), x16);
-  st64_1(ADD(x48, 10), x14);
-  st8_1(ADD(x48, 18), x13);
-  MEMCPY(ADD(x48, 19), x59, 5);
-  st8_1(ADD(x48, 24), x10);
-  st8_1(ADD(x48, 25), x10);
-  st16_1(ADD(x48, 26), 0u);
+  st64_1(ADD(x45, 2), x16);
+  st64_1(ADD(x45, 10), x14);
+  st8_1(ADD(x45, 18), x13);
+  MEMCPY(ADD(x45, 19), x56, 5);
+  st8_1(ADD(x45, 24), x10);
+  st8_1(ADD(x45, 25), x10);
+  st16_1(ADD(x45, 26), 0u);
   { x22 = x11; x24 = 1u; goto b11; }
 b5:;
-  f175(x51, x42, x43, x47);
-  x19 = ld8_1(ADD(x51, 1));
-  x60 = ADD(x51, 2);
+  f171(x48, x39, x40, x44);
+  x19 = ld8_1(ADD(x48, 1));
+  x57 = ADD(x48, 2);
   if (((u8)((x14 | x16) == 0u))) goto b18; else goto b19;
 b18:;
-  MEMSET(x48, 0u, 28);
+  MEMSET(x45, 0u, 28);
   { x22 = 0u; x24 = 0u; goto b11; }
 b19:;
-  x61 = ld8_1(x51);
-  if (((u8)(x61 == 1u))) goto b20; else goto b21;
+  x58 = ld8_1(x48);
+  if (((u8)(x58 == 1u))) goto b20; else goto b21;
 b20:;
-  MEMCPY(x62, x60, 5);
+  MEMCPY(x59, x57, 5);
   { x15 = x14; x17 = x16; x18 = 1u; x20 = x19; goto b22; }
 b21:;
-  MEMSET(x62, 0u, 5);
+  MEMSET(x59, 0u, 5);
   { x15 = 0u; x17 = 0u; x18 = 0u; x20 = 0u; goto b22; }
 b22:;
-  st64_1(ADD(x48, 2), x17);
-  st64_1(ADD(x48, 10), x15);
-  st8_1(ADD(x48, 18), x20);
-  MEMCPY(ADD(x48, 19), x62, 5);
-  st8_1(ADD(x48, 24), 0u);
-  st8_1(ADD(x48, 25), 0u);
-  st16_1(ADD(x48, 26), 0u);
+  st64_1(ADD(x45, 2), x17);
+  st64_1(ADD(x45, 10), x15);
+  st8_1(ADD(x45, 18), x20);
+  MEMCPY(ADD(x45, 19), x59, 5);
+  st8_1(ADD(x45, 24), 0u);
+  st8_1(ADD(x45, 25), 0u);
+  st16_1(ADD(x45, 26), 0u);
   { x22 = 0u; x24 = x18; goto b11; }
 b6:;
-  MEMCPY(x63, FAR(x3, 36), 16);
-  x64 = ld8_1(FAR(x3, 33));
-  x65 = ld8_1(FAR(x3, 34));
-  x66 = ld8_1(FAR(x3, 35));
-  f177(x52, x42, x43, x47);
-  x67 = ld8_1(x52);
-  MEMCPY(ADD(x48, 2), x63, 16);
-  st8_1(ADD(x48, 18), x64);
-  st8_1(ADD(x48, 19), x65);
-  st8_1(ADD(x48, 20), x66);
-  st8_1(ADD(x48, 21), x67);
-  MEMCPY(ADD(x48, 22), ADD(x52, 1), 6);
+  MEMCPY(x60, FAR(x3, 36), 16);
+  x61 = ld8_1(FAR(x3, 33));
+  x62 = ld8_1(FAR(x3, 34));
+  x63 = ld8_1(FAR(x3, 35));
+  f173(x49, x39, x40, x44);
+  x64 = ld8_1(x49);
+  MEMCPY(ADD(x45, 2), x60, 16);
+  st8_1(ADD(x45, 18), x61);
+  st8_1(ADD(x45, 19), x62);
+  st8_1(ADD(x45, 20), x63);
+  st8_1(ADD(x45, 21), x64);
+  MEMCPY(ADD(x45, 22), ADD(x49, 1), 6);
   { x22 = 1u; x24 = 1u; goto b11; }
 b7:;
-  f177(x53, x42, x43, x47);
-  f178(x48, FAR(x3, 33), x53);
-  x23 = ld8_1(x48);
-  x21 = ld8_1(ADD(x48, 1));
+  f173(x50, x39, x40, x44);
+  f174(x45, FAR(x3, 33), x50);
+  x23 = ld8_1(x45);
+  x21 = ld8_1(ADD(x45, 1));
   { x22 = x21; x24 = x23; goto b11; }
 b8:;
   UNREACHABLE();
 b11:;
-  st8_1(x36, x24);
-  st8_1(ADD(x36, 1), x22);
-  x68 = ADD(x36, 2);
-  MEMCPY(x68, ADD(x48, 2), 16);
-  x69 = ADD(x36, 18);
-  MEMCPY(x69, ADD(x48, 18), 10);
-  x70 = FAR(x1, 30);
-  x71 = ld8_1(FAR(x1, 31));
-  x72 = (u8)((x71) & 1u);
-  x73 = FAR(x1, 448);
+  st8_1(x33, x24);
+  st8_1(ADD(x33, 1), x22);
+  x65 = ADD(x33, 2);
+  MEMCPY(x65, ADD(x45, 2), 16);
+  x66 = ADD(x33, 18);
+  MEMCPY(x66, ADD(x45, 18), 10);
+  x67 = FAR(x1, 30);
+  x68 = ld8_1(FAR(x1, 31));
+  x69 = (u8)((x68) & 1u);
+  x70 = FAR(x1, 448);
   if (((u8)(x24 == 1u))) goto b23; else goto b24;
 b24:;
-  { x28 = 1u; goto b25; }
+  { x25 = 1u; goto b25; }
 b23:;
-  st8_1(x74, x22);
-  MEMCPY(ADD(x74, 1), x68, 16);
-  MEMCPY(ADD(x74, 17), x69, 10);
-  if (x72) goto b26; else goto b27;
+  st8_1(x71, x22);
+  MEMCPY(ADD(x71, 1), x65, 16);
+  MEMCPY(ADD(x71, 17), x66, 10);
+  if (x69) goto b26; else goto b27;
 b26:;
-  x75 = f179(x73, x2, x74);
-  if (x75) { x28 = 1u; goto b25; } else goto b28;
+  x72 = f175(x70, x2, x71);
+  if (x72) { x25 = 1u; goto b25; } else goto b28;
 b27:;
-  st8_1(x76, x22);
-  MEMCPY(ADD(x76, 1), x68, 16);
-  MEMCPY(ADD(x76, 17), x69, 10);
-  x77 = f181(x73, x2, x76);
-  if (x77) { x28 = 1u; goto b25; } else goto b28;
+  st8_1(x73, x22);
+  MEMCPY(ADD(x73, 1), x65, 16);
+  MEMCPY(ADD(x73, 17), x66, 10);
+  x74 = f177(x70, x2, x73);
+  if (x74) { x25 = 1u; goto b25; } else goto b28;
 b28:;
-  x78 = ld8_1(x70);
-  if (((u8)((x78) & 1u))) { x28 = 0u; goto b25; } else goto b29;
-b33:;
+  x75 = ld8_1(x67);
+  if (((u8)((x75) & 1u))) { x25 = 0u; goto b25; } else goto b29;
+b30:;
   return;
 b29:;
-  MEMSET(ADD(x79, 16), 0u, 56);
-  st8_1(x79, 13u);
-  st8_1(ADD(x79, 1), 5u);
-  st8_1(ADD(x79, 2), 0u);
-  MEMCPY(ADD(x79, 3), x39, 15);
-  x80 = f248(x1, x2, x79, x4);
-  if (((u8)((x80) & 1u))) goto b30; else goto b31;
-b31:;
-  MEMCPY(x35, x39, 15);
-  { x25 = 0u; x26 = 2u; x27 = 5u; goto b32; }
-b30:;
-  MEMSET(x35, 0u, 15);
-  { x25 = 1u; x26 = 0u; x27 = 0u; goto b32; }
-b32:;
-  st8_1(x0, x25);
-  st8_1(FAR(x0, 8), x26);
-  st8_1(FAR(x0, 9), x27);
-  st8_1(FAR(x0, 10), 0u);
-  MEMCPY(FAR(x0, 11), x35, 15);
-  goto b33;
+  st8_1(x36, 5u);
+  st8_1(ADD(x36, 1), 0u);
+  f149(x32, x1, x2, x36, x4);
+  x76 = ld8_1(x32);
+  st8_1(x0, x76);
+  x77 = ld8_1(ADD(x32, 8));
+  st8_1(FAR(x0, 8), x77);
+  x78 = ld8_1(ADD(x32, 9));
+  st8_1(FAR(x0, 9), x78);
+  MEMCPY(FAR(x0, 10), ADD(x32, 10), 16);
+  goto b30;
 b25:;
-  f182(x37, x36, x28);
-  x81 = (x72 ? 21u : 12u);
-  x82 = ld64_8(FAR(x4, 16));
-  x83 = FAR(x4, 8);
-  x84 = ld64_8(x83);
-  if (((u8)(x81 > ((u64)((u64)x82 - x84))))) goto b34; else goto b35;
-b34:;
-  x85 = f83(x4, x81);
-  if (x85) goto b35; else goto b36;
-b35:;
+  f178(x34, x33, x25);
+  x79 = (x69 ? 21u : 12u);
+  x80 = ld64_8(FAR(x4, 40));
+  x81 = FAR(x4, 32);
+  x82 = ld64_8(x81);
+  if (((u8)(x79 > ((u64)((u64)x80 - x82))))) goto b31; else goto b32;
+b31:;
+  x83 = f78(FAR(x4, 24), x79);
+  if (x83) goto b32; else goto b33;
+b32:;
   st64_8(FAR(x1, 64), x2);
-  MEMCPY(x86, x3, 16);
-  MEMCPY(ADD(x86, 16), FAR(x3, 16), 16);
-  x87 = ld8_1(x41);
-  MEMCPY(x88, FAR(x3, 33), 32);
-  x89 = ld64_8(x83);
-  x90 = ldp_8(x4);
-  x91 = ADD(x90, (u64)((u64)((u64)x89 * 80u)));
-  st64_1(x91, x2);
-  st8_1(ADD(x91, 8), 1u);
-  MEMCPY(ADD(x91, 9), x86, 32);
-  st8_1(ADD(x91, 41), 0u);
-  st8_1(ADD(x91, 42), 0u);
-  st8_1(ADD(x91, 43), 0u);
-  st8_1(ADD(x91, 44), x87);
-  MEMCPY(ADD(x91, 45), x88, 32);
-  MEMSET(ADD(x91, 77), 0u, 3);
-  st64_8(x83, ((u64)((u64)x89 + 1u)));
-  x92 = ld64_8(FAR(x1, 88));
-  x93 = FAR(x1, 696);
-  x94 = ld8_1(x37);
-  st8_1(x95, x94);
-  x96 = ld8_1(ADD(x37, 1));
-  st8_1(ADD(x95, 1), x96);
-  MEMCPY(ADD(x95, 2), ADD(x37, 2), 16);
-  MEMCPY(ADD(x95, 18), ADD(x37, 18), 10);
-  f183(x97, x73, x93, x2, x95, x72, x4);
-  (void)f185(x73, x93, x2, x95, x92, x4);
-  x98 = ld8_1(x97);
-  MEMCPY(ADD(x38, 1), ADD(x97, 1), 16);
-  st8_1(x38, x98);
-  f188(FAR(x1, 112), x93, x38);
-  x99 = ld8_1(x1);
-  x100 = FAR(x1, 40);
-  if (((u8)(x99 == 1u))) goto b37; else goto b38;
+  MEMCPY(x84, x3, 16);
+  MEMCPY(ADD(x84, 16), FAR(x3, 16), 16);
+  x85 = ld8_1(x38);
+  MEMCPY(x86, FAR(x3, 33), 32);
+  x87 = FAR(x4, 24);
+  x88 = ld64_8(x81);
+  x89 = ldp_8(x87);
+  x90 = ADD(x89, (u64)((u64)((u64)x88 * 80u)));
+  st64_1(x90, x2);
+  st8_1(ADD(x90, 8), 1u);
+  MEMCPY(ADD(x90, 9), x84, 32);
+  st8_1(ADD(x90, 41), 0u);
+  st8_1(ADD(x90, 42), 0u);
+  st8_1(ADD(x90, 43), 0u);
+  st8_1(ADD(x90, 44), x85);
+  MEMCPY(ADD(x90, 45), x86, 32);
+  MEMSET(ADD(x90, 77), 0u, 3);
+  st64_8(x81, ((u64)((u64)x88 + 1u)));
+  x91 = ld64_8(FAR(x1, 88));
+  x92 = FAR(x1, 696);
+  x93 = ld8_1(x34);
+  st8_1(x94, x93);
+  x95 = ld8_1(ADD(x34, 1));
+  st8_1(ADD(x94, 1), x95);
+  MEMCPY(ADD(x94, 2), ADD(x34, 2), 16);
+  MEMCPY(ADD(x94, 18), ADD(x34, 18), 10);
+  f179(x96, x70, x92, x2, x94, x69, x4);
+  (void)f181(x70, x92, x2, x94, x91, x4);
+  x97 = ld8_1(x96);
+  MEMCPY(ADD(x35, 1), ADD(x96, 1), 16);
+  st8_1(x35, x97);
+  f184(FAR(x1, 112), x92, x35);
+  x98 = ld8_1(x1);
+  x99 = FAR(x1, 40);
+  if (((u8)(x98 == 1u))) goto b34; else goto b35;
+b34:;
+  x100 = ld8_1(FAR(x1, 1112));
+  if (((u8)(x100 == 1u))) goto b36; else goto b35;
+b36:;
+  x101 = ld8_1(FAR(x1, 1152));
+  if (((u8)(x101 == 0u))) goto b35; else goto b37;
 b37:;
-  x101 = ld8_1(FAR(x1, 1112));
-  if (((u8)(x101 == 1u))) goto b39; else goto b38;
-b39:;
-  x102 = ld8_1(FAR(x1, 1152));
-  if (((u8)(x102 == 0u))) goto b38; else goto b40;
-b40:;
-  x103 = FAR(x1, 1176);
-  x104 = ld8_1(x103);
-  if (((u8)(x104 == 1u))) goto b38; else goto b41;
-b41:;
-  x105 = ld8_1(x100);
-  if (((u8)(x105 == 0u))) goto b42; else goto b43;
-b43:;
-  x29 = ld32_4(FAR(x1, 44));
-  { x31 = x29; goto b44; }
-b42:;
-  x106 = FAR(x1, 48);
-  x107 = ld64_8(x106);
-  x108 = (u32)((((u64)((u64)x107 >> 45)) ^ ((u64)((u64)x107 >> 27))));
-  x30 = fshr32(x108, x108, ((u32)(((u64)((u64)x107 >> 59)))));
-  x109 = ld64_8(FAR(x1, 56));
-  st64_8(x106, ((u64)((u64)((u64)((u64)x107 * UINT64_C(6364136223846793005))) + x109)));
-  { x31 = x30; goto b44; }
-b44:;
-  x110 = (x31 % 501u);
-  x111 = ld8_1(FAR(x1, 1096));
-  if (((u8)(x111 == 1u))) goto b45; else goto b46;
-b45:;
-  x112 = ld64_1(FAR(x1, 1104));
-  x113 = (u64)((u64)x112 + 3000u);
-  if (((u8)(x2 < x113))) goto b47; else goto b46;
-b47:;
-  x32 = (u64)((u64)x113 + ((u64)x110));
-  { x34 = x32; goto b48; }
-b46:;
-  x33 = (u64)((u64)x2 + ((u64)x110));
-  { x34 = x33; goto b48; }
-b48:;
-  st64_1(x103, 1u);
-  st64_1(FAR(x1, 1184), x34);
-  goto b38;
+  x102 = FAR(x1, 1176);
+  x103 = ld8_1(x102);
+  if (((u8)(x103 == 1u))) goto b35; else goto b38;
 b38:;
-  if (x28) goto b49; else goto b50;
-b50:;
-  x114 = ld64_8(x83);
-  x115 = ldp_8(x4);
-  x116 = ADD(x115, (u64)((u64)((u64)x114 * 80u)));
-  st64_1(x116, x2);
-  st8_1(ADD(x116, 8), 14u);
-  MEMSET(ADD(x116, 9), 0u, 71);
-  st64_8(x83, ((u64)((u64)x114 + 1u)));
-  goto b49;
-b49:;
+  x104 = ld8_1(x99);
+  if (((u8)(x104 == 0u))) goto b39; else goto b40;
+b40:;
+  x26 = ld32_4(FAR(x1, 44));
+  { x28 = x26; goto b41; }
+b39:;
+  x105 = FAR(x1, 48);
+  x106 = ld64_8(x105);
+  x107 = (u32)((((u64)((u64)x106 >> 45)) ^ ((u64)((u64)x106 >> 27))));
+  x27 = fshr32(x107, x107, ((u32)(((u64)((u64)x106 >> 59)))));
+  x108 = ld64_8(FAR(x1, 56));
+  st64_8(x105, ((u64)((u64)((u64)((u64)x106 * UINT64_C(6364136223846793005))) + x108)));
+  { x28 = x27; goto b41; }
+b41:;
+  x109 = (x28 % 501u);
+  x110 = ld8_1(FAR(x1, 1096));
+  if (((u8)(x110 == 1u))) goto b42; else goto b43;
+b42:;
+  x111 = ld64_1(FAR(x1, 1104));
+  x112 = (u64)((u64)x111 + 3000u);
+  if (((u8)(x2 < x112))) goto b44; else goto b43;
+b44:;
+  x29 = (u64)((u64)x112 + ((u64)x109));
+  { x31 = x29; goto b45; }
+b43:;
+  x30 = (u64)((u64)x2 + ((u64)x109));
+  { x31 = x30; goto b45; }
+b45:;
+  st64_1(x102, 1u);
+  st64_1(FAR(x1, 1184), x31);
+  goto b35;
+b35:;
+  if (x25) goto b46; else goto b47;
+b47:;
+  x113 = ld64_8(x81);
+  x114 = ldp_8(x87);
+  x115 = ADD(x114, (u64)((u64)((u64)x113 * 80u)));
+  st64_1(x115, x2);
+  st8_1(ADD(x115, 8), 14u);
+  MEMSET(ADD(x115, 9), 0u, 71);
+  st64_8(x81, ((u64)((u64)x113 + 1u)));
+  goto b46;
+b46:;
   st8_1(x0, 0u);
   st8_1(FAR(x0, 8), 0u);
   st8_1(FAR(x0, 9), 0u);
-  st8_1(FAR(x0, 10), 0u);
-  MEMCPY(FAR(x0, 11), x40, 15);
-  goto b33;
-b36:;
+  MEMCPY(FAR(x0, 10), x37, 16);
+  goto b30;
+b33:;
   st8_1(x0, 1u);
   MEMSET(FAR(x0, 8), 0u, 18);
-  goto b33;
+  goto b30;
 }
 
-static void f175(Q x0, Q x1, u64 x2, Q x3)
+static void f171(Q x0, Q x1, u64 x2, Q x3)
 {
   u8 x4, x8, x11, x12, x13;
   Q x9, x10;
@@ -14225,7 +14287,7 @@ b2:;
   x11 = ld8_1(x9);
   if (((u8)(x11 == 0u))) goto b3; else goto b4;
 b3:;
-  x12 = f176(x10, x5);
+  x12 = f172(x10, x5);
   if (x12) goto b4; else goto b5;
 b6:;
   return;
@@ -14242,7 +14304,7 @@ b1:;
   goto b6;
 }
 
-static u8 f176(Q x0, Q x1)
+static u8 f172(Q x0, Q x1)
 {
   u8 x3, x7, x11, x15, x19, x20, x23, x24, x2, x25, x6, x26, x27, x10, x29, x30, x14, x18;
   u64 x5, x9, x13, x17, x4, x8, x12, x28, x16;
@@ -14289,7 +14351,7 @@ b1:;
   return x19;
 }
 
-static void f177(Q x0, Q x1, u64 x2, Q x3)
+static void f173(Q x0, Q x1, u64 x2, Q x3)
 {
   u8 x4, x8, x11, x12, x13;
   Q x9, x10;
@@ -14316,7 +14378,7 @@ b2:;
   x11 = ld8_1(x9);
   if (((u8)(x11 == 1u))) goto b3; else goto b4;
 b3:;
-  x12 = f176(x10, x5);
+  x12 = f172(x10, x5);
   if (x12) goto b4; else goto b5;
 b6:;
   return;
@@ -14333,7 +14395,7 @@ b1:;
   goto b6;
 }
 
-static void f178(Q x0, Q x1, Q x2)
+static void f174(Q x0, Q x1, Q x2)
 {
   u8 x3, x5, x6, x7, x8, x9, x4, x15, x16;
   Q x10;
@@ -14407,7 +14469,7 @@ b8:;
   goto b5;
 }
 
-static u8 f179(Q x0, u64 x1, Q x2)
+static u8 f175(Q x0, u64 x1, Q x2)
 {
   u8 x4, x5, x6, x13, x14, x3;
   Q x9;
@@ -14425,10 +14487,10 @@ b0:;
   x10 = ld64_8(FAR(x0, 8));
   x11 = ld64_8(FAR(x0, 168));
   x12 = ld64_8(FAR(x0, 176));
-  x13 = f151(x9, x10, x11, x1, FAR(x2, 1), x8, x12);
+  x13 = f146(x9, x10, x11, x1, FAR(x2, 1), x8, x12);
   if (x13) { x4 = 1u; goto b2; } else goto b3;
 b3:;
-  f180(x7, x9, x10);
+  f176(x7, x9, x10);
   x14 = ld8_1(x7);
   x3 = (u8)((x14) & 1u);
   { x4 = x3; goto b2; }
@@ -14438,7 +14500,7 @@ b1:;
   return x5;
 }
 
-static void f180(Q x0, Q x1, u64 x2)
+static void f176(Q x0, Q x1, u64 x2)
 {
   u64 x4, x6, x5, x14, x20, x12, x11, x10, x3, x26, x27, x13;
   u8 x8, x7, x15, x17, x18, x21, x9, x23, x24;
@@ -14500,7 +14562,7 @@ b0:;
   goto b13;
 }
 
-static u8 f181(Q x0, u64 x1, Q x2)
+static u8 f177(Q x0, u64 x1, Q x2)
 {
   u8 x4, x5, x3;
   Q x7;
@@ -14515,13 +14577,13 @@ b0:;
   x8 = ld64_8(FAR(x0, 8));
   x9 = ld64_8(FAR(x0, 168));
   x10 = ld64_8(FAR(x0, 176));
-  x3 = f151(x7, x8, x9, x1, FAR(x2, 1), x6, x10);
+  x3 = f146(x7, x8, x9, x1, FAR(x2, 1), x6, x10);
   { x4 = x3; goto b1; }
 b1:;
   return x4;
 }
 
-static void f182(Q x0, Q x1, u8 x2)
+static void f178(Q x0, Q x1, u8 x2)
 {
   u8 x3, x5, x7, x8, x11, x14, x15, x9, x18, x20, x6, x4, x10;
   u16 x13, x12, x19;
@@ -14595,7 +14657,7 @@ b8:;
   UNREACHABLE();
 }
 
-static void f183(Q x0, Q x1, Q x2, u64 x3, Q x4, u8 x5, Q x6)
+static void f179(Q x0, Q x1, Q x2, u64 x3, Q x4, u8 x5, Q x6)
 {
   u8 x7, x8, x9, x22, x23, x25;
   Q x10, x16, x18;
@@ -14642,21 +14704,21 @@ b5:;
   x19 = ld64_8(FAR(x1, 8));
   x20 = ld64_8(FAR(x1, 168));
   x21 = ld64_8(FAR(x1, 176));
-  x22 = f151(x18, x19, x20, x3, x10, x17, x21);
+  x22 = f146(x18, x19, x20, x3, x10, x17, x21);
   if (x22) goto b7; else goto b8;
 b8:;
-  f180(x15, x18, x19);
+  f176(x15, x18, x19);
   x23 = ld8_1(x15);
   if (((u8)(x23 == 1u))) goto b9; else goto b7;
 b9:;
-  f184(x24, x1, FAR(x1, 24), x16);
+  f180(x24, x1, FAR(x1, 24), x16);
   x25 = ld8_1(x24);
   MEMCPY(x12, x16, 16);
   MEMCPY(x13, ADD(x24, 8), 32);
-  f99(FAR(x2, 168));
+  f94(FAR(x2, 168));
   st64_8(x14, ((u64)x25));
   MEMCPY(ADD(x14, 8), x13, 32);
-  f125(x6, x3, x12, x14);
+  f120(x6, x3, x12, x14);
   MEMCPY(x11, x12, 16);
   { x7 = 1u; goto b6; }
 b7:;
@@ -14668,7 +14730,7 @@ b6:;
   goto b2;
 }
 
-static void f184(Q x0, Q x1, Q x2, Q x3)
+static void f180(Q x0, Q x1, Q x2, Q x3)
 {
   u64 x4, x8, x10;
   Q x7;
@@ -14686,13 +14748,13 @@ static void f184(Q x0, Q x1, Q x2, Q x3)
   MEMSET(x6, 0u, 72);
   x7 = ldp_8(x1);
   x8 = ld64_8(FAR(x1, 8));
-  x9 = f102(x7, x8, x3);
+  x9 = f97(x7, x8, x3);
   if (((u8)((x9.f0) == 0u))) goto b0; else goto b1;
 b0:;
-  f103(x6, x1, (x9.f1));
+  f98(x6, x1, (x9.f1));
   x10 = ld64_8(ADD(x6, 24));
   x11 = ld8_1(ADD(x6, 32));
-  f85(x2, 1u, x10, 0u, 0u, x5);
+  f80(x2, 1u, x10, 0u, 0u, x5);
   if (((u8)(x11 == 0u))) goto b2; else goto b3;
 b2:;
   MEMCPY(x12, ADD(x6, 40), 32);
@@ -14712,18 +14774,18 @@ b1:;
   goto b5;
 }
 
-static u8 f185(Q x0, Q x1, u64 x2, Q x3, u64 x4, Q x5)
+static u8 f181(Q x0, Q x1, u64 x2, Q x3, u64 x4, Q x5)
 {
   u8 x7, x10, x22, x27, x29, x32, x37, x47, x49, x50, x52, x57, x59, x60, x62, x64, x71, x72, x73, x74, x81, x87, x89, x91, x92, x94, x95, x96, x101, x103, x104, x58, x117, x6, x9, x8, x122, x28, x61, x63, x126, x48, x139, x36, x30, x31, x146, x149, x46, x153, x51, x158, x160, x162, x88, x79, x80, x163, x90;
-  u64 x12, x14, x16, x21, x23, x24, x25, x41, x43, x45, x54, x55, x56, x75, x76, x77, x83, x85, x86, x106, x110, x112, x115, x19, x15, x13, x11, x20, x133, x137, x151, x40, x42, x44, x152, x156, x165, x84, x82, x168, x169, x170, x175;
-  Q x18, x26, x35, x39, x53, x78, x93, x100, x105, x109, x113, x114, x116, x118, x119, x17, x120, x121, x125, x128, x131, x132, x135, x136, x138, x33, x34, x143, x148, x150, x38, x154, x155, x159, x161, x164, x166, x167, x171, x172, x174, x176, x177;
+  u64 x12, x14, x16, x21, x23, x24, x25, x41, x43, x45, x54, x55, x56, x75, x76, x77, x83, x85, x86, x106, x110, x112, x115, x19, x15, x13, x11, x20, x133, x137, x151, x40, x42, x44, x152, x156, x166, x84, x82, x169, x170, x171, x176;
+  Q x18, x26, x35, x39, x53, x78, x93, x100, x105, x109, x113, x114, x116, x118, x119, x17, x120, x121, x125, x128, x131, x132, x135, x136, x138, x33, x34, x143, x148, x150, x38, x154, x155, x159, x161, x164, x165, x167, x168, x172, x173, x175, x177, x178;
   u32 x67, x65, x66;
   u16 x70, x68, x69, x102, x127;
   s_u8_u64 x111, x123, x134, x157;
   _Alignas(8) u8 y0_[72];
   Q const x124 = Q_OF(y0_);
   Q const x141 = Q_OF(y0_);
-  Q const x173 = Q_OF(y0_);
+  Q const x174 = Q_OF(y0_);
   _Alignas(8) u8 y1_[32];
   Q const x97 = Q_OF(y1_);
   _Alignas(1) u8 y2_[27];
@@ -14786,7 +14848,7 @@ b2:;
   st16_1(ADD(x108, 4), x69);
   x109 = ldp_8(x0);
   x110 = ld64_8(FAR(x0, 8));
-  x111 = f102(x109, x110, x100);
+  x111 = f97(x109, x110, x100);
   x112 = x111.f1;
   if (((u8)((x111.f0) == 0u))) goto b6; else goto b7;
 b6:;
@@ -14828,7 +14890,7 @@ b12:;
   { x12 = x11; x14 = x13; x16 = x15; x18 = x17; x21 = x19; x22 = 1u; goto b14; }
 b13:;
   x121 = FAR(x113, 33);
-  x122 = f186(x108, x121);
+  x122 = f182(x108, x121);
   if (x122) { x23 = 0u; x24 = 0u; x25 = 0u; x26 = Q_NULL; x27 = 0u; x29 = x10; goto b15; } else goto b16;
 b16:;
   x20 = (u64)((u64)x2 + 86400000u);
@@ -14842,7 +14904,7 @@ b16:;
 b14:;
   if (((u8)(x115 == x21))) { x23 = x12; x24 = x14; x25 = x16; x26 = x18; x27 = x22; x29 = x10; goto b15; } else goto b17;
 b17:;
-  f85(x105, 1u, x115, 1u, x21, x107);
+  f80(x105, 1u, x115, 1u, x21, x107);
   x28 = ld8_1(x118);
   { x23 = x12; x24 = x14; x25 = x16; x26 = x18; x27 = x22; x29 = x28; goto b15; }
 b15:;
@@ -14851,7 +14913,7 @@ b15:;
 b7:;
   if (((u8)(x110 < x106))) goto b19; else goto b20;
 b20:;
-  x123 = f153(x109, x110, x2);
+  x123 = f148(x109, x110, x2);
   if (((u8)(((x123.f0)) & 1u))) goto b19; else goto b21;
 b19:;
   MEMCPY(x124, x93, 16);
@@ -14866,7 +14928,7 @@ b19:;
   st8_1(ADD(x124, 39), 0u);
   st64_8(ADD(x124, 40), x2);
   MEMSET(ADD(x124, 48), 0u, 24);
-  f162(x0, x105, x106, x2, x112, x124);
+  f158(x0, x105, x106, x2, x112, x124);
   { x53 = Q_NULL; x54 = 0u; x55 = 0u; x56 = 0u; x57 = 0u; x59 = 0u; x60 = 0u; x62 = 0u; goto b18; }
 b3:;
   x63 = (u8)(x95 == 1u);
@@ -14888,7 +14950,7 @@ b3:;
   st32_1(ADD(x130, 3), x66);
   x132 = ldp_8(x0);
   x133 = ld64_8(FAR(x0, 8));
-  x134 = f102(x132, x133, x125);
+  x134 = f97(x132, x133, x125);
   if (((u8)((x134.f0) == 0u))) goto b22; else { x39 = Q_NULL; x41 = 0u; x43 = 0u; x45 = 0u; x47 = 0u; x49 = 0u; x50 = 0u; x52 = 0u; goto b23; }
 b22:;
   x135 = FAR(x132, (u64)((u64)((u64)(x134.f1) * 72u)));
@@ -14911,7 +14973,7 @@ b26:;
 b27:;
   st16_2(x142, x69);
   st32_2(ADD(x142, 2), x66);
-  f187(x141, x135, x2, x140, x142, 1u, x4);
+  f183(x141, x135, x2, x140, x142, 1u, x4);
   { x32 = x30; x35 = x33; x37 = x36; goto b28; }
 b25:;
   x34 = FAR(x135, 16);
@@ -14923,21 +14985,21 @@ b25:;
   if (x139) goto b29; else goto b30;
 b29:;
   MEMCPY(x144, x143, 6);
-  f187(x141, x135, x2, x140, x144, 0u, x4);
+  f183(x141, x135, x2, x140, x144, 0u, x4);
   { x32 = x31; x35 = x34; x37 = 0u; goto b28; }
 b30:;
   MEMCPY(x145, x143, 6);
-  x146 = f186(x131, x143);
+  x146 = f182(x131, x143);
   if (x146) goto b31; else goto b32;
 b31:;
-  f187(x141, x135, x2, x140, x145, 0u, x4);
+  f183(x141, x135, x2, x140, x145, 0u, x4);
   { x32 = x31; x35 = x34; x37 = 0u; goto b28; }
 b32:;
   st16_2(x147, x69);
   st32_2(ADD(x147, 2), x66);
   if (((u8)(((u16)(x127 & 256u)) == 0u))) goto b33; else goto b34;
 b34:;
-  f187(x141, x135, x2, x140, x147, 1u, x4);
+  f183(x141, x135, x2, x140, x147, 1u, x4);
   { x32 = x31; x35 = x34; x37 = 0u; goto b28; }
 b33:;
   x148 = FAR(x135, 39);
@@ -14967,7 +15029,7 @@ b28:;
   x152 = ld64_8(x136);
   if (((u8)(x137 == x152))) goto b38; else goto b39;
 b39:;
-  f85(x128, 1u, x137, 1u, x152, x129);
+  f80(x128, 1u, x137, 1u, x152, x129);
   goto b38;
 b38:;
   x153 = ld8_1(x35);
@@ -14986,10 +15048,10 @@ b4:;
   st32_1(ADD(x99, 23), x66);
   x155 = ldp_8(x0);
   x156 = ld64_8(FAR(x0, 8));
-  x157 = f102(x155, x156, x154);
+  x157 = f97(x155, x156, x154);
   if (((u8)((x157.f0) == 0u))) goto b41; else goto b42;
 b42:;
-  f99(FAR(x1, 168));
+  f94(FAR(x1, 168));
   { x89 = 0u; goto b43; }
 b41:;
   x158 = (u8)(x68);
@@ -15005,10 +15067,10 @@ b18:;
 b40:;
   if (((u8)((x73) & 1u))) goto b45; else goto b46;
 b44:;
-  f99(FAR(x1, 168));
+  f94(FAR(x1, 168));
   { x89 = x88; goto b43; }
 b46:;
-  f99(FAR(x1, 168));
+  f94(FAR(x1, 168));
   x79 = (u8)(x74 == 1u);
   if (x64) { x81 = x79; goto b47; } else { x87 = x79; goto b48; }
 b45:;
@@ -15018,50 +15080,51 @@ b47:;
   x163 = (u8)((x72) & 1u);
   if (x81) goto b49; else goto b50;
 b49:;
-  x164 = FAR(x5, 8);
+  x164 = FAR(x5, 24);
+  x165 = FAR(x5, 32);
   if (((u8)(x76 == 0u))) { x86 = x75; goto b51; } else { x83 = x76; x85 = x75; goto b52; }
 b52:;
-  x165 = (u64)((u64)x85 + 1u);
-  x84 = (u64)((u64)x165 - (((u8)(x165 < x77)) ? 0u : x77));
+  x166 = (u64)((u64)x85 + 1u);
+  x84 = (u64)((u64)x166 - (((u8)(x166 < x77)) ? 0u : x77));
   x82 = (u64)((u64)x83 + UINT64_C(18446744073709551615));
-  x166 = ADD(x78, (u64)((u64)((u64)x85 * 24u)));
-  x167 = ldp_1(x166);
-  x168 = ld64_1(ADD(x166, 8));
-  x169 = ld64_1(ADD(x166, 16));
-  st16_1(x167, x70);
-  st32_1(ADD(x167, 2), x67);
-  x170 = ld64_8(x164);
-  x171 = ldp_8(x5);
-  x172 = ADD(x171, (u64)((u64)((u64)x170 * 80u)));
-  st64_1(x172, x2);
-  st64_1(ADD(x172, 8), 0u);
-  stp_1(ADD(x172, 16), x167);
-  st64_1(ADD(x172, 24), x168);
-  st64_1(ADD(x172, 32), x169);
-  MEMSET(ADD(x172, 40), 0u, 40);
-  st64_8(x164, ((u64)((u64)x170 + 1u)));
+  x167 = ADD(x78, (u64)((u64)((u64)x85 * 24u)));
+  x168 = ldp_1(x167);
+  x169 = ld64_1(ADD(x167, 8));
+  x170 = ld64_1(ADD(x167, 16));
+  st16_1(x168, x70);
+  st32_1(ADD(x168, 2), x67);
+  x171 = ld64_8(x165);
+  x172 = ldp_8(x164);
+  x173 = ADD(x172, (u64)((u64)((u64)x171 * 80u)));
+  st64_1(x173, x2);
+  st64_1(ADD(x173, 8), 0u);
+  stp_1(ADD(x173, 16), x168);
+  st64_1(ADD(x173, 24), x169);
+  st64_1(ADD(x173, 32), x170);
+  MEMSET(ADD(x173, 40), 0u, 40);
+  st64_8(x165, ((u64)((u64)x171 + 1u)));
   if (((u8)(x82 == 0u))) { x86 = x84; goto b51; } else { x83 = x82; x85 = x84; goto b52; }
 b51:;
-  stp_8(x173, x78);
-  st64_8(ADD(x173, 8), x77);
-  st64_8(ADD(x173, 16), 0u);
-  st64_8(ADD(x173, 24), x86);
-  f133(x173);
+  stp_8(x174, x78);
+  st64_8(ADD(x174, 8), x77);
+  st64_8(ADD(x174, 16), 0u);
+  st64_8(ADD(x174, 24), x86);
+  f128(x174);
   goto b50;
 b50:;
   if (x163) goto b53; else { x89 = x71; goto b43; }
 b53:;
-  x174 = FAR(x5, 8);
-  x175 = ld64_8(x174);
-  x176 = ldp_8(x5);
-  x177 = ADD(x176, (u64)((u64)((u64)x175 * 80u)));
-  st64_1(x177, x2);
-  st8_1(ADD(x177, 8), 11u);
-  MEMCPY(ADD(x177, 9), x98, 16);
-  st16_1(ADD(x177, 25), x70);
-  st32_1(ADD(x177, 27), x67);
-  MEMSET(ADD(x177, 31), 0u, 49);
-  st64_8(x174, ((u64)((u64)x175 + 1u)));
+  x175 = FAR(x5, 32);
+  x176 = ld64_8(x175);
+  x177 = ldp_8(FAR(x5, 24));
+  x178 = ADD(x177, (u64)((u64)((u64)x176 * 80u)));
+  st64_1(x178, x2);
+  st8_1(ADD(x178, 8), 11u);
+  MEMCPY(ADD(x178, 9), x98, 16);
+  st16_1(ADD(x178, 25), x70);
+  st32_1(ADD(x178, 27), x67);
+  MEMSET(ADD(x178, 31), 0u, 49);
+  st64_8(x175, ((u64)((u64)x176 + 1u)));
   { x89 = x71; goto b43; }
 b48:;
   if (x87) goto b54; else { x89 = x71; goto b43; }
@@ -15070,7 +15133,7 @@ b54:;
   st64_8(ADD(x97, 8), x77);
   st64_8(ADD(x97, 16), x76);
   st64_8(ADD(x97, 24), x75);
-  f133(x97);
+  f128(x97);
   { x89 = x71; goto b43; }
 b21:;
   TRAP();
@@ -15082,7 +15145,7 @@ b1:;
   return x91;
 }
 
-static u8 f186(Q x0, Q x1)
+static u8 f182(Q x0, Q x1)
 {
   u8 x3, x7, x12, x13, x2, x15, x16, x6;
   u64 x5, x9, x4, x14, x8;
@@ -15110,7 +15173,7 @@ b2:;
   return ((u8)(((u8)(x2 | x6)) ^ 1u));
 }
 
-static void f187(Q x0, Q x1, u64 x2, Q x3, Q x4, u8 x5, u64 x6)
+static void f183(Q x0, Q x1, u64 x2, Q x3, Q x4, u8 x5, u64 x6)
 {
   u64 x7, x8, x12;
   u8 x9, x10, x14, x20;
@@ -15186,7 +15249,7 @@ b7:;
   goto b5;
 }
 
-static void f188(Q x0, Q x1, Q x2)
+static void f184(Q x0, Q x1, Q x2)
 {
   u8 x3;
   _Alignas(1) u8 y0_[17];
@@ -15197,588 +15260,577 @@ static void f188(Q x0, Q x1, Q x2)
   if (((u8)(x3 == 1u))) goto b0; else goto b1;
 b0:;
   MEMCPY(x4, FAR(x2, 1), 16);
-  f104(x0, x4);
+  f99(x0, x4);
   st8_1(x5, 1u);
   MEMCPY(ADD(x5, 1), x4, 16);
-  f98(x1, x5);
-  f99(FAR(x1, 168));
+  f93(x1, x5);
+  f94(FAR(x1, 168));
   goto b1;
 b1:;
   return;
 }
 
-static void f189(Q x0, Q x1, u64 x2, Q x3, Q x4, Q x5)
+static void f185(Q x0, Q x1, u64 x2, Q x3, Q x4, Q x5)
 {
-  u8 x6, x7, x8, x10, x11, x12, x14, x19, x21, x23, x25, x28, x29, x33, x34, x35, x36, x37, x39, x58, x68, x9, x70, x72, x13, x20, x75, x78, x79, x80, x81, x24, x22, x86, x87, x26, x27, x92, x104, x107, x109, x111, x112, x113, x114, x115, x116, x130, x131, x132, x133, x134, x135, x140, x141, x144, x148, x150, x173, x174, x38, x179, x181;
-  u64 x16, x18, x32, x42, x57, x17, x15, x93, x98, x128, x136, x143, x145, x146, x31, x30, x154, x157, x160, x163, x166, x169, x175, x176, x177, x41, x40;
-  Q x53, x54, x55, x56, x69, x74, x82, x83, x84, x85, x88, x91, x94, x96, x97, x100, x102, x103, x119, x123, x127, x137, x139, x142, x147, x152, x153, x155, x156, x158, x159, x161, x162, x164, x165, x167, x168, x170, x171, x178, x183, x184;
-  u32 x95, x106, x138;
-  u16 x110, x129;
-  _Alignas(8) u8 y0_[72];
-  Q const x172 = Q_OF(y0_);
-  Q const x121 = Q_OF(y0_);
-  Q const x99 = Q_OF(y0_);
-  Q const x180 = Q_OF(y0_);
+  u8 x6, x7, x8, x10, x11, x12, x14, x19, x21, x23, x25, x28, x29, x33, x35, x54, x64, x9, x66, x68, x13, x20, x71, x74, x75, x76, x77, x24, x22, x82, x83, x26, x27, x88, x100, x103, x105, x107, x108, x109, x110, x111, x112, x126, x127, x128, x129, x130, x131, x136, x137, x140, x144, x146, x169, x170, x171, x172, x34, x177, x179;
+  u64 x16, x18, x32, x38, x53, x17, x15, x89, x94, x124, x132, x139, x141, x142, x31, x30, x151, x154, x157, x160, x163, x166, x173, x174, x175, x37, x36;
+  Q x49, x50, x51, x52, x65, x70, x78, x79, x80, x81, x84, x87, x90, x92, x93, x96, x98, x99, x115, x119, x123, x133, x135, x138, x143, x148, x149, x150, x152, x153, x155, x156, x158, x159, x161, x162, x164, x165, x167, x168, x176, x181, x182;
+  u32 x91, x102, x134;
+  u16 x106, x125;
+  _Alignas(8) u8 y0_[56];
+  Q const x117 = Q_OF(y0_);
+  Q const x95 = Q_OF(y0_);
+  Q const x178 = Q_OF(y0_);
   _Alignas(8) u8 y1_[56];
-  Q const x48 = Q_OF(y1_);
+  Q const x44 = Q_OF(y1_);
   _Alignas(8) u8 y2_[48];
-  Q const x118 = Q_OF(y2_);
-  Q const x182 = Q_OF(y2_);
-  Q const x101 = Q_OF(y2_);
+  Q const x114 = Q_OF(y2_);
+  Q const x180 = Q_OF(y2_);
+  Q const x97 = Q_OF(y2_);
   _Alignas(8) u8 y3_[48];
-  Q const x122 = Q_OF(y3_);
+  Q const x118 = Q_OF(y3_);
   _Alignas(8) u8 y4_[48];
-  Q const x124 = Q_OF(y4_);
+  Q const x120 = Q_OF(y4_);
   _Alignas(8) u8 y5_[48];
-  Q const x125 = Q_OF(y5_);
+  Q const x121 = Q_OF(y5_);
   _Alignas(8) u8 y6_[48];
-  Q const x45 = Q_OF(y6_);
+  Q const x41 = Q_OF(y6_);
   _Alignas(8) u8 y7_[48];
-  Q const x49 = Q_OF(y7_);
+  Q const x45 = Q_OF(y7_);
   _Alignas(8) u8 y8_[48];
-  Q const x50 = Q_OF(y8_);
+  Q const x46 = Q_OF(y8_);
   _Alignas(8) u8 y9_[48];
-  Q const x51 = Q_OF(y9_);
+  Q const x47 = Q_OF(y9_);
   _Alignas(8) u8 y10_[40];
-  Q const x47 = Q_OF(y10_);
+  Q const x43 = Q_OF(y10_);
   _Alignas(1) u8 y11_[32];
-  Q const x149 = Q_OF(y11_);
+  Q const x145 = Q_OF(y11_);
   _Alignas(1) u8 y12_[32];
-  Q const x151 = Q_OF(y12_);
-  _Alignas(1) u8 y13_[28];
-  Q const x117 = Q_OF(y13_);
+  Q const x147 = Q_OF(y12_);
+  _Alignas(8) u8 y13_[32];
+  Q const x39 = Q_OF(y13_);
   _Alignas(1) u8 y14_[28];
-  Q const x120 = Q_OF(y14_);
+  Q const x113 = Q_OF(y14_);
   _Alignas(1) u8 y15_[28];
-  Q const x62 = Q_OF(y15_);
+  Q const x116 = Q_OF(y15_);
   _Alignas(1) u8 y16_[28];
-  Q const x44 = Q_OF(y16_);
-  _Alignas(1) u8 y17_[27];
-  Q const x89 = Q_OF(y17_);
+  Q const x58 = Q_OF(y16_);
+  _Alignas(1) u8 y17_[28];
+  Q const x40 = Q_OF(y17_);
   _Alignas(1) u8 y18_[27];
-  Q const x90 = Q_OF(y18_);
-  _Alignas(8) u8 y19_[16];
-  Q const x108 = Q_OF(y19_);
-  _Alignas(8) u8 y20_[16];
-  Q const x105 = Q_OF(y20_);
-  _Alignas(1) u8 y21_[16];
-  Q const x77 = Q_OF(y21_);
-  _Alignas(1) u8 y22_[15];
-  Q const x126 = Q_OF(y22_);
-  _Alignas(1) u8 y23_[15];
-  Q const x43 = Q_OF(y23_);
-  _Alignas(1) u8 y24_[15];
-  Q const x46 = Q_OF(y24_);
-  _Alignas(1) u8 y25_[15];
-  Q const x52 = Q_OF(y25_);
+  Q const x85 = Q_OF(y18_);
+  _Alignas(1) u8 y19_[27];
+  Q const x86 = Q_OF(y19_);
+  _Alignas(1) u8 y20_[17];
+  Q const x42 = Q_OF(y20_);
+  _Alignas(2) u8 y21_[16];
+  Q const x122 = Q_OF(y21_);
+  _Alignas(8) u8 y22_[16];
+  Q const x104 = Q_OF(y22_);
+  _Alignas(8) u8 y23_[16];
+  Q const x101 = Q_OF(y23_);
+  _Alignas(1) u8 y24_[16];
+  Q const x73 = Q_OF(y24_);
+  _Alignas(2) u8 y25_[16];
+  Q const x48 = Q_OF(y25_);
   _Alignas(1) u8 y26_[7];
-  Q const x61 = Q_OF(y26_);
+  Q const x57 = Q_OF(y26_);
   _Alignas(1) u8 y27_[7];
-  Q const x63 = Q_OF(y27_);
+  Q const x59 = Q_OF(y27_);
   _Alignas(1) u8 y28_[7];
-  Q const x64 = Q_OF(y28_);
+  Q const x60 = Q_OF(y28_);
   _Alignas(1) u8 y29_[7];
-  Q const x65 = Q_OF(y29_);
+  Q const x61 = Q_OF(y29_);
   _Alignas(1) u8 y30_[7];
-  Q const x66 = Q_OF(y30_);
+  Q const x62 = Q_OF(y30_);
   _Alignas(1) u8 y31_[7];
-  Q const x67 = Q_OF(y31_);
+  Q const x63 = Q_OF(y31_);
   _Alignas(1) u8 y32_[6];
-  Q const x59 = Q_OF(y32_);
+  Q const x55 = Q_OF(y32_);
   _Alignas(1) u8 y33_[6];
-  Q const x60 = Q_OF(y33_);
+  Q const x56 = Q_OF(y33_);
   _Alignas(1) u8 y34_[5];
-  Q const x76 = Q_OF(y34_);
+  Q const x72 = Q_OF(y34_);
   _Alignas(1) u8 y35_[5];
-  Q const x73 = Q_OF(y35_);
+  Q const x69 = Q_OF(y35_);
   _Alignas(1) u8 y36_[5];
-  Q const x71 = Q_OF(y36_);
-  MEMSET(x43, 0u, 15);
-  MEMSET(x44, 0u, 28);
+  Q const x67 = Q_OF(y36_);
+  MEMSET(x39, 0u, 32);
+  MEMSET(x40, 0u, 28);
+  MEMSET(x41, 0u, 48);
+  MEMSET(x42, 0u, 17);
+  MEMSET(x43, 0u, 40);
+  MEMSET(x44, 0u, 56);
   MEMSET(x45, 0u, 48);
-  MEMSET(x46, 0u, 15);
-  MEMSET(x47, 0u, 40);
-  MEMSET(x48, 0u, 56);
-  MEMSET(x49, 0u, 48);
-  MEMSET(x50, 0u, 48);
-  MEMSET(x51, 0u, 48);
-  MEMSET(x52, 0u, 15);
-  x53 = FAR(x3, 32);
-  x54 = FAR(x3, 72);
-  x55 = ldp_1(x54);
-  x56 = FAR(x3, 80);
-  x57 = ld64_1(x56);
+  MEMSET(x46, 0u, 48);
+  MEMSET(x47, 0u, 48);
+  MEMSET(x48, 0u, 16);
+  x49 = FAR(x3, 32);
+  x50 = FAR(x3, 72);
+  x51 = ldp_1(x50);
+  x52 = FAR(x3, 80);
+  x53 = ld64_1(x52);
   x17 = ld64_1(x3);
   x15 = ld64_1(ADD(x3, 8));
-  x58 = ld8_1(FAR(x1, 33));
-  if (((u8)((x58) & 1u))) goto b0; else goto b1;
+  x54 = ld8_1(FAR(x1, 33));
+  if (((u8)((x54) & 1u))) goto b0; else goto b1;
 b0:;
-  MEMCPY(x59, FAR(x1, 1), 6);
+  MEMCPY(x55, FAR(x1, 1), 6);
   { x6 = 1u; goto b2; }
 b1:;
-  MEMSET(x59, 0u, 6);
+  MEMSET(x55, 0u, 6);
   { x6 = 0u; goto b2; }
 b2:;
-  MEMCPY(x60, x59, 6);
-  st8_1(x61, x6);
-  MEMCPY(ADD(x61, 1), x60, 6);
-  MEMSET(x62, 0u, 28);
+  MEMCPY(x56, x55, 6);
+  st8_1(x57, x6);
+  MEMCPY(ADD(x57, 1), x56, 6);
+  MEMSET(x58, 0u, 28);
+  MEMSET(x59, 0u, 7);
+  MEMSET(x60, 0u, 7);
+  MEMSET(x61, 0u, 7);
+  MEMSET(x62, 0u, 7);
   MEMSET(x63, 0u, 7);
-  MEMSET(x64, 0u, 7);
-  MEMSET(x65, 0u, 7);
-  MEMSET(x66, 0u, 7);
-  MEMSET(x67, 0u, 7);
-  x68 = ld8_1(x53);
-  switch (x68) { case 0u: goto b3; case 1u: goto b4; case 2u: goto b5; case 3u: goto b6; case 4u: goto b7; default: goto b8; }
+  x64 = ld8_1(x49);
+  switch (x64) { case 0u: goto b3; case 1u: goto b4; case 2u: goto b5; case 3u: goto b6; case 4u: goto b7; default: goto b8; }
 b3:;
-  f175(x63, x55, x57, x61);
-  x9 = ld8_1(ADD(x63, 1));
-  x69 = ADD(x63, 2);
+  f171(x59, x51, x53, x57);
+  x9 = ld8_1(ADD(x59, 1));
+  x65 = ADD(x59, 2);
   if (((u8)((x15 | x17) == 0u))) goto b9; else goto b10;
 b9:;
-  MEMSET(x62, 0u, 28);
+  MEMSET(x58, 0u, 28);
   { x23 = 0u; x25 = 0u; goto b11; }
 b10:;
-  x70 = ld8_1(x63);
-  if (((u8)(x70 == 1u))) goto b12; else goto b13;
+  x66 = ld8_1(x59);
+  if (((u8)(x66 == 1u))) goto b12; else goto b13;
 b12:;
-  MEMCPY(x71, x69, 5);
+  MEMCPY(x67, x65, 5);
   { x7 = 1u; x8 = 0u; x10 = x9; goto b14; }
 b13:;
-  MEMSET(x71, 0u, 5);
+  MEMSET(x67, 0u, 5);
   { x7 = 0u; x8 = 2u; x10 = 0u; goto b14; }
 b14:;
-  MEMCPY(ADD(x62, 19), x71, 5);
-  st8_1(x62, 1u);
-  st8_1(ADD(x62, 1), x8);
-  st64_1(ADD(x62, 2), x17);
-  st64_1(ADD(x62, 10), x15);
-  st8_1(ADD(x62, 18), x10);
-  st8_1(ADD(x62, 24), x7);
-  st8_1(ADD(x62, 25), 0u);
-  st16_1(ADD(x62, 26), 0u);
+  MEMCPY(ADD(x58, 19), x67, 5);
+  st8_1(x58, 1u);
+  st8_1(ADD(x58, 1), x8);
+  st64_1(ADD(x58, 2), x17);
+  st64_1(ADD(x58, 10), x15);
+  st8_1(ADD(x58, 18), x10);
+  st8_1(ADD(x58, 24), x7);
+  st8_1(ADD(x58, 25), 0u);
+  st16_1(ADD(x58, 26), 0u);
   { x23 = x8; x25 = 1u; goto b11; }
 b4:;
-  f175(x64, x55, x57, x61);
-  x72 = ld8_1(x64);
-  if (((u8)(x72 == 1u))) goto b15; else goto b16;
+  f171(x60, x51, x53, x57);
+  x68 = ld8_1(x60);
+  if (((u8)(x68 == 1u))) goto b15; else goto b16;
 b15:;
-  x13 = ld8_1(ADD(x64, 1));
-  MEMCPY(x73, ADD(x64, 2), 5);
+  x13 = ld8_1(ADD(x60, 1));
+  MEMCPY(x69, ADD(x60, 2), 5);
   { x11 = 1u; x12 = 0u; x14 = x13; goto b17; }
 b16:;
-  MEMSET(x73, 0u, 5);
+  MEMSET(x69, 0u, 5);
   { x11 = 0u; x12 = 2u; x14 = 1u; goto b17; }
 b17:;
-  st8_1(x62, 1u);
-  st8_1(ADD(x62, 1), x12);
-  st64_1(ADD(x62, 2), x17);
-  st64_1(ADD(x62, 10), x15);
-  st8_1(ADD(x62, 18), x14);
-  MEMCPY(ADD(x62, 19), x73, 5);
-  st8_1(ADD(x62, 24), x11);
-  st8_1(ADD(x62, 25), x11);
-  st16_1(ADD(x62, 26), 0u);
+  st8_1(x58, 1u);
+  st8_1(ADD(x58, 1), x12);
+  st64_1(ADD(x58, 2), x17);
+  st64_1(ADD(x58, 10), x15);
+  st8_1(ADD(x58, 18), x14);
+  MEMCPY(ADD(x58, 19), x69, 5);
+  st8_1(ADD(x58, 24), x11);
+  st8_1(ADD(x58, 25), x11);
+  st16_1(ADD(x58, 26), 0u);
   { x23 = x12; x25 = 1u; goto b11; }
 b5:;
-  f175(x65, x55, x57, x61);
-  x20 = ld8_1(ADD(x65, 1));
-  x74 = ADD(x65, 2);
+  f171(x61, x51, x53, x57);
+  x20 = ld8_1(ADD(x61, 1));
+  x70 = ADD(x61, 2);
   if (((u8)((x15 | x17) == 0u))) goto b18; else goto b19;
 b18:;
-  MEMSET(x62, 0u, 28);
+  MEMSET(x58, 0u, 28);
   { x23 = 0u; x25 = 0u; goto b11; }
 b19:;
-  x75 = ld8_1(x65);
-  if (((u8)(x75 == 1u))) goto b20; else goto b21;
+  x71 = ld8_1(x61);
+  if (((u8)(x71 == 1u))) goto b20; else goto b21;
 b20:;
-  MEMCPY(x76, x74, 5);
+  MEMCPY(x72, x70, 5);
   { x16 = x15; x18 = x17; x19 = 1u; x21 = x20; goto b22; }
 b21:;
-  MEMSET(x76, 0u, 5);
+  MEMSET(x72, 0u, 5);
   { x16 = 0u; x18 = 0u; x19 = 0u; x21 = 0u; goto b22; }
 b22:;
-  MEMCPY(ADD(x62, 19), x76, 5);
-  st8_1(x62, x19);
-  st8_1(ADD(x62, 1), 0u);
-  st64_1(ADD(x62, 2), x18);
-  st64_1(ADD(x62, 10), x16);
-  st8_1(ADD(x62, 18), x21);
-  st8_1(ADD(x62, 24), 0u);
-  st8_1(ADD(x62, 25), 0u);
-  st16_1(ADD(x62, 26), 0u);
+  MEMCPY(ADD(x58, 19), x72, 5);
+  st8_1(x58, x19);
+  st8_1(ADD(x58, 1), 0u);
+  st64_1(ADD(x58, 2), x18);
+  st64_1(ADD(x58, 10), x16);
+  st8_1(ADD(x58, 18), x21);
+  st8_1(ADD(x58, 24), 0u);
+  st8_1(ADD(x58, 25), 0u);
+  st16_1(ADD(x58, 26), 0u);
   { x23 = 0u; x25 = x19; goto b11; }
 b6:;
-  MEMCPY(x77, FAR(x3, 36), 16);
-  x78 = ld8_1(FAR(x3, 33));
-  x79 = ld8_1(FAR(x3, 34));
-  x80 = ld8_1(FAR(x3, 35));
-  f177(x66, x55, x57, x61);
-  x81 = ld8_1(x66);
-  st8_1(x62, 1u);
-  st8_1(ADD(x62, 1), 1u);
-  MEMCPY(ADD(x62, 2), x77, 16);
-  st8_1(ADD(x62, 18), x78);
-  st8_1(ADD(x62, 19), x79);
-  st8_1(ADD(x62, 20), x80);
-  st8_1(ADD(x62, 21), x81);
-  MEMCPY(ADD(x62, 22), ADD(x66, 1), 6);
+  MEMCPY(x73, FAR(x3, 36), 16);
+  x74 = ld8_1(FAR(x3, 33));
+  x75 = ld8_1(FAR(x3, 34));
+  x76 = ld8_1(FAR(x3, 35));
+  f173(x62, x51, x53, x57);
+  x77 = ld8_1(x62);
+  st8_1(x58, 1u);
+  st8_1(ADD(x58, 1), 1u);
+  MEMCPY(ADD(x58, 2), x73, 16);
+  st8_1(ADD(x58, 18), x74);
+  st8_1(ADD(x58, 19), x75);
+  st8_1(ADD(x58, 20), x76);
+  st8_1(ADD(x58, 21), x77);
+  MEMCPY(ADD(x58, 22), ADD(x62, 1), 6);
   { x23 = 1u; x25 = 1u; goto b11; }
 b7:;
-  f177(x67, x55, x57, x61);
-  f178(x62, FAR(x3, 33), x67);
-  x24 = ld8_1(x62);
-  x22 = ld8_1(ADD(x62, 1));
+  f173(x63, x51, x53, x57);
+  f174(x58, FAR(x3, 33), x63);
+  x24 = ld8_1(x58);
+  x22 = ld8_1(ADD(x58, 1));
   { x23 = x22; x25 = x24; goto b11; }
 b8:;
   UNREACHABLE();
 b11:;
-  st8_1(x44, x25);
-  st8_1(ADD(x44, 1), x23);
-  x82 = ADD(x44, 2);
-  MEMCPY(x82, ADD(x62, 2), 16);
-  x83 = ADD(x44, 18);
-  MEMCPY(x83, ADD(x62, 18), 10);
-  x84 = FAR(x1, 30);
-  x85 = FAR(x1, 31);
-  x86 = ld8_1(x85);
-  x87 = (u8)((x86) & 1u);
-  x88 = FAR(x1, 448);
+  st8_1(x40, x25);
+  st8_1(ADD(x40, 1), x23);
+  x78 = ADD(x40, 2);
+  MEMCPY(x78, ADD(x58, 2), 16);
+  x79 = ADD(x40, 18);
+  MEMCPY(x79, ADD(x58, 18), 10);
+  x80 = FAR(x1, 30);
+  x81 = FAR(x1, 31);
+  x82 = ld8_1(x81);
+  x83 = (u8)((x82) & 1u);
+  x84 = FAR(x1, 448);
   if (((u8)(x25 == 1u))) goto b23; else { x28 = 1u; goto b24; }
 b23:;
-  st8_1(x89, x23);
-  MEMCPY(ADD(x89, 1), x82, 16);
-  MEMCPY(ADD(x89, 17), x83, 10);
-  if (x87) goto b25; else goto b26;
+  st8_1(x85, x23);
+  MEMCPY(ADD(x85, 1), x78, 16);
+  MEMCPY(ADD(x85, 17), x79, 10);
+  if (x83) goto b25; else goto b26;
 b25:;
-  x26 = f179(x88, x2, x89);
+  x26 = f175(x84, x2, x85);
   { x28 = x26; goto b24; }
 b26:;
-  st8_1(x90, x23);
-  MEMCPY(ADD(x90, 1), x82, 16);
-  MEMCPY(ADD(x90, 17), x83, 10);
-  x27 = f181(x88, x2, x90);
+  st8_1(x86, x23);
+  MEMCPY(ADD(x86, 1), x78, 16);
+  MEMCPY(ADD(x86, 17), x79, 10);
+  x27 = f177(x84, x2, x86);
   { x28 = x27; goto b24; }
 b24:;
-  f190(x45, x55, x57);
-  x91 = FAR(x1, 632);
-  x92 = ld8_1(x45);
-  x93 = (u64)x92;
-  x94 = ADD(x45, 8);
-  x95 = ld32_4(ADD(x45, 24));
-  x96 = ADD(x45, 32);
-  x97 = ldp_8(FAR(x1, 672));
-  x98 = ld64_8(FAR(x1, 680));
-  MEMCPY(ADD(x99, 8), x94, 16);
-  x100 = ADD(x99, 24);
-  st64_8(x100, 0u);
-  st64_8(x99, x93);
-  st32_4(x100, x95);
-  MEMCPY(ADD(x99, 32), x96, 16);
-  x102 = ADD(x101, 8);
-  x103 = ADD(x101, 24);
+  f186(x41, x51, x53);
+  x87 = FAR(x1, 632);
+  x88 = ld8_1(x41);
+  x89 = (u64)x88;
+  x90 = ADD(x41, 8);
+  x91 = ld32_4(ADD(x41, 24));
+  x92 = ADD(x41, 32);
+  x93 = ldp_8(FAR(x1, 672));
+  x94 = ld64_8(FAR(x1, 680));
+  MEMCPY(ADD(x95, 8), x90, 16);
+  x96 = ADD(x95, 24);
+  st64_8(x96, 0u);
+  st64_8(x95, x89);
+  st32_4(x96, x91);
+  MEMCPY(ADD(x95, 32), x92, 16);
+  x98 = ADD(x97, 8);
+  x99 = ADD(x97, 24);
   goto b27;
 b27:;
-  MEMSET(x101, 0u, 32);
-  f191(x101, x99);
-  x104 = ld8_1(x101);
-  MEMCPY(x105, x102, 16);
-  x106 = ld32_4(x103);
-  x107 = (u8)(x104 == 1u);
-  if (x107) goto b28; else goto b29;
+  MEMSET(x97, 0u, 32);
+  f187(x97, x95);
+  x100 = ld8_1(x97);
+  MEMCPY(x101, x98, 16);
+  x102 = ld32_4(x99);
+  x103 = (u8)(x100 == 1u);
+  if (x103) goto b28; else goto b29;
 b28:;
-  MEMCPY(x108, x105, 16);
-  if (((u8)(x106 == 0u))) goto b29; else goto b30;
+  MEMCPY(x104, x101, 16);
+  if (((u8)(x102 == 0u))) goto b29; else goto b30;
 b30:;
-  x109 = f193(x97, x98, x2, x108);
-  if (x109) goto b27; else goto b29;
+  x105 = f189(x93, x94, x2, x104);
+  if (x105) goto b27; else goto b29;
 b29:;
   if (x28) goto b31; else { x29 = 0u; goto b32; }
 b31:;
-  x110 = ld16_2(FAR(x4, 4));
-  x111 = f195(FAR(x1, 112), x2, x3, x110);
-  if (x111) goto b33; else { x29 = 1u; goto b32; }
+  x106 = ld16_2(FAR(x4, 4));
+  x107 = f191(FAR(x1, 112), x2, x3, x106);
+  if (x107) goto b33; else { x29 = 1u; goto b32; }
 b33:;
-  x112 = f197(FAR(x1, 248), x2, x55, x57);
-  if (x112) goto b34; else { x29 = 2u; goto b32; }
+  x108 = f193(FAR(x1, 248), x2, x51, x53);
+  if (x108) goto b34; else { x29 = 2u; goto b32; }
 b34:;
-  x113 = f201(FAR(x1, 280), x55, x57);
-  if (x113) goto b35; else { x29 = 3u; goto b32; }
+  x109 = f197(FAR(x1, 280), x51, x53);
+  if (x109) goto b35; else { x29 = 3u; goto b32; }
 b35:;
-  x114 = f203(x91, x2, x55, x57);
-  if (x114) goto b36; else { x29 = 4u; goto b32; }
+  x110 = f199(x87, x2, x51, x53);
+  if (x110) goto b36; else { x29 = 4u; goto b32; }
 b36:;
-  if (x107) goto b37; else goto b38;
+  if (x103) goto b37; else goto b38;
 b37:;
-  x115 = f206(x91, x2, x55, x57);
-  if (x115) goto b39; else { x29 = 5u; goto b32; }
+  x111 = f202(x87, x2, x51, x53);
+  if (x111) goto b39; else { x29 = 5u; goto b32; }
 b32:;
-  x116 = ld8_1(x84);
-  if (((u8)((x116) & 1u))) goto b40; else goto b41;
+  x112 = ld8_1(x80);
+  if (((u8)((x112) & 1u))) goto b40; else goto b41;
 b63:;
   return;
 b40:;
-  st8_1(x117, x25);
-  st8_1(ADD(x117, 1), x23);
-  MEMCPY(ADD(x117, 2), x82, 16);
-  MEMCPY(ADD(x117, 18), x83, 10);
+  st8_1(x113, x25);
+  st8_1(ADD(x113, 1), x23);
+  MEMCPY(ADD(x113, 2), x78, 16);
+  MEMCPY(ADD(x113, 18), x79, 10);
+  x115 = ADD(x114, 24);
+  MEMSET(x115, 0u, 24);
+  MEMSET(x116, 0u, 28);
+  MEMSET(x117, 0u, 56);
   x119 = ADD(x118, 24);
-  MEMSET(x119, 0u, 24);
-  MEMSET(x120, 0u, 28);
-  MEMSET(x121, 0u, 56);
-  x123 = ADD(x122, 24);
-  st64_8(x123, 0u);
-  MEMSET(x124, 0u, 48);
-  MEMSET(x125, 0u, 48);
-  MEMSET(x126, 0u, 15);
-  x127 = ldp_1(x54);
-  x128 = ld64_1(x56);
-  x129 = ld16_2(FAR(x4, 4));
-  x130 = f195(FAR(x1, 112), x2, x3, x129);
-  x131 = f197(FAR(x1, 248), x2, x127, x128);
-  x132 = f201(FAR(x1, 280), x127, x128);
-  x133 = f203(x91, x2, x127, x128);
-  x134 = f206(x91, x2, x127, x128);
-  f190(x118, x127, x128);
-  x135 = ld8_1(x118);
-  x136 = (u64)x135;
-  st64_8(x122, x136);
-  x137 = ADD(x118, 8);
-  MEMCPY(ADD(x122, 8), x137, 16);
-  x138 = ld32_4(x119);
-  st32_4(x123, x138);
-  x139 = ADD(x118, 32);
-  MEMCPY(ADD(x122, 32), x139, 16);
-  f208(x121, x91, x2, x122);
-  x140 = ld8_1(x121);
-  x141 = ld8_1(ADD(x121, 8));
-  if (((u8)(x140 == 0u))) goto b42; else goto b43;
+  st64_8(x119, 0u);
+  MEMSET(x120, 0u, 48);
+  MEMSET(x121, 0u, 48);
+  MEMSET(x122, 0u, 16);
+  x123 = ldp_1(x50);
+  x124 = ld64_1(x52);
+  x125 = ld16_2(FAR(x4, 4));
+  x126 = f191(FAR(x1, 112), x2, x3, x125);
+  x127 = f193(FAR(x1, 248), x2, x123, x124);
+  x128 = f197(FAR(x1, 280), x123, x124);
+  x129 = f199(x87, x2, x123, x124);
+  x130 = f202(x87, x2, x123, x124);
+  f186(x114, x123, x124);
+  x131 = ld8_1(x114);
+  x132 = (u64)x131;
+  st64_8(x118, x132);
+  x133 = ADD(x114, 8);
+  MEMCPY(ADD(x118, 8), x133, 16);
+  x134 = ld32_4(x115);
+  st32_4(x119, x134);
+  x135 = ADD(x114, 32);
+  MEMCPY(ADD(x118, 32), x135, 16);
+  f204(x117, x87, x2, x118);
+  x136 = ld8_1(x117);
+  x137 = ld8_1(ADD(x117, 8));
+  if (((u8)(x136 == 0u))) goto b42; else goto b43;
 b42:;
-  x142 = ADD(x121, 16);
-  f182(x120, x117, x28);
-  x143 = f215(x88, x117);
-  x144 = ld8_1(x85);
-  x145 = (u64)((u64)((u64)((u64)x143 + 8u)) + (((u8)((x144) & 1u)) ? 9u : 0u));
-  x146 = ld64_8(FAR(x5, 16));
-  x147 = FAR(x5, 8);
-  x31 = ld64_8(x147);
-  if (((u8)(x145 > ((u64)((u64)x146 - x31))))) goto b44; else { x32 = x31; goto b45; }
+  x138 = ADD(x117, 16);
+  f178(x116, x113, x28);
+  x139 = f210(x84, x113);
+  x140 = ld8_1(x81);
+  x141 = (u64)((u64)((u64)((u64)x139 + 8u)) + (((u8)((x140) & 1u)) ? 9u : 0u));
+  x142 = ld64_8(FAR(x5, 40));
+  x143 = FAR(x5, 32);
+  x31 = ld64_8(x143);
+  if (((u8)(x141 > ((u64)((u64)x142 - x31))))) goto b44; else { x32 = x31; goto b45; }
 b44:;
-  x148 = f83(x5, x145);
-  if (x148) goto b46; else goto b47;
+  x144 = f78(FAR(x5, 24), x141);
+  if (x144) goto b46; else goto b47;
 b46:;
-  x30 = ld64_8(x147);
+  x30 = ld64_8(x143);
   { x32 = x30; goto b45; }
 b43:;
-  MEMSET(x43, 0u, 15);
+  MEMSET(ADD(x39, 8), 0u, 18);
   { x33 = 1u; goto b48; }
 b45:;
-  MEMCPY(x149, x3, 16);
-  MEMCPY(ADD(x149, 16), FAR(x3, 16), 16);
-  x150 = ld8_1(x53);
-  MEMCPY(x151, FAR(x3, 33), 32);
-  x152 = ldp_8(x5);
-  x153 = ADD(x152, (u64)((u64)((u64)x32 * 80u)));
-  st64_1(x153, x2);
-  st8_1(ADD(x153, 8), 1u);
-  MEMCPY(ADD(x153, 9), x149, 32);
-  st8_1(ADD(x153, 41), 0u);
-  st8_1(ADD(x153, 42), 0u);
-  st8_1(ADD(x153, 43), 0u);
-  st8_1(ADD(x153, 44), x150);
-  MEMCPY(ADD(x153, 45), x151, 32);
-  MEMSET(ADD(x153, 77), 0u, 3);
-  st64_8(x147, ((u64)((u64)x32 + 1u)));
-  st64_8(x124, x136);
-  MEMCPY(ADD(x124, 8), x137, 16);
-  st32_4(ADD(x124, 24), x138);
-  MEMCPY(ADD(x124, 32), x139, 16);
-  st64_8(x125, ((u64)x141));
-  MEMCPY(ADD(x125, 8), x142, 40);
-  f217(x1, x2, x3, x4, x120, x124, x125, x130, x5);
+  MEMCPY(x145, x3, 16);
+  MEMCPY(ADD(x145, 16), FAR(x3, 16), 16);
+  x146 = ld8_1(x49);
+  MEMCPY(x147, FAR(x3, 33), 32);
+  x148 = FAR(x5, 24);
+  x149 = ldp_8(x148);
+  x150 = ADD(x149, (u64)((u64)((u64)x32 * 80u)));
+  st64_1(x150, x2);
+  st8_1(ADD(x150, 8), 1u);
+  MEMCPY(ADD(x150, 9), x145, 32);
+  st8_1(ADD(x150, 41), 0u);
+  st8_1(ADD(x150, 42), 0u);
+  st8_1(ADD(x150, 43), 0u);
+  st8_1(ADD(x150, 44), x146);
+  MEMCPY(ADD(x150, 45), x147, 32);
+  MEMSET(ADD(x150, 77), 0u, 3);
+  st64_8(x143, ((u64)((u64)x32 + 1u)));
+  st64_8(x120, x132);
+  MEMCPY(ADD(x120, 8), x133, 16);
+  st32_4(ADD(x120, 24), x134);
+  MEMCPY(ADD(x120, 32), x135, 16);
+  st64_8(x121, ((u64)x137));
+  MEMCPY(ADD(x121, 8), x138, 40);
+  f212(x1, x2, x3, x4, x116, x120, x121, x126, x5);
   if (x28) goto b49; else goto b50;
 b50:;
-  x154 = ld64_8(x147);
-  x155 = ldp_8(x5);
+  x151 = ld64_8(x143);
+  x152 = ldp_8(x148);
+  x153 = ADD(x152, (u64)((u64)((u64)x151 * 80u)));
+  st64_1(x153, x2);
+  st8_1(ADD(x153, 8), 14u);
+  MEMSET(ADD(x153, 9), 0u, 71);
+  st64_8(x143, ((u64)((u64)x151 + 1u)));
+  goto b49;
+b49:;
+  if (x126) goto b51; else goto b52;
+b52:;
+  x154 = ld64_8(x143);
+  x155 = ldp_8(x148);
   x156 = ADD(x155, (u64)((u64)((u64)x154 * 80u)));
   st64_1(x156, x2);
   st8_1(ADD(x156, 8), 14u);
-  MEMSET(ADD(x156, 9), 0u, 71);
-  st64_8(x147, ((u64)((u64)x154 + 1u)));
-  goto b49;
-b49:;
-  if (x130) goto b51; else goto b52;
-b52:;
-  x157 = ld64_8(x147);
-  x158 = ldp_8(x5);
+  st8_1(ADD(x156, 9), 1u);
+  MEMSET(ADD(x156, 10), 0u, 70);
+  st64_8(x143, ((u64)((u64)x154 + 1u)));
+  goto b51;
+b51:;
+  if (x127) goto b53; else goto b54;
+b54:;
+  x157 = ld64_8(x143);
+  x158 = ldp_8(x148);
   x159 = ADD(x158, (u64)((u64)((u64)x157 * 80u)));
   st64_1(x159, x2);
   st8_1(ADD(x159, 8), 14u);
-  st8_1(ADD(x159, 9), 1u);
+  st8_1(ADD(x159, 9), 2u);
   MEMSET(ADD(x159, 10), 0u, 70);
-  st64_8(x147, ((u64)((u64)x157 + 1u)));
-  goto b51;
-b51:;
-  if (x131) goto b53; else goto b54;
-b54:;
-  x160 = ld64_8(x147);
-  x161 = ldp_8(x5);
+  st64_8(x143, ((u64)((u64)x157 + 1u)));
+  goto b53;
+b53:;
+  if (x128) goto b55; else goto b56;
+b56:;
+  x160 = ld64_8(x143);
+  x161 = ldp_8(x148);
   x162 = ADD(x161, (u64)((u64)((u64)x160 * 80u)));
   st64_1(x162, x2);
   st8_1(ADD(x162, 8), 14u);
-  st8_1(ADD(x162, 9), 2u);
+  st8_1(ADD(x162, 9), 3u);
   MEMSET(ADD(x162, 10), 0u, 70);
-  st64_8(x147, ((u64)((u64)x160 + 1u)));
-  goto b53;
-b53:;
-  if (x132) goto b55; else goto b56;
-b56:;
-  x163 = ld64_8(x147);
-  x164 = ldp_8(x5);
+  st64_8(x143, ((u64)((u64)x160 + 1u)));
+  goto b55;
+b55:;
+  if (x129) goto b57; else goto b58;
+b58:;
+  x163 = ld64_8(x143);
+  x164 = ldp_8(x148);
   x165 = ADD(x164, (u64)((u64)((u64)x163 * 80u)));
   st64_1(x165, x2);
   st8_1(ADD(x165, 8), 14u);
-  st8_1(ADD(x165, 9), 3u);
+  st8_1(ADD(x165, 9), 4u);
   MEMSET(ADD(x165, 10), 0u, 70);
-  st64_8(x147, ((u64)((u64)x163 + 1u)));
-  goto b55;
-b55:;
-  if (x133) goto b57; else goto b58;
-b58:;
-  x166 = ld64_8(x147);
-  x167 = ldp_8(x5);
+  st64_8(x143, ((u64)((u64)x163 + 1u)));
+  goto b57;
+b57:;
+  if (x130) goto b59; else goto b60;
+b60:;
+  x166 = ld64_8(x143);
+  x167 = ldp_8(x148);
   x168 = ADD(x167, (u64)((u64)((u64)x166 * 80u)));
   st64_1(x168, x2);
   st8_1(ADD(x168, 8), 14u);
-  st8_1(ADD(x168, 9), 4u);
+  st8_1(ADD(x168, 9), 5u);
   MEMSET(ADD(x168, 10), 0u, 70);
-  st64_8(x147, ((u64)((u64)x166 + 1u)));
-  goto b57;
-b57:;
-  if (x134) goto b59; else goto b60;
-b60:;
-  x169 = ld64_8(x147);
-  x170 = ldp_8(x5);
-  x171 = ADD(x170, (u64)((u64)((u64)x169 * 80u)));
-  st64_1(x171, x2);
-  st8_1(ADD(x171, 8), 14u);
-  st8_1(ADD(x171, 9), 5u);
-  MEMSET(ADD(x171, 10), 0u, 70);
-  st64_8(x147, ((u64)((u64)x169 + 1u)));
+  st64_8(x143, ((u64)((u64)x166 + 1u)));
   goto b59;
 b59:;
-  MEMCPY(x43, x126, 15);
+  MEMCPY(ADD(x39, 10), x122, 16);
   { x33 = 0u; goto b48; }
 b47:;
-  if (((u8)(x141 == 1u))) goto b61; else goto b62;
+  if (((u8)(x137 == 1u))) goto b61; else goto b62;
 b61:;
-  f216(x142);
+  f211(x138);
   goto b62;
 b62:;
-  MEMSET(x43, 0u, 15);
+  MEMSET(ADD(x39, 8), 0u, 18);
   { x33 = 1u; goto b48; }
 b48:;
   st8_1(x0, x33);
   st8_1(FAR(x0, 8), 0u);
   st8_1(FAR(x0, 9), 0u);
-  st8_1(FAR(x0, 10), 0u);
-  MEMCPY(FAR(x0, 11), x43, 15);
+  MEMCPY(FAR(x0, 10), ADD(x39, 10), 16);
   goto b63;
 b41:;
-  MEMSET(ADD(x172, 16), 0u, 56);
-  st8_1(x172, 13u);
-  st8_1(ADD(x172, 1), 5u);
-  st8_1(ADD(x172, 2), x29);
-  MEMCPY(ADD(x172, 3), x46, 15);
-  x173 = f248(x1, x2, x172, x5);
-  if (((u8)((x173) & 1u))) goto b64; else goto b65;
-b65:;
-  MEMCPY(x43, x46, 15);
-  { x34 = x29; x35 = 0u; x36 = 2u; x37 = 5u; goto b66; }
-b64:;
-  MEMSET(x43, 0u, 15);
-  { x34 = 0u; x35 = 1u; x36 = 0u; x37 = 0u; goto b66; }
-b66:;
-  st8_1(x0, x35);
-  st8_1(FAR(x0, 8), x36);
-  st8_1(FAR(x0, 9), x37);
-  st8_1(FAR(x0, 10), x34);
-  MEMCPY(FAR(x0, 11), x43, 15);
+  st8_1(x42, 5u);
+  st8_1(ADD(x42, 1), x29);
+  f149(x39, x1, x2, x42, x5);
+  x169 = ld8_1(x39);
+  st8_1(x0, x169);
+  x170 = ld8_1(ADD(x39, 8));
+  st8_1(FAR(x0, 8), x170);
+  x171 = ld8_1(ADD(x39, 9));
+  st8_1(FAR(x0, 9), x171);
+  MEMCPY(FAR(x0, 10), ADD(x39, 10), 16);
   goto b63;
 b38:;
-  MEMSET(x47, 0u, 40);
-  { x39 = 0u; goto b67; }
+  MEMSET(x43, 0u, 40);
+  { x35 = 0u; goto b64; }
 b39:;
-  st64_8(x49, x93);
-  MEMCPY(ADD(x49, 8), x94, 16);
-  st32_4(ADD(x49, 24), x95);
-  MEMCPY(ADD(x49, 32), x96, 16);
-  f208(x48, x91, x2, x49);
-  x174 = ld8_1(x48);
-  if (((u8)(x174 == 0u))) goto b68; else goto b69;
-b68:;
-  x38 = ld8_1(ADD(x48, 8));
-  MEMCPY(x47, ADD(x48, 16), 40);
-  { x39 = x38; goto b67; }
-b69:;
+  st64_8(x45, x89);
+  MEMCPY(ADD(x45, 8), x90, 16);
+  st32_4(ADD(x45, 24), x91);
+  MEMCPY(ADD(x45, 32), x92, 16);
+  f204(x44, x87, x2, x45);
+  x172 = ld8_1(x44);
+  if (((u8)(x172 == 0u))) goto b65; else goto b66;
+b65:;
+  x34 = ld8_1(ADD(x44, 8));
+  MEMCPY(x43, ADD(x44, 16), 40);
+  { x35 = x34; goto b64; }
+b66:;
   st8_1(x0, 1u);
   MEMSET(FAR(x0, 8), 0u, 18);
   goto b63;
+b64:;
+  x173 = f210(x84, x40);
+  x174 = (u64)((u64)(x83 ? 11u : 2u) + x173);
+  x175 = ld64_8(FAR(x5, 40));
+  x176 = FAR(x5, 32);
+  x37 = ld64_8(x176);
+  if (((u8)(x174 > ((u64)((u64)x175 - x37))))) goto b67; else { x38 = x37; goto b68; }
 b67:;
-  x175 = f215(x88, x44);
-  x176 = (u64)((u64)(x87 ? 11u : 2u) + x175);
-  x177 = ld64_8(FAR(x5, 16));
-  x178 = FAR(x5, 8);
-  x41 = ld64_8(x178);
-  if (((u8)(x176 > ((u64)((u64)x177 - x41))))) goto b70; else { x42 = x41; goto b71; }
-b70:;
-  x179 = f83(x5, x176);
-  if (x179) goto b72; else goto b73;
-b72:;
-  x40 = ld64_8(x178);
-  { x42 = x40; goto b71; }
-b71:;
-  MEMCPY(x180, x3, 16);
-  MEMCPY(ADD(x180, 16), FAR(x3, 16), 16);
-  x181 = ld8_1(x53);
-  MEMCPY(x182, FAR(x3, 33), 32);
-  x183 = ldp_8(x5);
-  x184 = ADD(x183, (u64)((u64)((u64)x42 * 80u)));
-  st64_1(x184, x2);
-  st8_1(ADD(x184, 8), 1u);
-  MEMCPY(ADD(x184, 9), x180, 32);
-  st8_1(ADD(x184, 41), 0u);
-  st8_1(ADD(x184, 42), 0u);
-  st8_1(ADD(x184, 43), 0u);
-  st8_1(ADD(x184, 44), x181);
-  MEMCPY(ADD(x184, 45), x182, 32);
-  MEMSET(ADD(x184, 77), 0u, 3);
-  st64_8(x178, ((u64)((u64)x42 + 1u)));
-  st64_8(x50, x93);
-  MEMCPY(ADD(x50, 8), x94, 16);
-  st32_4(ADD(x50, 24), x95);
-  MEMCPY(ADD(x50, 32), x96, 16);
-  st64_8(x51, ((u64)x39));
-  MEMCPY(ADD(x51, 8), x47, 40);
-  f217(x1, x2, x3, x4, x44, x50, x51, 1u, x5);
+  x177 = f78(FAR(x5, 24), x174);
+  if (x177) goto b69; else goto b70;
+b69:;
+  x36 = ld64_8(x176);
+  { x38 = x36; goto b68; }
+b68:;
+  MEMCPY(x178, x3, 16);
+  MEMCPY(ADD(x178, 16), FAR(x3, 16), 16);
+  x179 = ld8_1(x49);
+  MEMCPY(x180, FAR(x3, 33), 32);
+  x181 = ldp_8(FAR(x5, 24));
+  x182 = ADD(x181, (u64)((u64)((u64)x38 * 80u)));
+  st64_1(x182, x2);
+  st8_1(ADD(x182, 8), 1u);
+  MEMCPY(ADD(x182, 9), x178, 32);
+  st8_1(ADD(x182, 41), 0u);
+  st8_1(ADD(x182, 42), 0u);
+  st8_1(ADD(x182, 43), 0u);
+  st8_1(ADD(x182, 44), x179);
+  MEMCPY(ADD(x182, 45), x180, 32);
+  MEMSET(ADD(x182, 77), 0u, 3);
+  st64_8(x176, ((u64)((u64)x38 + 1u)));
+  st64_8(x46, x89);
+  MEMCPY(ADD(x46, 8), x90, 16);
+  st32_4(ADD(x46, 24), x91);
+  MEMCPY(ADD(x46, 32), x92, 16);
+  st64_8(x47, ((u64)x35));
+  MEMCPY(ADD(x47, 8), x43, 40);
+  f212(x1, x2, x3, x4, x40, x46, x47, 1u, x5);
   st8_1(x0, 0u);
   st8_1(FAR(x0, 8), 0u);
   st8_1(FAR(x0, 9), 0u);
-  st8_1(FAR(x0, 10), 0u);
-  MEMCPY(FAR(x0, 11), x52, 15);
+  MEMCPY(FAR(x0, 10), x48, 16);
   goto b63;
-b73:;
-  if (((u8)(x39 == 1u))) goto b74; else goto b75;
-b74:;
-  f216(x47);
-  goto b75;
-b75:;
+b70:;
+  if (((u8)(x35 == 1u))) goto b71; else goto b72;
+b71:;
+  f211(x43);
+  goto b72;
+b72:;
   st8_1(x0, 1u);
   MEMSET(FAR(x0, 8), 0u, 18);
   goto b63;
 }
 
-static void f190(Q x0, Q x1, u64 x2)
+static void f186(Q x0, Q x1, u64 x2)
 {
   Q x4, x12, x3;
   u64 x6, x7, x5;
@@ -15816,7 +15868,7 @@ b2:;
   return;
 }
 
-static void f191(Q x0, Q x1)
+static void f187(Q x0, Q x1)
 {
   u8 x5, x7, x14, x16, x17;
   Q x6, x8, x9, x10, x11, x12;
@@ -15830,7 +15882,7 @@ static void f191(Q x0, Q x1)
   MEMSET(x2, 0u, 24);
   MEMSET(x3, 0u, 40);
   MEMSET(x4, 0u, 24);
-  f192(x2, x1);
+  f188(x2, x1);
   x5 = ld8_1(x2);
   if (((u8)(x5 == 1u))) goto b0; else goto b1;
 b1:;
@@ -15862,7 +15914,7 @@ b6:;
   st32_4(x11, x15);
   st64_4(x1, 1u);
   MEMCPY(x12, x10, 16);
-  f192(x4, x1);
+  f188(x4, x1);
   x16 = ld8_1(x4);
   if (((u8)(x16 == 1u))) goto b8; else goto b7;
 b8:;
@@ -15880,7 +15932,7 @@ b3:;
   goto b5;
 }
 
-static void f192(Q x0, Q x1)
+static void f188(Q x0, Q x1)
 {
   u64 x4, x9, x10, x11, x13, x3, x18, x19, x2, x8, x20;
   Q x7, x12, x15, x6, x16, x5;
@@ -15919,7 +15971,7 @@ b1:;
   return;
 }
 
-static u8 f193(Q x0, u64 x1, u64 x2, Q x3)
+static u8 f189(Q x0, u64 x1, u64 x2, Q x3)
 {
   u64 x5, x11, x13, x4;
   u8 x6, x10, x14;
@@ -15940,7 +15992,7 @@ b3:;
   x13 = ld64_8(FAR(x9, 8));
   stp_8(x7, x12);
   st64_8(x8, x13);
-  x14 = f194(x3, x7);
+  x14 = f190(x3, x7);
   if (x14) { x6 = 1u; goto b0; } else goto b4;
 b0:;
   return x6;
@@ -15949,7 +16001,7 @@ b4:;
   if (((u8)(x4 == x1))) { x6 = 0u; goto b0; } else { x5 = x4; goto b2; }
 }
 
-static u8 f194(Q x0, Q x1)
+static u8 f190(Q x0, Q x1)
 {
   u64 x3, x7, x13, x19, x21, x12, x18, x2, x6, x20, x11, x17;
   u8 x5, x23, x24, x25, x26, x27, x4, x28, x29, x30, x22;
@@ -15981,7 +16033,7 @@ b3:;
 b9:;
   if (x4) goto b8; else goto b10;
 b10:;
-  x28 = f141(x9, x12, x15, x12);
+  x28 = f135(x9, x12, x15, x12);
   if (x28) { x23 = 1u; goto b4; } else goto b8;
 b1:;
   if (((u8)(x12 == 0u))) { x21 = x18; goto b11; } else goto b8;
@@ -16007,7 +16059,7 @@ b4:;
   return x23;
 }
 
-static u8 f195(Q x0, u64 x1, Q x2, u16 x3)
+static u8 f191(Q x0, u64 x1, Q x2, u16 x3)
 {
   u64 x5, x7, x8, x13, x14, x18, x4, x6;
   u8 x10, x15, x17, x9;
@@ -16020,7 +16072,7 @@ static u8 f195(Q x0, u64 x1, Q x2, u16 x3)
   x14 = ld64_8(FAR(x0, 128));
   if (((u8)(((u8)(x3 == 0u)) | ((u8)(x13 < x14))))) { x10 = 1u; goto b0; } else goto b1;
 b1:;
-  x15 = f196(x12, x13, x1, x11);
+  x15 = f192(x12, x13, x1, x11);
   if (x15) { x10 = 1u; goto b0; } else goto b2;
 b2:;
   if (((u8)(x13 == 0u))) { x8 = 0u; goto b3; } else { x5 = 0u; x7 = 0u; goto b4; }
@@ -16038,7 +16090,7 @@ b0:;
   return x10;
 }
 
-static u8 f196(Q x0, u64 x1, u64 x2, Q x3)
+static u8 f192(Q x0, u64 x1, u64 x2, Q x3)
 {
   u64 x5, x10, x11, x12, x13, x14, x4;
   u8 x6, x9, x15;
@@ -16066,7 +16118,7 @@ b4:;
   if (((u8)(x4 == x1))) { x6 = 0u; goto b0; } else { x5 = x4; goto b2; }
 }
 
-static u8 f197(Q x0, u64 x1, Q x2, u64 x3)
+static u8 f193(Q x0, u64 x1, Q x2, u64 x3)
 {
   u64 x5, x7, x8, x11, x13, x15, x16, x18, x20, x22, x24, x28, x19, x17, x34, x35, x40, x4, x6, x9, x10, x47, x12, x14, x58, x59, x23, x64, x65, x21, x29, x26, x27;
   u8 x25, x30, x31, x32, x36, x39, x43, x44, x46, x50, x57, x62, x63, x66, x67, x68, x70, x74;
@@ -16109,7 +16161,7 @@ b2:;
   st64_8(ADD(x42, 8), x3);
   { x11 = x9; goto b4; }
 b4:;
-  f198(x41, x42);
+  f194(x41, x42);
   x43 = ld8_1(x41);
   x44 = (u8)(x43 != 1u);
   x10 = (u64)((u64)x11 + UINT64_C(18446744073709551615));
@@ -16129,7 +16181,7 @@ b8:;
   MEMSET(x48, 0u, 28);
   stp_8(x49, x2);
   st64_8(ADD(x49, 8), x3);
-  f198(x48, x49);
+  f194(x48, x49);
   x50 = ld8_1(x48);
   if (((u8)(x50 == 1u))) goto b10; else { x30 = 1u; goto b11; }
 b10:;
@@ -16164,7 +16216,7 @@ b17:;
   x21 = (u64)((u64)x22 + 1u);
   if (((u8)(x21 == x18))) { x24 = 0u; x25 = 0u; goto b13; } else { x22 = x21; goto b15; }
 b13:;
-  x66 = f200(x33, x34, x1, x53);
+  x66 = f196(x33, x34, x1, x53);
   x67 = (u8)(x25 ^ x66);
   x68 = (u8)(x56 != 0u);
   if (((u8)(x68 ^ x67))) goto b19; else { x19 = x20; x17 = x18; goto b20; }
@@ -16191,7 +16243,7 @@ b24:;
 b25:;
   { x19 = x29; x17 = x28; goto b20; }
 b20:;
-  f198(x48, x49);
+  f194(x48, x49);
   x74 = ld8_1(x48);
   if (((u8)(x74 == 1u))) { x18 = x17; x20 = x19; goto b12; } else { x30 = 1u; goto b11; }
 b21:;
@@ -16204,7 +16256,7 @@ b1:;
   return x32;
 }
 
-static void f198(Q x0, Q x1)
+static void f194(Q x0, Q x1)
 {
   u8 x3, x9, x10, x11, x12;
   Q x4, x5, x6, x7, x8;
@@ -16212,7 +16264,7 @@ static void f198(Q x0, Q x1)
   _Alignas(4) u8 y0_[32];
   Q const x2 = Q_OF(y0_);
   MEMSET(x2, 0u, 32);
-  f199(x2, x1);
+  f195(x2, x1);
   x3 = ld8_1(x2);
   if (((u8)(x3 == 1u))) goto b0; else goto b1;
 b0:;
@@ -16230,7 +16282,7 @@ b3:;
   x11 = ld8_1(x4);
   if (((u8)(((u8)(x11 != 255u)) & (((u8)(x11 != 254u)) ? 1u : ((u8)((int8_t)x10 > (int8_t)191u)))))) goto b5; else goto b4;
 b4:;
-  f199(x2, x1);
+  f195(x2, x1);
   x12 = ld8_1(x2);
   if (((u8)(x12 == 1u))) goto b2; else goto b1;
 b6:;
@@ -16249,7 +16301,7 @@ b1:;
   goto b6;
 }
 
-static void f199(Q x0, Q x1)
+static void f195(Q x0, Q x1)
 {
   Q x4, x8, x2, x10, x11, x3;
   u64 x7, x5, x13, x6;
@@ -16299,7 +16351,7 @@ b0:;
   goto b8;
 }
 
-static u8 f200(Q x0, u64 x1, u64 x2, Q x3)
+static u8 f196(Q x0, u64 x1, u64 x2, Q x3)
 {
   u64 x5, x11, x14, x15, x16, x17, x4;
   u8 x6, x10, x12, x13, x18;
@@ -16332,7 +16384,7 @@ b4:;
   if (((u8)(x4 == x1))) { x6 = 0u; goto b0; } else { x5 = x4; goto b2; }
 }
 
-static u8 f201(Q x0, Q x1, u64 x2)
+static u8 f197(Q x0, Q x1, u64 x2)
 {
   u64 x4, x6, x3, x11, x12, x24, x25, x27, x5, x31, x32, x7;
   u8 x8, x9, x17, x20, x21, x22, x23, x28, x34;
@@ -16357,7 +16409,7 @@ b0:;
   MEMSET(x15, 0u, 1024);
   stp_8(x16, x1);
   st64_8(ADD(x16, 8), x2);
-  f199(x14, x16);
+  f195(x14, x16);
   x17 = ld8_1(x14);
   if (((u8)(x17 == 1u))) goto b2; else { x8 = 1u; goto b3; }
 b2:;
@@ -16373,7 +16425,7 @@ b2:;
   { x4 = 0u; goto b4; }
 b4:;
   x27 = ld64_4(x18);
-  x28 = f202(x10, x11, x13, x18);
+  x28 = f198(x10, x11, x13, x18);
   if (x28) goto b5; else { x3 = x4; goto b6; }
 b5:;
   if (((u8)(x4 == 0u))) goto b7; else goto b8;
@@ -16397,7 +16449,7 @@ b11:;
   x7 = (u64)((u64)x4 + 1u);
   { x3 = x7; goto b6; }
 b6:;
-  f199(x14, x16);
+  f195(x14, x16);
   x34 = ld8_1(x14);
   if (((u8)(x34 == 1u))) { x4 = x3; goto b4; } else { x8 = 1u; goto b3; }
 b3:;
@@ -16406,7 +16458,7 @@ b1:;
   return x9;
 }
 
-static u8 f202(Q x0, u64 x1, Q x2, Q x3)
+static u8 f198(Q x0, u64 x1, Q x2, Q x3)
 {
   u8 x5, x6, x7, x8, x9, x11, x12, x13, x16, x4;
   u16 x10;
@@ -16438,14 +16490,14 @@ b4:;
   x18 = (((((((u64)((u64)((u64)x7) << 8)) | ((u64)((u8)(x6 ^ 2u)))) | ((u64)((u64)((u64)x8) << 16))) | ((u64)((u64)((u64)x9) << 40))) | ((u64)((u64)((u64)x10) << 48))) | UINT64_C(1095199883264));
   st64_8(x19, x17);
   st64_8(ADD(x19, 8), x18);
-  x20 = f102(x0, x1, x19);
+  x20 = f97(x0, x1, x19);
   x4 = (u8)((x20.f0) != 0u);
   { x5 = x4; goto b1; }
 b1:;
   return x5;
 }
 
-static u8 f203(Q x0, u64 x1, Q x2, u64 x3)
+static u8 f199(Q x0, u64 x1, Q x2, u64 x3)
 {
   u64 x5, x7, x8, x11, x13, x15, x16, x18, x20, x22, x24, x28, x19, x17, x34, x35, x40, x4, x6, x9, x10, x47, x12, x14, x56, x57, x23, x61, x62, x21, x29, x26, x27;
   u8 x25, x30, x31, x32, x36, x39, x43, x44, x46, x50, x60, x63, x64, x65, x67, x71;
@@ -16489,7 +16541,7 @@ b2:;
   st64_8(ADD(x41, 40), x3);
   { x11 = x9; goto b4; }
 b4:;
-  f204(x42, x41);
+  f200(x42, x41);
   x43 = ld8_1(x42);
   x44 = (u8)(x43 != 1u);
   x10 = (u64)((u64)x11 + UINT64_C(18446744073709551615));
@@ -16511,7 +16563,7 @@ b8:;
   MEMSET(x48, 0u, 28);
   stp_8(ADD(x48, 32), x2);
   st64_8(ADD(x48, 40), x3);
-  f204(x49, x48);
+  f200(x49, x48);
   x50 = ld8_1(x49);
   if (((u8)(x50 == 1u))) goto b10; else { x30 = 1u; goto b11; }
 b10:;
@@ -16541,7 +16593,7 @@ b17:;
   x21 = (u64)((u64)x22 + 1u);
   if (((u8)(x21 == x18))) { x24 = 0u; x25 = 0u; goto b13; } else { x22 = x21; goto b15; }
 b13:;
-  x63 = f205(x33, x34, x1, x53);
+  x63 = f201(x33, x34, x1, x53);
   x64 = (u8)(x25 ^ x63);
   x65 = (u8)(x55 != 0u);
   if (((u8)(x65 ^ x64))) goto b18; else { x19 = x20; x17 = x18; goto b19; }
@@ -16568,7 +16620,7 @@ b23:;
 b24:;
   { x19 = x29; x17 = x28; goto b19; }
 b19:;
-  f204(x49, x48);
+  f200(x49, x48);
   x71 = ld8_1(x49);
   if (((u8)(x71 == 1u))) { x18 = x17; x20 = x19; goto b12; } else { x30 = 1u; goto b11; }
 b20:;
@@ -16581,7 +16633,7 @@ b1:;
   return x32;
 }
 
-static void f204(Q x0, Q x1)
+static void f200(Q x0, Q x1)
 {
   u8 x4, x8, x19, x25;
   Q x5, x7, x9, x10, x11, x12, x13, x14, x15, x16, x23;
@@ -16664,7 +16716,7 @@ b4:;
   goto b6;
 }
 
-static u8 f205(Q x0, u64 x1, u64 x2, Q x3)
+static u8 f201(Q x0, u64 x1, u64 x2, Q x3)
 {
   u64 x5, x10, x11, x12, x13, x14, x4;
   u8 x6, x9, x15;
@@ -16692,7 +16744,7 @@ b4:;
   if (((u8)(x4 == x1))) { x6 = 0u; goto b0; } else { x5 = x4; goto b2; }
 }
 
-static u8 f206(Q x0, u64 x1, Q x2, u64 x3)
+static u8 f202(Q x0, u64 x1, Q x2, u64 x3)
 {
   u64 x5, x7, x9, x10, x13, x15, x17, x18, x4, x24, x25, x27, x34, x6, x8, x11, x12, x42, x14, x16, x52;
   u8 x20, x26, x31, x33, x38, x39, x41, x50, x19;
@@ -16713,7 +16765,7 @@ static u8 f206(Q x0, u64 x1, Q x2, u64 x3)
   Q const x46 = Q_OF(y4_);
   MEMSET(ADD(x21, 24), 0u, 24);
   MEMSET(x22, 0u, 1536);
-  f190(x21, x2, x3);
+  f186(x21, x2, x3);
   { x5 = 0u; goto b0; }
 b0:;
   x4 = (u64)((u64)x5 + 24u);
@@ -16748,7 +16800,7 @@ b2:;
   { x13 = x11; goto b4; }
 b4:;
   MEMSET(x37, 0u, 32);
-  f191(x37, x35);
+  f187(x37, x35);
   x38 = ld8_1(x37);
   x39 = (u8)(x38 != 1u);
   x12 = (u64)((u64)x13 + UINT64_C(18446744073709551615));
@@ -16783,7 +16835,7 @@ b8:;
   goto b10;
 b10:;
   MEMSET(x46, 0u, 32);
-  f191(x46, x43);
+  f187(x46, x43);
   x50 = ld8_1(x46);
   x51 = ldp_8(x47);
   x52 = ld64_8(x48);
@@ -16791,7 +16843,7 @@ b10:;
   x19 = (u8)(x50 != 1u);
   if (x19) goto b11; else goto b12;
 b12:;
-  x54 = f207(x45, x22, x51, x52, x53);
+  x54 = f203(x45, x22, x51, x52, x53);
   if (((u8)((x54.f0) == 1u))) goto b10; else goto b11;
 b11:;
   { x20 = x19; goto b6; }
@@ -16799,7 +16851,7 @@ b6:;
   return x20;
 }
 
-static s_u8_u8 f207(Q x0, Q x1, Q x2, u64 x3, u32 x4)
+static s_u8_u8 f203(Q x0, Q x1, Q x2, u64 x3, u32 x4)
 {
   u64 x6, x7, x10, x14, x20, x5, x9, x25, x26, x31, x32, x33, x12, x13;
   u8 x8, x11, x16, x17, x22, x23, x27, x28, x29, x15, x35;
@@ -16818,7 +16870,7 @@ b1:;
   x22 = ld8_1(x21);
   if (((u8)(x22 == 1u))) goto b2; else goto b3;
 b2:;
-  x23 = f194(x18, FAR(x21, 8));
+  x23 = f190(x18, FAR(x21, 8));
   if (x23) { x7 = x6; x8 = 1u; goto b4; } else goto b3;
 b3:;
   x5 = (u64)((u64)x6 + 1u);
@@ -16830,7 +16882,7 @@ b0:;
   x24 = ldp_1(x0);
   x25 = ld64_1(ADD(x0, 8));
   x26 = ld64_8(FAR(x0, 24));
-  x27 = f193(x24, x25, x26, x18);
+  x27 = f189(x24, x25, x26, x18);
   x28 = (u8)(x11 ^ x27);
   x29 = (u8)(x4 != 0u);
   x15 = (u8)x29;
@@ -16867,215 +16919,207 @@ b6:;
   return s_u8_u8_set1(s_u8_u8_set0(((s_u8_u8){0u, 0u}), x17), x16);
 }
 
-static void f208(Q x0, Q x1, u64 x2, Q x3)
+static void f204(Q x0, Q x1, u64 x2, Q x3)
 {
-  u64 x5, x7, x8, x10, x12, x14, x21, x22, x27, x30, x4, x6, x47, x9, x56, x61, x66, x11;
-  u8 x13, x15, x29, x34, x52, x54, x55, x58, x60, x65, x68, x69, x70;
-  Q x16, x18, x20, x24, x28, x33, x35, x36, x37, x39, x41, x43, x45, x46, x57, x62, x67;
-  u32 x17, x48;
-  s_u8_u8 x49;
+  u64 x5, x7, x8, x11, x13, x15, x17, x19, x26, x27, x32, x35, x4, x6, x55, x9, x63, x14, x10, x12, x66, x71, x76, x16;
+  u8 x18, x20, x34, x39, x60, x61, x62, x64, x68, x70, x75, x78, x79, x80;
+  Q x21, x23, x25, x29, x33, x38, x40, x41, x42, x44, x46, x47, x49, x51, x53, x54, x65, x67, x72, x77;
+  u32 x22, x56;
+  s_u8_u8 x57;
   _Alignas(8) u8 y0_[1536];
-  Q const x26 = Q_OF(y0_);
+  Q const x31 = Q_OF(y0_);
   _Alignas(8) u8 y1_[48];
-  Q const x31 = Q_OF(y1_);
+  Q const x36 = Q_OF(y1_);
   _Alignas(8) u8 y2_[48];
-  Q const x32 = Q_OF(y2_);
+  Q const x37 = Q_OF(y2_);
   _Alignas(8) u8 y3_[48];
-  Q const x23 = Q_OF(y3_);
+  Q const x28 = Q_OF(y3_);
   _Alignas(8) u8 y4_[40];
-  Q const x44 = Q_OF(y4_);
+  Q const x52 = Q_OF(y4_);
   _Alignas(8) u8 y5_[40];
-  Q const x19 = Q_OF(y5_);
+  Q const x24 = Q_OF(y5_);
   _Alignas(8) u8 y6_[32];
-  Q const x38 = Q_OF(y6_);
+  Q const x43 = Q_OF(y6_);
   _Alignas(8) u8 y7_[32];
-  Q const x50 = Q_OF(y7_);
+  Q const x58 = Q_OF(y7_);
   _Alignas(8) u8 y8_[32];
-  Q const x51 = Q_OF(y8_);
+  Q const x59 = Q_OF(y8_);
   _Alignas(8) u8 y9_[32];
-  Q const x25 = Q_OF(y9_);
+  Q const x30 = Q_OF(y9_);
   _Alignas(1) u8 y10_[31];
-  Q const x40 = Q_OF(y10_);
+  Q const x48 = Q_OF(y10_);
   _Alignas(1) u8 y11_[31];
-  Q const x42 = Q_OF(y11_);
+  Q const x50 = Q_OF(y11_);
   _Alignas(8) u8 y12_[24];
-  Q const x53 = Q_OF(y12_);
+  Q const x45 = Q_OF(y12_);
   _Alignas(8) u8 y13_[24];
-  Q const x59 = Q_OF(y13_);
+  Q const x69 = Q_OF(y13_);
   _Alignas(8) u8 y14_[24];
-  Q const x64 = Q_OF(y14_);
+  Q const x74 = Q_OF(y14_);
   _Alignas(8) u8 y15_[1];
-  Q const x63 = Q_OF(y15_);
-  x15 = ld8_1(x3);
-  x16 = FAR(x3, 8);
-  x17 = ld32_1(FAR(x3, 24));
-  x18 = FAR(x3, 32);
-  MEMSET(x19, 0u, 40);
-  x20 = ldp_8(FAR(x1, 40));
-  x21 = ld64_8(FAR(x1, 48));
-  x22 = ld64_8(FAR(x1, 8));
-  x24 = ADD(x23, 24);
-  st64_8(x24, 0u);
-  MEMSET(x25, 0u, 32);
-  MEMSET(x26, 0u, 1536);
-  x27 = (u64)x15;
-  if (((u8)(x21 == 0u))) { x8 = 0u; goto b0; } else { x5 = 0u; x7 = 0u; goto b1; }
+  Q const x73 = Q_OF(y15_);
+  x20 = ld8_1(x3);
+  x21 = FAR(x3, 8);
+  x22 = ld32_1(FAR(x3, 24));
+  x23 = FAR(x3, 32);
+  MEMSET(x24, 0u, 40);
+  x25 = ldp_8(FAR(x1, 40));
+  x26 = ld64_8(FAR(x1, 48));
+  x27 = ld64_8(FAR(x1, 8));
+  x29 = ADD(x28, 24);
+  st64_8(x29, 0u);
+  MEMSET(x30, 0u, 32);
+  MEMSET(x31, 0u, 1536);
+  x32 = (u64)x20;
+  if (((u8)(x26 == 0u))) { x8 = 0u; goto b0; } else { x5 = 0u; x7 = 0u; goto b1; }
 b1:;
-  x28 = FAR(x20, (u64)((u64)((u64)x7 * 40u)));
-  x29 = ld8_1(FAR(x28, 24));
-  x30 = ld64_1(FAR(x28, 32));
-  x4 = (u64)((u64)x5 + ((u64)(((u8)(x29 == 0u)) ? 1u : ((u8)(x2 < x30)))));
+  x33 = FAR(x25, (u64)((u64)((u64)x7 * 40u)));
+  x34 = ld8_1(FAR(x33, 24));
+  x35 = ld64_1(FAR(x33, 32));
+  x4 = (u64)((u64)x5 + ((u64)(((u8)(x34 == 0u)) ? 1u : ((u8)(x2 < x35)))));
   x6 = (u64)((u64)x7 + 1u);
-  if (((u8)(x6 == x21))) { x8 = x4; goto b0; } else { x5 = x4; x7 = x6; goto b1; }
+  if (((u8)(x6 == x26))) { x8 = x4; goto b0; } else { x5 = x4; x7 = x6; goto b1; }
 b0:;
-  stp_8(x31, x20);
-  st64_8(ADD(x31, 8), x21);
-  st64_8(ADD(x31, 16), x22);
-  st64_8(ADD(x31, 24), x2);
-  st64_8(ADD(x31, 32), x8);
-  st64_8(ADD(x31, 40), 0u);
-  x33 = ADD(x32, 8);
-  MEMSET(x32, 0u, 48);
-  st64_8(x23, x27);
-  MEMCPY(ADD(x23, 8), x16, 16);
-  st32_4(x24, x17);
-  MEMCPY(ADD(x23, 32), x18, 16);
-  f191(x25, x23);
-  x34 = ld8_1(x25);
-  if (((u8)(x34 == 1u))) goto b2; else { x12 = 0u; goto b3; }
+  stp_8(x36, x25);
+  st64_8(ADD(x36, 8), x26);
+  st64_8(ADD(x36, 16), x27);
+  st64_8(ADD(x36, 24), x2);
+  st64_8(ADD(x36, 32), x8);
+  st64_8(ADD(x36, 40), 0u);
+  x38 = ADD(x37, 8);
+  MEMSET(x37, 0u, 48);
+  st64_8(x28, x32);
+  MEMCPY(ADD(x28, 8), x21, 16);
+  st32_4(x29, x22);
+  MEMCPY(ADD(x28, 32), x23, 16);
+  f187(x30, x28);
+  x39 = ld8_1(x30);
+  if (((u8)(x39 == 1u))) goto b2; else { x17 = 0u; goto b3; }
 b2:;
-  x35 = ADD(x25, 8);
-  x36 = ADD(x25, 16);
-  x37 = ADD(x25, 24);
-  x39 = ADD(x38, 8);
-  x41 = ADD(x40, 7);
-  x43 = ADD(x42, 7);
-  x45 = ADD(x44, 8);
+  x40 = ADD(x30, 8);
+  x41 = ADD(x30, 16);
+  x42 = ADD(x30, 24);
+  x44 = ADD(x43, 8);
+  x46 = ADD(x45, 16);
+  x47 = ADD(x45, 8);
+  x49 = ADD(x48, 7);
+  x51 = ADD(x50, 7);
+  x53 = ADD(x52, 8);
   goto b4;
 b4:;
-  x46 = ldp_8(x35);
-  x47 = ld64_8(x36);
-  x48 = ld32_4(x37);
-  x49 = f207(x31, x26, x46, x47, x48);
-  if ((((u8)((x49.f0) == 1u)) ? ((u8)(((x49.f1)) & 1u)) : 0u)) goto b5; else goto b6;
+  x54 = ldp_8(x40);
+  x55 = ld64_8(x41);
+  x56 = ld32_4(x42);
+  x57 = f203(x36, x31, x54, x55, x56);
+  if ((((u8)((x57.f0) == 1u)) ? ((u8)(((x57.f1)) & 1u)) : 0u)) goto b5; else goto b6;
 b5:;
-  MEMSET(x50, 0u, 32);
-  MEMSET(x51, 0u, 32);
-  MEMSET(x38, 0u, 32);
-  f75(x38, x47);
-  x52 = ld8_1(x38);
-  if (((u8)(x52 == 0u))) goto b7; else goto b8;
+  MEMSET(x58, 0u, 32);
+  MEMSET(x59, 0u, 32);
+  MEMSET(x43, 0u, 32);
+  f72(x43, x55);
+  x60 = ld8_1(x43);
+  if (((u8)(x60 == 0u))) goto b7; else goto b8;
 b7:;
-  MEMCPY(x53, x39, 24);
-  if (((u8)(x47 == 0u))) goto b9; else { x10 = 0u; goto b10; }
-b11:;
-  x9 = (u64)((u64)x10 + 1u);
-  if (((u8)(x9 == x47))) goto b9; else { x10 = x9; goto b10; }
+  MEMCPY(x45, x44, 24);
+  if (((u8)(x55 == 0u))) goto b9; else goto b10;
 b10:;
-  x54 = ld8_1(FAR(x46, (u64)x10));
-  x55 = f209(x53, (((u8)(((u8)((u32)x54 + 191u)) < 26u)) ? ((u8)((u32)x54 + 32u)) : x54));
-  if (((u8)(x55 == 0u))) goto b11; else goto b12;
+  x9 = ld64_8(x47);
+  { x11 = x9; x13 = 0u; goto b11; }
+b11:;
+  x61 = ld8_1(FAR(x54, (u64)x13));
+  x62 = (((u8)(((u8)((u32)x61 + 191u)) < 26u)) ? ((u8)((u32)x61 + 32u)) : x61);
+  x63 = ld64_8(x46);
+  if (((u8)(x63 == x11))) goto b12; else { x15 = x11; goto b13; }
 b12:;
-  x56 = ld64_8(ADD(x53, 16));
-  if (((u8)(x56 == 0u))) goto b8; else goto b13;
+  x64 = f108(x45, 1u);
+  if (x64) goto b14; else goto b15;
+b14:;
+  x14 = ld64_8(x47);
+  { x15 = x14; goto b13; }
 b13:;
-  x57 = ldp_8(x53);
-  os_rattle_dealloc(x57);
+  x65 = ldp_8(x45);
+  st8_1(ADD(x65, (u64)x15), x62);
+  x10 = (u64)((u64)x15 + 1u);
+  st64_8(x47, x10);
+  x12 = (u64)((u64)x13 + 1u);
+  if (((u8)(x12 == x55))) goto b9; else { x11 = x10; x13 = x12; goto b11; }
+b15:;
+  x66 = ld64_8(x46);
+  if (((u8)(x66 == 0u))) goto b8; else goto b16;
+b16:;
+  x67 = ldp_8(x45);
+  os_rattle_dealloc(x67);
   goto b8;
 b9:;
-  MEMCPY(x41, x53, 24);
-  MEMCPY(x43, x41, 24);
-  x58 = ld8_1(x32);
-  if (((u8)(x58 == 1u))) goto b14; else goto b15;
+  MEMCPY(x49, x45, 24);
+  MEMCPY(x51, x49, 24);
+  x68 = ld8_1(x37);
+  if (((u8)(x68 == 1u))) goto b17; else goto b18;
 b8:;
-  goto b16;
-b14:;
-  MEMCPY(x59, x43, 24);
-  f210(x50, x33, x59);
-  x60 = ld8_1(x50);
-  if (((u8)(x60 == 0u))) goto b17; else goto b18;
-b18:;
-  x61 = ld64_8(ADD(x50, 24));
-  if (((u8)(x61 == 0u))) goto b16; else goto b19;
-b19:;
-  x62 = ldp_8(ADD(x50, 8));
-  os_rattle_dealloc(x62);
-  goto b16;
-b15:;
-  stp_8(x44, x63);
-  MEMSET(x45, 0u, 32);
-  MEMCPY(x64, x43, 24);
-  f210(x51, x44, x64);
-  x65 = ld8_1(x51);
-  if (((u8)(x65 == 0u))) goto b20; else goto b21;
-b20:;
-  st64_8(x32, 1u);
-  MEMCPY(x33, x44, 40);
-  goto b17;
-b21:;
-  x66 = ld64_8(ADD(x51, 24));
-  if (((u8)(x66 == 0u))) goto b22; else goto b23;
-b23:;
-  x67 = ldp_8(ADD(x51, 8));
-  os_rattle_dealloc(x67);
-  goto b22;
-b22:;
-  f216(x44);
-  goto b16;
+  goto b19;
 b17:;
-  goto b6;
-b16:;
-  x68 = ld8_1(x32);
-  if (((u8)(x68 == 1u))) goto b24; else goto b25;
+  MEMCPY(x69, x51, 24);
+  f205(x58, x38, x69);
+  x70 = ld8_1(x58);
+  if (((u8)(x70 == 0u))) goto b20; else goto b21;
+b21:;
+  x71 = ld64_8(ADD(x58, 24));
+  if (((u8)(x71 == 0u))) goto b19; else goto b22;
+b22:;
+  x72 = ldp_8(ADD(x58, 8));
+  os_rattle_dealloc(x72);
+  goto b19;
+b18:;
+  stp_8(x52, x73);
+  MEMSET(x53, 0u, 32);
+  MEMCPY(x74, x51, 24);
+  f205(x59, x52, x74);
+  x75 = ld8_1(x59);
+  if (((u8)(x75 == 0u))) goto b23; else goto b24;
+b23:;
+  st64_8(x37, 1u);
+  MEMCPY(x38, x52, 40);
+  goto b20;
 b24:;
-  f216(x33);
+  x76 = ld64_8(ADD(x59, 24));
+  if (((u8)(x76 == 0u))) goto b25; else goto b26;
+b26:;
+  x77 = ldp_8(ADD(x59, 8));
+  os_rattle_dealloc(x77);
   goto b25;
 b25:;
-  MEMSET(x19, 0u, 40);
-  { x13 = 1u; x14 = 0u; goto b26; }
-b6:;
-  f191(x25, x23);
-  x69 = ld8_1(x25);
-  if (((u8)(x69 == 1u))) goto b4; else goto b27;
+  f211(x52);
+  goto b19;
+b20:;
+  goto b6;
+b19:;
+  x78 = ld8_1(x37);
+  if (((u8)(x78 == 1u))) goto b27; else goto b28;
 b27:;
-  x70 = ld8_1(x32);
-  x11 = (u64)x70;
-  { x12 = x11; goto b3; }
+  f211(x38);
+  goto b28;
+b28:;
+  MEMSET(x24, 0u, 40);
+  { x18 = 1u; x19 = 0u; goto b29; }
+b6:;
+  f187(x30, x28);
+  x79 = ld8_1(x30);
+  if (((u8)(x79 == 1u))) goto b4; else goto b30;
+b30:;
+  x80 = ld8_1(x37);
+  x16 = (u64)x80;
+  { x17 = x16; goto b3; }
 b3:;
-  MEMCPY(x19, x33, 40);
-  { x13 = 0u; x14 = x12; goto b26; }
-b26:;
-  st8_1(x0, x13);
-  st64_1(FAR(x0, 8), x14);
-  MEMCPY(FAR(x0, 16), x19, 40);
+  MEMCPY(x24, x38, 40);
+  { x18 = 0u; x19 = x17; goto b29; }
+b29:;
+  st8_1(x0, x18);
+  st64_1(FAR(x0, 8), x19);
+  MEMCPY(FAR(x0, 16), x24, 40);
   return;
 }
 
-static u8 f209(Q x0, u8 x1)
-{
-  u64 x4, x6, x3, x2;
-  u8 x5, x8;
-  Q x7, x9;
-  x6 = ld64_8(FAR(x0, 16));
-  x7 = FAR(x0, 8);
-  x3 = ld64_8(x7);
-  if (((u8)(x6 == x3))) goto b0; else { x4 = x3; goto b1; }
-b0:;
-  x8 = f113(x0, 1u);
-  if (x8) goto b2; else { x5 = 1u; goto b3; }
-b2:;
-  x2 = ld64_8(x7);
-  { x4 = x2; goto b1; }
-b1:;
-  x9 = ldp_8(x0);
-  st8_1(ADD(x9, (u64)x4), x1);
-  st64_8(x7, ((u64)((u64)x4 + 1u)));
-  { x5 = 0u; goto b3; }
-b3:;
-  return x5;
-}
-
-static void f210(Q x0, Q x1, Q x2)
+static void f205(Q x0, Q x1, Q x2)
 {
   u64 x4, x5;
   u8 x7;
@@ -17091,25 +17135,25 @@ b2:;
   return;
 b0:;
   MEMCPY(x6, x2, 24);
-  f214(x1, x6);
+  f209(x1, x6);
   st8_1(x0, 0u);
   MEMSET(FAR(x0, 8), 0u, 24);
   goto b2;
 b1:;
-  x7 = f211(x1);
+  x7 = f206(x1);
   if (x7) goto b3; else goto b4;
 b4:;
   st8_1(x0, 1u);
   MEMCPY(FAR(x0, 8), x3, 24);
   goto b2;
 b3:;
-  f214(x1, x3);
+  f209(x1, x3);
   st8_1(x0, 0u);
   MEMSET(FAR(x0, 8), 0u, 24);
   goto b2;
 }
 
-static u8 f211(Q x0)
+static u8 f206(Q x0)
 {
   u8 x2, x1, x28;
   u64 x4, x6, x8, x10, x12, x14, x20, x21, x22, x23, x24, x25, x27, x32, x33, x35, x36, x37, x3, x39, x41, x42, x43, x45, x47, x48, x5, x51, x52, x53, x7;
@@ -17136,7 +17180,7 @@ b2:;
   st64_8(x17, x10);
   x18 = ADD(x16, 16);
   st64_8(x18, x10);
-  x1 = f212(x16);
+  x1 = f207(x16);
   x19 = ldp_8(x16);
   x20 = ld64_8(x17);
   x21 = ld64_8(x18);
@@ -17160,7 +17204,7 @@ b6:;
   if (x28) goto b7; else { x2 = 0u; goto b1; }
 b7:;
   x29 = ldp_8(x0);
-  x30 = f213(x29, x10, x10, x25);
+  x30 = f208(x29, x10, x10, x25);
   if (((u8)((x30.f0) == 0u))) goto b8; else { x2 = 0u; goto b1; }
 b8:;
   x31 = x30.f1;
@@ -17236,7 +17280,7 @@ b21:;
   { x2 = 1u; goto b1; }
 }
 
-static u8 f212(Q x0)
+static u8 f207(Q x0)
 {
   u8 x1;
   u64 x2, x4, x5, x6, x7, x8;
@@ -17256,7 +17300,7 @@ b1:;
   if (((u8)(x8 < UINT64_C(384307168202282326)))) goto b2; else { x1 = 0u; goto b0; }
 b2:;
   x9 = ldp_8(x0);
-  x10 = f213(x9, x2, x4, x8);
+  x10 = f208(x9, x2, x4, x8);
   if (((u8)((x10.f0) == 0u))) goto b3; else { x1 = 0u; goto b0; }
 b3:;
   stp_8(x0, (x10.f1));
@@ -17264,7 +17308,7 @@ b3:;
   { x1 = 1u; goto b0; }
 }
 
-static s_u8_Q f213(Q x0, u64 x1, u64 x2, u64 x3)
+static s_u8_Q f208(Q x0, u64 x1, u64 x2, u64 x3)
 {
   s_u8_Q x6, x4, x5;
   Q x9, x7, x8;
@@ -17292,7 +17336,7 @@ b2:;
   return s_u8_Q_set1(x6, x9);
 }
 
-static void f214(Q x0, Q x1)
+static void f209(Q x0, Q x1)
 {
   Q x2, x4, x9;
   u64 x3, x5, x6, x7, x8;
@@ -17317,7 +17361,7 @@ b1:;
   goto b2;
 }
 
-static u64 f215(Q x0, Q x1)
+static u64 f210(Q x0, Q x1)
 {
   u64 x3, x6, x10, x2;
   u8 x4, x9, x11;
@@ -17328,7 +17372,7 @@ static u64 f215(Q x0, Q x1)
 b0:;
   x5 = ldp_8(x0);
   x6 = ld64_8(FAR(x0, 8));
-  x7 = f102(x5, x6, FAR(x1, 2));
+  x7 = f97(x5, x6, FAR(x1, 2));
   if (((u8)((x7.f0) == 0u))) goto b2; else { x3 = 0u; goto b1; }
 b2:;
   x8 = FAR(x5, (u64)((u64)((u64)(x7.f1) * 72u)));
@@ -17343,7 +17387,7 @@ b1:;
   return x3;
 }
 
-static void f216(Q x0)
+static void f211(Q x0)
 {
   u64 x3, x5, x7, x8, x9, x2, x10, x12, x1, x15, x4;
   Q x6, x11, x13, x14, x16;
@@ -17389,7 +17433,7 @@ b9:;
   return;
 }
 
-static void f217(Q x0, u64 x1, Q x2, Q x3, Q x4, Q x5, Q x6, u8 x7, Q x8)
+static void f212(Q x0, u64 x1, Q x2, Q x3, Q x4, Q x5, Q x6, u8 x7, Q x8)
 {
   u64 x10, x14, x22, x31, x33, x35, x37, x39, x40, x41, x44, x52, x54, x55, x61, x64, x65, x69, x72, x74, x75, x79, x81, x83, x85, x87, x88, x90, x93, x95, x97, x100, x101, x104, x106, x111, x114, x117, x124, x126, x129, x132, x134, x135, x139, x141, x143, x145, x147, x148, x150, x152, x154, x157, x158, x161, x163, x168, x171, x174, x177, x180, x183, x187, x189, x191, x193, x194, x176, x179, x182, x186, x188, x206, x208, x211, x213, x212, x216, x217, x219, x222, x224, x223, x228, x229, x232, x234, x237, x240, x243, x245, x251, x175, x257, x178, x181, x13, x267, x268, x9, x276, x12, x284, x21, x20, x301, x42, x307, x308, x311, x312, x30, x43, x314, x32, x317, x319, x322, x34, x325, x38, x36, x62, x63, x328, x329, x53, x51, x60, x333, x336, x337, x338, x343, x346, x347, x68, x349, x355, x360, x362, x86, x377, x71, x73, x78, x380, x381, x384, x80, x387, x84, x82, x115, x112, x98, x99, x391, x392, x396, x397, x92, x89, x400, x401, x96, x403, x94, x91, x116, x113, x407, x408, x412, x413, x105, x103, x110, x417, x449, x454, x460, x462, x464, x466, x123, x472, x473, x475, x481, x127, x125, x484, x128, x491, x493, x146, x507, x131, x133, x138, x510, x511, x514, x140, x517, x144, x142, x172, x169, x155, x156, x520, x521, x524, x525, x149, x527, x528, x530, x153, x151, x173, x170, x533, x534, x537, x538, x162, x160, x167, x541, x215, x563, x190, x192, x199, x566, x198, x197, x201, x202, x205, x570, x571, x574, x207, x575, x210, x579, x214, x581, x209, x238, x235, x226, x227, x586, x218, x588, x221, x591, x594, x225, x596, x220, x239, x236, x601, x233, x231, x603, x609, x244;
   u8 x11, x27, x29, x47, x49, x50, x56, x57, x66, x67, x70, x77, x102, x119, x118, x130, x137, x159, x196, x203, x204, x230, x242, x246, x247, x250, x255, x269, x274, x275, x277, x279, x280, x287, x290, x293, x297, x26, x299, x302, x28, x45, x48, x46, x316, x321, x324, x335, x340, x372, x76, x374, x376, x379, x383, x386, x389, x390, x395, x399, x402, x405, x406, x411, x418, x419, x422, x455, x456, x461, x463, x467, x468, x469, x470, x477, x479, x482, x483, x485, x486, x487, x488, x489, x502, x136, x504, x506, x509, x513, x516, x519, x529, x532, x548, x556, x195, x560, x562, x564, x565, x569, x573, x578, x583, x587, x592, x593, x598, x602, x608, x241;
@@ -17494,7 +17538,7 @@ b1:;
 b2:;
   x267 = (u64)x265;
   x268 = (u64)((u64)x267 >> 1);
-  x9 = f61(x261, x268, ((u64)((u64)x268 + x267)));
+  x9 = f58(x261, x268, ((u64)((u64)x268 + x267)));
   { x10 = x9; x11 = 1u; goto b0; }
 b0:;
   x269 = ld8_1(x3);
@@ -17560,8 +17604,8 @@ b15:;
   st8_1(ADD(x288, 1), x247);
   MEMCPY(ADD(x288, 2), x248, 16);
   MEMCPY(ADD(x288, 18), x249, 10);
-  f183(x289, x285, x286, x1, x288, ((u8)((x287) & 1u)), x8);
-  (void)f185(x285, x286, x1, x288, x284, x8);
+  f179(x289, x285, x286, x1, x288, ((u8)((x287) & 1u)), x8);
+  (void)f181(x285, x286, x1, x288, x284, x8);
   x290 = ld8_1(x289);
   MEMCPY(x258, ADD(x289, 1), 16);
   x291 = FAR(x0, 112);
@@ -17573,7 +17617,7 @@ b15:;
   MEMCPY(ADD(x295, 1), x258, 16);
   if (x7) goto b17; else goto b18;
 b18:;
-  f188(x291, x286, x295);
+  f184(x291, x286, x295);
   goto b19;
 b17:;
   MEMCPY(x296, x2, 16);
@@ -17582,18 +17626,18 @@ b17:;
 b20:;
   x24 = ldp_8(x291);
   x21 = ld64_8(FAR(x0, 120));
-  x26 = f196(x24, x21, x1, x296);
+  x26 = f192(x24, x21, x1, x296);
   { x22 = x21; x25 = x24; x27 = x26; x29 = 0u; goto b22; }
 b21:;
   MEMCPY(x298, x2, 16);
   x23 = ldp_8(x291);
   x20 = ld64_8(FAR(x0, 120));
-  x299 = f196(x23, x20, x1, x259);
+  x299 = f192(x23, x20, x1, x259);
   if (x299) goto b23; else { x22 = x20; x25 = x23; x27 = 0u; x29 = 0u; goto b22; }
 b23:;
   x300 = ldp_8(FAR(x0, 136));
   x301 = ld64_8(FAR(x0, 144));
-  x302 = f173(x300, x301, x298);
+  x302 = f169(x300, x301, x298);
   x28 = (u8)(x302 == x293);
   { x22 = x20; x25 = x23; x27 = 0u; x29 = x28; goto b22; }
 b22:;
@@ -17601,7 +17645,7 @@ b22:;
   x304 = FAR(x0, 120);
   if (((u8)(x22 == 0u))) goto b24; else goto b25;
 b24:;
-  x305 = f218(x25, 0u, x294);
+  x305 = f213(x25, 0u, x294);
   x45 = x305.f0;
   x42 = x305.f1;
   MEMCPY(x306, x2, 16);
@@ -17619,7 +17663,7 @@ b28:;
   x30 = (u64)((u64)x31 + 1u);
   if ((x48 ? 1u : ((u8)(x30 == x22)))) goto b29; else { x31 = x30; goto b28; }
 b29:;
-  x313 = f218(x25, x22, x294);
+  x313 = f213(x25, x22, x294);
   x46 = x313.f0;
   x43 = x313.f1;
   x314 = (u64)x292;
@@ -17670,7 +17714,7 @@ b27:;
   x62 = (u64)((u64)((u64)((u64)((u64)x292) * 1000u)) + x1);
   { x55 = x42; x56 = x45; x57 = 0u; x59 = x25; x61 = 0u; x64 = x62; goto b40; }
 b26:;
-  f95(x291, x303);
+  f90(x291, x303);
   { x65 = x44; x66 = x47; x67 = x49; goto b41; }
 b39:;
   x63 = (u64)((u64)((u64)((u64)x314 * 1000u)) + x1);
@@ -17707,7 +17751,7 @@ b41:;
   x331 = FAR(x0, 160);
   x332 = ldp_8(x291);
   x333 = ld64_8(x304);
-  x334 = f218(x332, x333, x303);
+  x334 = f213(x332, x333, x303);
   x335 = x334.f0;
   x336 = x334.f1;
   x337 = ld64_8(x303);
@@ -17721,14 +17765,14 @@ b48:;
 b49:;
   if (x340) goto b51; else goto b50;
 b51:;
-  f85(x331, x66, x65, x335, x336, x339);
+  f80(x331, x66, x65, x335, x336, x339);
   goto b50;
 b50:;
   x341 = FAR(x0, 136);
   if (x297) goto b52; else goto b53;
 b52:;
-  f96(x341, x303);
-  f97(FAR(x0, 216), x303);
+  f91(x341, x303);
+  f92(FAR(x0, 216), x303);
   goto b54;
 b53:;
   if (x67) goto b55; else goto b56;
@@ -17763,26 +17807,26 @@ b56:;
 b54:;
   if (x29) goto b61; else goto b62;
 b62:;
-  f99(FAR(x0, 864));
+  f94(FAR(x0, 864));
   goto b61;
 b61:;
-  f188(x291, x286, x295);
+  f184(x291, x286, x295);
   if (x27) goto b63; else goto b19;
 b19:;
   MEMCPY(x259, x2, 16);
   goto b64;
 b63:;
-  f219(x291, x294);
+  f214(x291, x294);
   st8_1(x352, 1u);
   MEMCPY(ADD(x352, 1), x294, 16);
-  f98(x286, x352);
-  f99(FAR(x0, 864));
+  f93(x286, x352);
+  f94(FAR(x0, 864));
   MEMCPY(x259, x2, 16);
   MEMSET(ADD(x353, 16), 0u, 17);
   MEMCPY(x353, x2, 16);
-  x354 = FAR(x8, 8);
+  x354 = FAR(x8, 32);
   x355 = ld64_8(x354);
-  x356 = ldp_8(x8);
+  x356 = ldp_8(FAR(x8, 24));
   x357 = ADD(x356, (u64)((u64)((u64)x355 * 80u)));
   st64_1(x357, x1);
   st8_1(ADD(x357, 8), 7u);
@@ -17811,7 +17855,7 @@ b65:;
 b66:;
   goto b67;
 b67:;
-  f198(x363, x364);
+  f194(x363, x364);
   x372 = ld8_1(x363);
   if (((u8)(x372 == 1u))) goto b68; else goto b69;
 b68:;
@@ -17822,7 +17866,7 @@ b68:;
   x76 = (u8)(x373 == 0u);
   if (((u8)(x76 | ((u8)(x86 < x362))))) { x77 = x76; goto b70; } else goto b71;
 b71:;
-  x374 = f200(x107, x86, x1, x369);
+  x374 = f196(x107, x86, x1, x369);
   if (x374) { x77 = 0u; goto b70; } else goto b72;
 b72:;
   if (((u8)(x86 == 0u))) { x75 = 0u; goto b73; } else { x72 = 0u; x74 = 0u; goto b74; }
@@ -17984,7 +18028,7 @@ b99:;
 b69:;
   if (x70) goto b109; else goto b110;
 b110:;
-  f99(FAR(x0, 864));
+  f94(FAR(x0, 864));
   goto b109;
 b109:;
   x415 = FAR(x0, 280);
@@ -17995,7 +18039,7 @@ b109:;
   MEMSET(x420, 0u, 32);
   stp_8(x421, x416);
   st64_8(ADD(x421, 8), x417);
-  f199(x420, x421);
+  f195(x420, x421);
   x422 = ld8_1(x420);
   if (((u8)(x422 == 1u))) goto b111; else { x130 = 1u; goto b112; }
 b111:;
@@ -18037,7 +18081,7 @@ b113:;
   x458 = ld32_4(x453);
   x459 = ldp_8(x424);
   x460 = ld64_8(x425);
-  x461 = f202(x459, x460, x415, x423);
+  x461 = f198(x459, x460, x415, x423);
   if (x461) goto b114; else { x124 = 0u; goto b115; }
 b114:;
   x462 = ld64_8(x426);
@@ -18074,7 +18118,7 @@ b124:;
   st64_8(x434, x454);
   st64_8(x435, (x472 | UINT64_C(1095199883264)));
   x473 = ld64_8(x426);
-  x474 = f102(x459, x460, x434);
+  x474 = f97(x459, x460, x434);
   x475 = x474.f1;
   if (((u8)((x474.f0) == 0u))) goto b125; else goto b126;
 b125:;
@@ -18110,7 +18154,7 @@ b132:;
 b133:;
   if (x486) goto b134; else goto b127;
 b134:;
-  f85(x436, x479, x481, x485, x129, x434);
+  f80(x436, x479, x481, x485, x129, x434);
   goto b127;
 b126:;
   if (((u8)(x457 == 0u))) goto b127; else goto b135;
@@ -18130,7 +18174,7 @@ b136:;
   st32_4(x446, x283);
   st64_8(x447, ((u64)((u64)x124 + x1)));
   st64_8(x448, 0u);
-  f220(x424, x436, x437, x475, x438);
+  f215(x424, x436, x437, x475, x438);
   goto b127;
 b123:;
   if (x461) goto b138; else { x118 = x119; goto b117; }
@@ -18142,7 +18186,7 @@ b127:;
 b138:;
   { x118 = 0u; goto b117; }
 b117:;
-  f199(x420, x421);
+  f195(x420, x421);
   x489 = ld8_1(x420);
   if (((u8)(x489 == 1u))) { x119 = x118; goto b113; } else { x130 = x118; goto b112; }
 b112:;
@@ -18163,7 +18207,7 @@ b112:;
   x501 = ADD(x500, 8);
   goto b139;
 b139:;
-  f204(x495, x494);
+  f200(x495, x494);
   x502 = ld8_1(x495);
   if (((u8)(x502 == 1u))) goto b140; else goto b141;
 b140:;
@@ -18174,7 +18218,7 @@ b140:;
   x136 = (u8)(x503 == 0u);
   if (((u8)(x136 | ((u8)(x146 < x493))))) { x137 = x136; goto b142; } else goto b143;
 b143:;
-  x504 = f205(x164, x146, x1, x500);
+  x504 = f201(x164, x146, x1, x500);
   if (x504) { x137 = 0u; goto b142; } else goto b144;
 b144:;
   if (((u8)(x146 == 0u))) { x135 = 0u; goto b145; } else { x132 = 0u; x134 = 0u; goto b146; }
@@ -18338,7 +18382,7 @@ b141:;
 b176:;
   goto b177;
 b177:;
-  f191(x544, x542);
+  f187(x544, x542);
   x556 = ld8_1(x544);
   if (((u8)(x556 == 1u))) goto b178; else goto b179;
 b178:;
@@ -18349,7 +18393,7 @@ b178:;
   x195 = (u8)(x558 == 0u);
   if (((u8)(x195 | ((u8)(x215 < x541))))) { x196 = x195; goto b180; } else goto b181;
 b181:;
-  x560 = f193(x559, x215, x1, x557);
+  x560 = f189(x559, x215, x1, x557);
   if (x560) { x196 = 0u; goto b180; } else goto b182;
 b182:;
   if (((u8)(x215 == 0u))) { x194 = 0u; goto b183; } else { x191 = 0u; x193 = 0u; goto b184; }
@@ -18365,7 +18409,7 @@ b183:;
 b180:;
   if ((x548 ? 1u : ((u8)(((u8)(x177 == 0u)) | x196)))) { x176 = x177; x179 = x180; x182 = x183; x184 = x185; x186 = x187; x188 = x189; x203 = 1u; x204 = 0u; goto b185; } else goto b186;
 b186:;
-  x564 = f193(x559, x215, x1, x557);
+  x564 = f189(x559, x215, x1, x557);
   if (x564) { x176 = x177; x179 = x180; x182 = x183; x184 = x185; x186 = x187; x188 = x189; x203 = 1u; x204 = 0u; goto b185; } else goto b187;
 b187:;
   x565 = (u8)(x183 == x177);
@@ -18459,7 +18503,7 @@ b210:;
   x586 = ld64_8(FAR(x584, 8));
   stp_8(x552, x585);
   st64_8(x553, x586);
-  x587 = f194(x557, x552);
+  x587 = f190(x557, x552);
   if (x587) goto b211; else goto b212;
 b212:;
   x218 = (u64)((u64)x219 + 1u);
@@ -18479,7 +18523,7 @@ b215:;
   x591 = ld64_8(FAR(x589, 8));
   stp_8(x554, x590);
   st64_8(x555, x591);
-  x592 = f194(x557, x554);
+  x592 = f190(x557, x554);
   x593 = ld8_1(FAR(x589, 24));
   x594 = ld64_8(FAR(x589, 32));
   x595 = ADD(x559, (u64)((u64)((u64)x224 * 40u)));
@@ -18521,7 +18565,7 @@ b223:;
   x601 = ld64_8(FAR(x599, 8));
   stp_8(x550, x600);
   st64_8(x551, x601);
-  x602 = f194(x557, x550);
+  x602 = f190(x557, x550);
   if (x602) goto b224; else goto b225;
 b225:;
   x233 = (u64)((u64)x234 + 1u);
@@ -18561,7 +18605,7 @@ b230:;
   st64_8(ADD(x606, 16), x257);
   st64_8(ADD(x606, 24), x180);
   st64_8(ADD(x606, 32), x183);
-  f216(x606);
+  f211(x606);
   goto b231;
 b231:;
   x607 = FAR(x0, 1032);
@@ -18574,10 +18618,10 @@ b232:;
 b233:;
   if (((u8)(x130 & x242))) goto b234; else goto b235;
 b235:;
-  f99(FAR(x0, 864));
+  f94(FAR(x0, 864));
   goto b234;
 b234:;
-  x610 = f223(x358, x1);
+  x610 = f218(x358, x1);
   if (((u8)((x610.f0) == 1u))) goto b236; else { x243 = 0u; x245 = 0u; goto b237; }
 b236:;
   x244 = usub_sat64((x610.f1), 1u);
@@ -18589,7 +18633,7 @@ b237:;
   return;
 }
 
-static s_u8_u64 f218(Q x0, u64 x1, Q x2)
+static s_u8_u64 f213(Q x0, u64 x1, Q x2)
 {
   u64 x4, x6, x9, x10, x3, x13, x14, x5;
   u8 x8, x7;
@@ -18617,7 +18661,7 @@ b0:;
   return s_u8_u64_set1(s_u8_u64_set0(((s_u8_u64){0u, 0u}), x8), x6);
 }
 
-static void f219(Q x0, Q x1)
+static void f214(Q x0, Q x1)
 {
   u64 x3, x6, x7, x8, x11, x12, x2;
   Q x5, x10;
@@ -18643,20 +18687,20 @@ b2:;
   x2 = (u64)((u64)x3 + 1u);
   if ((((u8)u128_eq(u128_or(u128_shl(u128_of(0, x12), (unsigned)u128_low(u128_of(0u, 64u)) & 127u), u128_of(0, x11)), x9)) ? 1u : ((u8)(x2 == x6)))) goto b0; else { x3 = x2; goto b2; }
 b0:;
-  x13 = f218(x5, x6, x1);
+  x13 = f213(x5, x6, x1);
   MEMCPY(x14, x1, 16);
   if (((u8)((x13.f0) == 1u))) goto b3; else goto b4;
 b3:;
-  f85(FAR(x0, 48), 1u, (x13.f1), 0u, 0u, x14);
+  f80(FAR(x0, 48), 1u, (x13.f1), 0u, 0u, x14);
   goto b4;
 b4:;
-  f95(x0, x4);
-  f96(FAR(x0, 24), x4);
-  f97(FAR(x0, 104), x4);
+  f90(x0, x4);
+  f91(FAR(x0, 24), x4);
+  f92(FAR(x0, 104), x4);
   return;
 }
 
-static void f220(Q x0, Q x1, Q x2, u64 x3, Q x4)
+static void f215(Q x0, Q x1, Q x2, u64 x3, Q x4)
 {
   u8 x5, x8, x13, x14, x19;
   Q x6, x9;
@@ -18697,15 +18741,15 @@ b0:;
   MEMCPY(ADD(x18, 49), x9, 7);
   st64_8(ADD(x18, 56), x10);
   st64_8(ADD(x18, 64), x11);
-  f222(x0, x3, x18);
+  f217(x0, x3, x18);
   goto b2;
 b1:;
   if (((u8)(x17 == x16))) goto b3; else goto b4;
 b3:;
-  x19 = f221(x0);
+  x19 = f216(x0);
   if (x19) goto b4; else goto b5;
 b4:;
-  f222(x0, x3, x15);
+  f217(x0, x3, x15);
   goto b2;
 b5:;
   TRAP();
@@ -18713,18 +18757,18 @@ b5:;
 b2:;
   if (((u8)(x5 == 1u))) goto b6; else goto b7;
 b6:;
-  f85(x1, 0u, 0u, 1u, x7, x12);
+  f80(x1, 0u, 0u, 1u, x7, x12);
   goto b7;
 b7:;
   if (x13) goto b8; else goto b9;
 b8:;
-  f85(x2, 0u, 0u, x14, x10, x12);
+  f80(x2, 0u, 0u, x14, x10, x12);
   goto b9;
 b9:;
   return;
 }
 
-static u8 f221(Q x0)
+static u8 f216(Q x0)
 {
   u8 x1;
   s_u64_u64 x4, x2, x13, x3;
@@ -18758,7 +18802,7 @@ b5:;
   { x1 = 1u; goto b0; }
 }
 
-static void f222(Q x0, u64 x1, Q x2)
+static void f217(Q x0, u64 x1, Q x2)
 {
   u64 x4, x6, x8, x11, x14, x16, x18, x20, x23, x26, x27, x28, x29, x12, x9, x32, x5, x33, x7, x3, x13, x10, x38, x15, x39, x17, x42, x19;
   Q x22, x24, x25, x30, x31, x34, x35, x36, x37, x40, x41;
@@ -18839,7 +18883,7 @@ b10:;
   return;
 }
 
-static s_u8_u64 f223(Q x0, u64 x1)
+static s_u8_u64 f218(Q x0, u64 x1)
 {
   Q x4, x12, x15, x2, x3;
   u64 x7, x11, x13, x16, x10, x5, x6, x19, x18;
@@ -18872,129 +18916,127 @@ b3:;
   return s_u8_u64_set1(s_u8_u64_set0(((s_u8_u64){0u, 0u}), x14), x11);
 }
 
-static void f224(Q x0, Q x1, u64 x2, Q x3, Q x4, Q x5)
+static void f219(Q x0, Q x1, u64 x2, Q x3, Q x4, Q x5)
 {
-  u8 x6, x7, x8, x9, x11, x12, x13, x15, x20, x22, x23, x25, x27, x31, x34, x35, x36, x37, x38, x40, x50, x51, x52, x53, x55, x56, x64, x65, x66, x67, x75, x82, x84, x90, x94, x112, x113, x120, x129, x10, x131, x133, x14, x21, x136, x138, x139, x140, x141, x26, x24, x143, x145, x152, x153, x157, x161, x39, x163, x164, x169, x175, x177, x187, x189, x63, x190, x198, x201, x210, x211, x220, x222;
-  u64 x17, x19, x44, x46, x49, x60, x62, x69, x70, x77, x78, x79, x81, x86, x91, x100, x118, x18, x16, x149, x150, x151, x156, x43, x45, x172, x174, x179, x47, x48, x59, x61, x192, x193, x194, x195, x197, x199, x203, x206, x218, x219, x224;
-  Q x30, x33, x42, x54, x58, x76, x80, x87, x88, x92, x93, x101, x102, x110, x111, x114, x115, x116, x117, x119, x130, x135, x28, x32, x29, x148, x155, x41, x173, x180, x181, x182, x183, x184, x185, x57, x191, x196, x204, x205, x207, x217, x225, x226;
-  _Alignas(8) u8 y0_[72];
-  Q const x186 = Q_OF(y0_);
+  u8 x6, x7, x8, x9, x11, x12, x13, x15, x20, x22, x23, x25, x27, x31, x34, x35, x36, x37, x38, x40, x50, x52, x53, x61, x63, x65, x67, x75, x82, x84, x91, x95, x113, x114, x121, x130, x10, x132, x134, x14, x21, x137, x139, x140, x141, x142, x26, x24, x144, x146, x153, x154, x158, x162, x39, x164, x165, x170, x176, x178, x62, x64, x66, x189, x60, x190, x198, x201, x211, x212, x221, x223;
+  u64 x17, x19, x44, x46, x49, x57, x59, x69, x70, x77, x78, x79, x81, x87, x92, x101, x119, x18, x16, x150, x151, x152, x157, x43, x45, x173, x175, x181, x47, x48, x56, x58, x192, x193, x194, x195, x197, x199, x204, x207, x219, x220, x225;
+  Q x30, x33, x42, x51, x55, x76, x80, x86, x88, x89, x93, x94, x102, x103, x111, x112, x115, x116, x117, x118, x120, x131, x136, x28, x32, x29, x149, x156, x41, x174, x180, x182, x183, x184, x185, x186, x187, x54, x191, x196, x203, x205, x206, x208, x218, x226, x227;
+  _Alignas(8) u8 y0_[40];
   Q const x188 = Q_OF(y0_);
   Q const x73 = Q_OF(y0_);
-  Q const x228 = Q_OF(y0_);
+  Q const x229 = Q_OF(y0_);
   Q const x200 = Q_OF(y0_);
-  Q const x176 = Q_OF(y0_);
-  Q const x168 = Q_OF(y0_);
+  Q const x177 = Q_OF(y0_);
+  Q const x169 = Q_OF(y0_);
   _Alignas(8) u8 y1_[33];
   Q const x74 = Q_OF(y1_);
   Q const x202 = Q_OF(y1_);
-  Q const x146 = Q_OF(y1_);
-  Q const x178 = Q_OF(y1_);
-  _Alignas(1) u8 y2_[32];
+  Q const x147 = Q_OF(y1_);
+  Q const x179 = Q_OF(y1_);
+  _Alignas(8) u8 y2_[32];
+  Q const x104 = Q_OF(y2_);
   Q const x83 = Q_OF(y2_);
   _Alignas(1) u8 y3_[32];
   Q const x85 = Q_OF(y3_);
   _Alignas(8) u8 y4_[32];
   Q const x72 = Q_OF(y4_);
   _Alignas(1) u8 y5_[28];
-  Q const x208 = Q_OF(y5_);
+  Q const x209 = Q_OF(y5_);
   _Alignas(1) u8 y6_[28];
-  Q const x123 = Q_OF(y6_);
+  Q const x124 = Q_OF(y6_);
   _Alignas(1) u8 y7_[27];
-  Q const x142 = Q_OF(y7_);
+  Q const x143 = Q_OF(y7_);
   _Alignas(1) u8 y8_[27];
-  Q const x144 = Q_OF(y8_);
+  Q const x145 = Q_OF(y8_);
   _Alignas(8) u8 y9_[24];
-  Q const x227 = Q_OF(y9_);
+  Q const x228 = Q_OF(y9_);
   _Alignas(8) u8 y10_[24];
-  Q const x216 = Q_OF(y10_);
+  Q const x217 = Q_OF(y10_);
   _Alignas(8) u8 y11_[24];
-  Q const x214 = Q_OF(y11_);
+  Q const x215 = Q_OF(y11_);
   _Alignas(8) u8 y12_[24];
-  Q const x171 = Q_OF(y12_);
+  Q const x172 = Q_OF(y12_);
   _Alignas(8) u8 y13_[24];
-  Q const x97 = Q_OF(y13_);
+  Q const x98 = Q_OF(y13_);
   _Alignas(8) u8 y14_[24];
   Q const x71 = Q_OF(y14_);
   _Alignas(1) u8 y15_[17];
-  Q const x147 = Q_OF(y15_);
+  Q const x148 = Q_OF(y15_);
   _Alignas(1) u8 y16_[17];
-  Q const x209 = Q_OF(y16_);
+  Q const x210 = Q_OF(y16_);
   _Alignas(1) u8 y17_[17];
-  Q const x106 = Q_OF(y17_);
-  _Alignas(1) u8 y18_[16];
-  Q const x213 = Q_OF(y18_);
+  Q const x107 = Q_OF(y17_);
+  _Alignas(1) u8 y18_[17];
+  Q const x108 = Q_OF(y18_);
   _Alignas(1) u8 y19_[16];
-  Q const x166 = Q_OF(y19_);
+  Q const x214 = Q_OF(y19_);
   _Alignas(1) u8 y20_[16];
   Q const x167 = Q_OF(y20_);
-  _Alignas(8) u8 y21_[16];
-  Q const x109 = Q_OF(y21_);
-  _Alignas(1) u8 y22_[16];
-  Q const x104 = Q_OF(y22_);
-  _Alignas(1) u8 y23_[16];
-  Q const x96 = Q_OF(y23_);
+  _Alignas(1) u8 y21_[16];
+  Q const x168 = Q_OF(y21_);
+  _Alignas(2) u8 y22_[16];
+  Q const x155 = Q_OF(y22_);
+  _Alignas(8) u8 y23_[16];
+  Q const x110 = Q_OF(y23_);
   _Alignas(1) u8 y24_[16];
-  Q const x99 = Q_OF(y24_);
-  _Alignas(1) u8 y25_[16];
-  Q const x89 = Q_OF(y25_);
-  _Alignas(1) u8 y26_[15];
-  Q const x154 = Q_OF(y26_);
-  _Alignas(1) u8 y27_[15];
-  Q const x103 = Q_OF(y27_);
-  _Alignas(1) u8 y28_[15];
-  Q const x107 = Q_OF(y28_);
-  _Alignas(1) u8 y29_[15];
-  Q const x108 = Q_OF(y29_);
-  _Alignas(1) u8 y30_[15];
-  Q const x68 = Q_OF(y30_);
-  _Alignas(1) u8 y31_[10];
-  Q const x105 = Q_OF(y31_);
+  Q const x105 = Q_OF(y24_);
+  _Alignas(2) u8 y25_[16];
+  Q const x109 = Q_OF(y25_);
+  _Alignas(1) u8 y26_[16];
+  Q const x97 = Q_OF(y26_);
+  _Alignas(1) u8 y27_[16];
+  Q const x100 = Q_OF(y27_);
+  _Alignas(1) u8 y28_[16];
+  Q const x90 = Q_OF(y28_);
+  _Alignas(2) u8 y29_[16];
+  Q const x68 = Q_OF(y29_);
+  _Alignas(1) u8 y30_[10];
+  Q const x106 = Q_OF(y30_);
+  _Alignas(1) u8 y31_[7];
+  Q const x222 = Q_OF(y31_);
   _Alignas(1) u8 y32_[7];
-  Q const x221 = Q_OF(y32_);
+  Q const x160 = Q_OF(y32_);
   _Alignas(1) u8 y33_[7];
-  Q const x159 = Q_OF(y33_);
+  Q const x161 = Q_OF(y33_);
   _Alignas(1) u8 y34_[7];
-  Q const x160 = Q_OF(y34_);
+  Q const x123 = Q_OF(y34_);
   _Alignas(1) u8 y35_[7];
-  Q const x122 = Q_OF(y35_);
+  Q const x125 = Q_OF(y35_);
   _Alignas(1) u8 y36_[7];
-  Q const x124 = Q_OF(y36_);
+  Q const x126 = Q_OF(y36_);
   _Alignas(1) u8 y37_[7];
-  Q const x125 = Q_OF(y37_);
+  Q const x127 = Q_OF(y37_);
   _Alignas(1) u8 y38_[7];
-  Q const x126 = Q_OF(y38_);
+  Q const x128 = Q_OF(y38_);
   _Alignas(1) u8 y39_[7];
-  Q const x127 = Q_OF(y39_);
-  _Alignas(1) u8 y40_[7];
-  Q const x128 = Q_OF(y40_);
+  Q const x129 = Q_OF(y39_);
+  _Alignas(1) u8 y40_[6];
+  Q const x224 = Q_OF(y40_);
   _Alignas(1) u8 y41_[6];
-  Q const x223 = Q_OF(y41_);
+  Q const x213 = Q_OF(y41_);
   _Alignas(1) u8 y42_[6];
-  Q const x212 = Q_OF(y42_);
+  Q const x216 = Q_OF(y42_);
   _Alignas(1) u8 y43_[6];
-  Q const x215 = Q_OF(y43_);
+  Q const x171 = Q_OF(y43_);
   _Alignas(1) u8 y44_[6];
-  Q const x170 = Q_OF(y44_);
+  Q const x166 = Q_OF(y44_);
   _Alignas(1) u8 y45_[6];
-  Q const x165 = Q_OF(y45_);
+  Q const x159 = Q_OF(y45_);
   _Alignas(1) u8 y46_[6];
-  Q const x158 = Q_OF(y46_);
+  Q const x122 = Q_OF(y46_);
   _Alignas(1) u8 y47_[6];
-  Q const x121 = Q_OF(y47_);
+  Q const x96 = Q_OF(y47_);
   _Alignas(1) u8 y48_[6];
-  Q const x95 = Q_OF(y48_);
-  _Alignas(1) u8 y49_[6];
-  Q const x98 = Q_OF(y49_);
+  Q const x99 = Q_OF(y48_);
+  _Alignas(1) u8 y49_[5];
+  Q const x163 = Q_OF(y49_);
   _Alignas(1) u8 y50_[5];
-  Q const x162 = Q_OF(y50_);
+  Q const x138 = Q_OF(y50_);
   _Alignas(1) u8 y51_[5];
-  Q const x137 = Q_OF(y51_);
+  Q const x135 = Q_OF(y51_);
   _Alignas(1) u8 y52_[5];
-  Q const x134 = Q_OF(y52_);
-  _Alignas(1) u8 y53_[5];
-  Q const x132 = Q_OF(y53_);
-  MEMSET(x68, 0u, 15);
+  Q const x133 = Q_OF(y52_);
+  MEMSET(x68, 0u, 16);
   x69 = ld64_1(x3);
   x70 = ld64_1(ADD(x3, 8));
   if (((u8)((x70 | x69) == 0u))) goto b0; else goto b1;
@@ -19005,22 +19047,22 @@ b0:;
   MEMSET(x72, 0u, 32);
   MEMSET(x73, 0u, 33);
   MEMSET(x74, 0u, 33);
-  f157(x72);
+  f153(x72);
   x75 = ld8_1(x72);
   if (((u8)(x75 == 0u))) goto b2; else goto b3;
 b2:;
   x76 = ldp_8(ADD(x72, 8));
   x77 = ld64_8(ADD(x72, 16));
   x78 = ld64_8(ADD(x72, 24));
-  x79 = ld64_8(FAR(x5, 16));
-  x80 = FAR(x5, 8);
+  x79 = ld64_8(FAR(x5, 40));
+  x80 = FAR(x5, 32);
   x81 = ld64_8(x80);
   if (((u8)(((u64)((u64)x79 - x81)) < 4u))) goto b4; else goto b5;
 b4:;
-  x82 = f83(x5, 4u);
+  x82 = f78(FAR(x5, 24), 4u);
   if (x82) goto b5; else goto b6;
 b3:;
-  MEMSET(x68, 0u, 15);
+  MEMSET(x68, 0u, 16);
   { x6 = 1u; goto b7; }
 b5:;
   st64_8(FAR(x1, 64), x2);
@@ -19028,33 +19070,34 @@ b5:;
   MEMCPY(ADD(x83, 16), FAR(x3, 16), 16);
   x84 = ld8_1(FAR(x3, 32));
   MEMCPY(x85, FAR(x3, 33), 32);
-  x86 = ld64_8(x80);
-  x87 = ldp_8(x5);
-  x88 = ADD(x87, (u64)((u64)((u64)x86 * 80u)));
-  st64_1(x88, x2);
-  st8_1(ADD(x88, 8), 1u);
-  MEMCPY(ADD(x88, 9), x83, 32);
-  st8_1(ADD(x88, 41), 0u);
-  st8_1(ADD(x88, 42), 0u);
-  st8_1(ADD(x88, 43), 0u);
-  st8_1(ADD(x88, 44), x84);
-  MEMCPY(ADD(x88, 45), x85, 32);
-  MEMSET(ADD(x88, 77), 0u, 3);
-  st64_8(x80, ((u64)((u64)x86 + 1u)));
-  MEMCPY(x89, x4, 16);
-  x90 = f225(FAR(x1, 280), x89);
-  if (x90) goto b8; else goto b9;
+  x86 = FAR(x5, 24);
+  x87 = ld64_8(x80);
+  x88 = ldp_8(x86);
+  x89 = ADD(x88, (u64)((u64)((u64)x87 * 80u)));
+  st64_1(x89, x2);
+  st8_1(ADD(x89, 8), 1u);
+  MEMCPY(ADD(x89, 9), x83, 32);
+  st8_1(ADD(x89, 41), 0u);
+  st8_1(ADD(x89, 42), 0u);
+  st8_1(ADD(x89, 43), 0u);
+  st8_1(ADD(x89, 44), x84);
+  MEMCPY(ADD(x89, 45), x85, 32);
+  MEMSET(ADD(x89, 77), 0u, 3);
+  st64_8(x80, ((u64)((u64)x87 + 1u)));
+  MEMCPY(x90, x4, 16);
+  x91 = f220(FAR(x1, 280), x90);
+  if (x91) goto b8; else goto b9;
 b8:;
-  f99(FAR(x1, 864));
+  f94(FAR(x1, 864));
   MEMCPY(x73, x4, 16);
-  x91 = ld64_8(x80);
-  x92 = ldp_8(x5);
-  x93 = ADD(x92, (u64)((u64)((u64)x91 * 80u)));
-  st64_1(x93, x2);
-  st8_1(ADD(x93, 8), 4u);
-  MEMCPY(ADD(x93, 9), x73, 33);
-  MEMSET(ADD(x93, 42), 0u, 38);
-  st64_8(x80, ((u64)((u64)x91 + 1u)));
+  x92 = ld64_8(x80);
+  x93 = ldp_8(x86);
+  x94 = ADD(x93, (u64)((u64)((u64)x92 * 80u)));
+  st64_1(x94, x2);
+  st8_1(ADD(x94, 8), 4u);
+  MEMCPY(ADD(x94, 9), x73, 33);
+  MEMSET(ADD(x94, 42), 0u, 38);
+  st64_8(x80, ((u64)((u64)x92 + 1u)));
   if (((u8)(x78 == 0u))) goto b10; else goto b11;
 b6:;
   if (((u8)(x78 == 0u))) goto b12; else goto b13;
@@ -19062,335 +19105,335 @@ b13:;
   os_rattle_dealloc(x76);
   goto b12;
 b12:;
-  MEMSET(x68, 0u, 15);
+  MEMSET(x68, 0u, 16);
   { x6 = 1u; goto b7; }
 b11:;
   os_rattle_dealloc(x76);
   goto b10;
 b10:;
-  MEMSET(x68, 0u, 15);
+  MEMSET(x68, 0u, 16);
   { x6 = 0u; goto b7; }
 b9:;
-  x94 = ld8_1(x1);
-  MEMCPY(x95, FAR(x1, 1), 6);
-  MEMCPY(x96, x4, 16);
-  stp_8(x97, x76);
-  st64_8(ADD(x97, 8), x77);
-  st64_8(ADD(x97, 16), x78);
-  st8_1(x98, 51u);
-  st8_1(ADD(x98, 1), 51u);
-  st8_1(ADD(x98, 2), 0u);
-  st8_1(ADD(x98, 3), 0u);
-  st8_1(ADD(x98, 4), 0u);
-  st8_1(ADD(x98, 5), 1u);
-  st8_1(x99, 255u);
-  st8_1(ADD(x99, 1), 2u);
-  MEMSET(ADD(x99, 2), 0u, 13);
-  st8_1(ADD(x99, 15), 1u);
-  f226(x71, x97, x98, x95, x99, ((u8)((x94) & 1u)), 0u, x96);
+  x95 = ld8_1(x1);
+  MEMCPY(x96, FAR(x1, 1), 6);
+  MEMCPY(x97, x4, 16);
+  stp_8(x98, x76);
+  st64_8(ADD(x98, 8), x77);
+  st64_8(ADD(x98, 16), x78);
+  st8_1(x99, 51u);
+  st8_1(ADD(x99, 1), 51u);
+  st8_1(ADD(x99, 2), 0u);
+  st8_1(ADD(x99, 3), 0u);
+  st8_1(ADD(x99, 4), 0u);
+  st8_1(ADD(x99, 5), 1u);
+  st8_1(x100, 255u);
+  st8_1(ADD(x100, 1), 2u);
+  MEMSET(ADD(x100, 2), 0u, 13);
+  st8_1(ADD(x100, 15), 1u);
+  f221(x71, x98, x99, x96, x100, ((u8)((x95) & 1u)), 0u, x97);
   MEMCPY(ADD(x74, 7), x71, 24);
-  x100 = ld64_8(x80);
-  x101 = ldp_8(x5);
-  x102 = ADD(x101, (u64)((u64)((u64)x100 * 80u)));
-  st64_1(x102, x2);
-  st8_1(ADD(x102, 8), 0u);
-  MEMCPY(ADD(x102, 9), x74, 33);
-  MEMSET(ADD(x102, 42), 0u, 38);
-  st64_8(x80, ((u64)((u64)x100 + 1u)));
-  MEMSET(x68, 0u, 15);
+  x101 = ld64_8(x80);
+  x102 = ldp_8(x86);
+  x103 = ADD(x102, (u64)((u64)((u64)x101 * 80u)));
+  st64_1(x103, x2);
+  st8_1(ADD(x103, 8), 0u);
+  MEMCPY(ADD(x103, 9), x74, 33);
+  MEMSET(ADD(x103, 42), 0u, 38);
+  st64_8(x80, ((u64)((u64)x101 + 1u)));
+  MEMSET(x68, 0u, 16);
   { x6 = 0u; goto b7; }
 b7:;
   st8_1(x0, x6);
   st8_1(FAR(x0, 8), 0u);
   st8_1(FAR(x0, 9), 0u);
-  st8_1(FAR(x0, 10), 0u);
-  MEMCPY(FAR(x0, 11), x68, 15);
+  MEMCPY(FAR(x0, 10), x68, 16);
   goto b14;
 b1:;
-  MEMSET(x103, 0u, 15);
-  MEMSET(x104, 0u, 16);
-  MEMSET(x105, 0u, 10);
-  MEMSET(x106, 0u, 17);
-  MEMSET(x107, 0u, 15);
-  MEMSET(x108, 0u, 15);
-  MEMCPY(x109, x3, 16);
-  x110 = FAR(x1, 30);
-  x111 = FAR(x1, 31);
-  x112 = ld8_1(x111);
-  x113 = (u8)((x112) & 1u);
-  x114 = FAR(x3, 32);
-  x115 = FAR(x3, 72);
-  x116 = ldp_1(x115);
-  x117 = FAR(x3, 80);
-  x118 = ld64_1(x117);
-  x119 = FAR(x1, 33);
-  x120 = ld8_1(x119);
-  if (((u8)((x120) & 1u))) goto b15; else goto b16;
+  MEMSET(x104, 0u, 32);
+  MEMSET(x105, 0u, 16);
+  MEMSET(x106, 0u, 10);
+  MEMSET(x107, 0u, 17);
+  MEMSET(x108, 0u, 17);
+  MEMSET(x109, 0u, 16);
+  MEMCPY(x110, x3, 16);
+  x111 = FAR(x1, 30);
+  x112 = FAR(x1, 31);
+  x113 = ld8_1(x112);
+  x114 = (u8)((x113) & 1u);
+  x115 = FAR(x3, 32);
+  x116 = FAR(x3, 72);
+  x117 = ldp_1(x116);
+  x118 = FAR(x3, 80);
+  x119 = ld64_1(x118);
+  x120 = FAR(x1, 33);
+  x121 = ld8_1(x120);
+  if (((u8)((x121) & 1u))) goto b15; else goto b16;
 b15:;
-  MEMCPY(x121, FAR(x1, 1), 6);
+  MEMCPY(x122, FAR(x1, 1), 6);
   { x7 = 1u; goto b17; }
 b16:;
-  MEMSET(x121, 0u, 6);
+  MEMSET(x122, 0u, 6);
   { x7 = 0u; goto b17; }
 b17:;
-  MEMCPY(ADD(x122, 1), x121, 6);
-  x18 = ld64_8(x109);
-  x16 = ld64_8(ADD(x109, 8));
-  st8_1(x122, x7);
-  MEMSET(x123, 0u, 28);
-  MEMSET(x124, 0u, 7);
+  MEMCPY(ADD(x123, 1), x122, 6);
+  x18 = ld64_8(x110);
+  x16 = ld64_8(ADD(x110, 8));
+  st8_1(x123, x7);
+  MEMSET(x124, 0u, 28);
   MEMSET(x125, 0u, 7);
   MEMSET(x126, 0u, 7);
   MEMSET(x127, 0u, 7);
   MEMSET(x128, 0u, 7);
-  x129 = ld8_1(x114);
-  switch (x129) { case 0u: goto b18; case 1u: goto b19; case 2u: goto b20; case 3u: goto b21; case 4u: goto b22; default: goto b23; }
+  MEMSET(x129, 0u, 7);
+  x130 = ld8_1(x115);
+  switch (x130) { case 0u: goto b18; case 1u: goto b19; case 2u: goto b20; case 3u: goto b21; case 4u: goto b22; default: goto b23; }
 b18:;
-  f175(x124, x116, x118, x122);
-  x10 = ld8_1(ADD(x124, 1));
-  x130 = ADD(x124, 2);
+  f171(x125, x117, x119, x123);
+  x10 = ld8_1(ADD(x125, 1));
+  x131 = ADD(x125, 2);
   if (((u8)((x16 | x18) == 0u))) goto b24; else goto b25;
 b24:;
-  MEMSET(x123, 0u, 28);
+  MEMSET(x124, 0u, 28);
   goto b26;
 b25:;
-  x131 = ld8_1(x124);
-  if (((u8)(x131 == 1u))) goto b27; else goto b28;
+  x132 = ld8_1(x125);
+  if (((u8)(x132 == 1u))) goto b27; else goto b28;
 b27:;
-  MEMCPY(x132, x130, 5);
+  MEMCPY(x133, x131, 5);
   { x8 = 1u; x9 = 0u; x11 = x10; goto b29; }
 b28:;
-  MEMSET(x132, 0u, 5);
+  MEMSET(x133, 0u, 5);
   { x8 = 0u; x9 = 2u; x11 = 0u; goto b29; }
 b29:;
-  MEMCPY(ADD(x123, 19), x132, 5);
-  st8_1(x123, 1u);
-  st8_1(ADD(x123, 1), x9);
-  st64_1(ADD(x123, 2), x18);
-  st64_1(ADD(x123, 10), x16);
-  st8_1(ADD(x123, 18), x11);
-  st8_1(ADD(x123, 24), x8);
-  st8_1(ADD(x123, 25), 0u);
-  st16_1(ADD(x123, 26), 0u);
+  MEMCPY(ADD(x124, 19), x133, 5);
+  st8_1(x124, 1u);
+  st8_1(ADD(x124, 1), x9);
+  st64_1(ADD(x124, 2), x18);
+  st64_1(ADD(x124, 10), x16);
+  st8_1(ADD(x124, 18), x11);
+  st8_1(ADD(x124, 24), x8);
+  st8_1(ADD(x124, 25), 0u);
+  st16_1(ADD(x124, 26), 0u);
   { x23 = x9; goto b30; }
 b19:;
-  f175(x125, x116, x118, x122);
-  x133 = ld8_1(x125);
-  if (((u8)(x133 == 1u))) goto b31; else goto b32;
+  f171(x126, x117, x119, x123);
+  x134 = ld8_1(x126);
+  if (((u8)(x134 == 1u))) goto b31; else goto b32;
 b31:;
-  x14 = ld8_1(ADD(x125, 1));
-  MEMCPY(x134, ADD(x125, 2), 5);
+  x14 = ld8_1(ADD(x126, 1));
+  MEMCPY(x135, ADD(x126, 2), 5);
   { x12 = 1u; x13 = 0u; x15 = x14; goto b33; }
 b32:;
-  MEMSET(x134, 0u, 5);
+  MEMSET(x135, 0u, 5);
   { x12 = 0u; x13 = 2u; x15 = 1u; goto b33; }
 b33:;
-  st8_1(x123, 1u);
-  st8_1(ADD(x123, 1), x13);
-  st64_1(ADD(x123, 2), x18);
-  st64_1(ADD(x123, 10), x16);
-  st8_1(ADD(x123, 18), x15);
-  MEMCPY(ADD(x123, 19), x134, 5);
-  st8_1(ADD(x123, 24), x12);
-  st8_1(ADD(x123, 25), x12);
-  st16_1(ADD(x123, 26), 0u);
+  st8_1(x124, 1u);
+  st8_1(ADD(x124, 1), x13);
+  st64_1(ADD(x124, 2), x18);
+  st64_1(ADD(x124, 10), x16);
+  st8_1(ADD(x124, 18), x15);
+  MEMCPY(ADD(x124, 19), x135, 5);
+  st8_1(ADD(x124, 24), x12);
+  st8_1(ADD(x124, 25), x12);
+  st16_1(ADD(x124, 26), 0u);
   { x23 = x13; goto b30; }
 b20:;
-  f175(x126, x116, x118, x122);
-  x21 = ld8_1(ADD(x126, 1));
-  x135 = ADD(x126, 2);
+  f171(x127, x117, x119, x123);
+  x21 = ld8_1(ADD(x127, 1));
+  x136 = ADD(x127, 2);
   if (((u8)((x16 | x18) == 0u))) goto b34; else goto b35;
 b34:;
-  MEMSET(x123, 0u, 28);
+  MEMSET(x124, 0u, 28);
   goto b26;
 b35:;
-  x136 = ld8_1(x126);
-  if (((u8)(x136 == 1u))) goto b36; else goto b37;
+  x137 = ld8_1(x127);
+  if (((u8)(x137 == 1u))) goto b36; else goto b37;
 b36:;
-  MEMCPY(x137, x135, 5);
+  MEMCPY(x138, x136, 5);
   { x17 = x16; x19 = x18; x20 = 1u; x22 = x21; goto b38; }
 b37:;
-  MEMSET(x137, 0u, 5);
+  MEMSET(x138, 0u, 5);
   { x17 = 0u; x19 = 0u; x20 = 0u; x22 = 0u; goto b38; }
 b38:;
-  MEMCPY(ADD(x123, 19), x137, 5);
-  st8_1(x123, x20);
-  st8_1(ADD(x123, 1), 0u);
-  st64_1(ADD(x123, 2), x19);
-  st64_1(ADD(x123, 10), x17);
-  st8_1(ADD(x123, 18), x22);
-  st8_1(ADD(x123, 24), 0u);
-  st8_1(ADD(x123, 25), 0u);
-  st16_1(ADD(x123, 26), 0u);
+  MEMCPY(ADD(x124, 19), x138, 5);
+  st8_1(x124, x20);
+  st8_1(ADD(x124, 1), 0u);
+  st64_1(ADD(x124, 2), x19);
+  st64_1(ADD(x124, 10), x17);
+  st8_1(ADD(x124, 18), x22);
+  st8_1(ADD(x124, 24), 0u);
+  st8_1(ADD(x124, 25), 0u);
+  st16_1(ADD(x124, 26), 0u);
   { x25 = 0u; x27 = x20; goto b39; }
 b21:;
-  MEMCPY(ADD(x123, 2), FAR(x3, 36), 16);
-  x138 = ld8_1(FAR(x3, 33));
-  x139 = ld8_1(FAR(x3, 34));
-  x140 = ld8_1(FAR(x3, 35));
-  f177(x127, x116, x118, x122);
-  x141 = ld8_1(x127);
-  st8_1(x123, 1u);
-  st8_1(ADD(x123, 1), 1u);
-  st8_1(ADD(x123, 18), x138);
-  st8_1(ADD(x123, 19), x139);
-  st8_1(ADD(x123, 20), x140);
-  st8_1(ADD(x123, 21), x141);
-  MEMCPY(ADD(x123, 22), ADD(x127, 1), 6);
+  MEMCPY(ADD(x124, 2), FAR(x3, 36), 16);
+  x139 = ld8_1(FAR(x3, 33));
+  x140 = ld8_1(FAR(x3, 34));
+  x141 = ld8_1(FAR(x3, 35));
+  f173(x128, x117, x119, x123);
+  x142 = ld8_1(x128);
+  st8_1(x124, 1u);
+  st8_1(ADD(x124, 1), 1u);
+  st8_1(ADD(x124, 18), x139);
+  st8_1(ADD(x124, 19), x140);
+  st8_1(ADD(x124, 20), x141);
+  st8_1(ADD(x124, 21), x142);
+  MEMCPY(ADD(x124, 22), ADD(x128, 1), 6);
   { x23 = 1u; goto b30; }
 b22:;
-  f177(x128, x116, x118, x122);
-  f178(x123, FAR(x3, 33), x128);
-  x26 = ld8_1(x123);
-  x24 = ld8_1(ADD(x123, 1));
+  f173(x129, x117, x119, x123);
+  f174(x124, FAR(x3, 33), x129);
+  x26 = ld8_1(x124);
+  x24 = ld8_1(ADD(x124, 1));
   { x25 = x24; x27 = x26; goto b39; }
 b23:;
   UNREACHABLE();
 b30:;
-  MEMCPY(x104, ADD(x123, 2), 16);
-  MEMCPY(x105, ADD(x123, 18), 10);
+  MEMCPY(x105, ADD(x124, 2), 16);
+  MEMCPY(x106, ADD(x124, 18), 10);
   x28 = FAR(x1, 448);
   { x30 = x28; x31 = x23; goto b40; }
 b26:;
-  MEMCPY(x104, ADD(x123, 2), 16);
-  MEMCPY(x105, ADD(x123, 18), 10);
+  MEMCPY(x105, ADD(x124, 2), 16);
+  MEMCPY(x106, ADD(x124, 18), 10);
   x32 = FAR(x1, 448);
   { x33 = x32; x34 = 0u; x35 = 0u; goto b41; }
 b39:;
-  MEMCPY(x104, ADD(x123, 2), 16);
-  MEMCPY(x105, ADD(x123, 18), 10);
+  MEMCPY(x105, ADD(x124, 2), 16);
+  MEMCPY(x106, ADD(x124, 18), 10);
   x29 = FAR(x1, 448);
   if (((u8)(x27 == 1u))) { x30 = x29; x31 = x25; goto b40; } else { x33 = x29; x34 = x27; x35 = x25; goto b41; }
 b40:;
-  st8_1(x142, x31);
-  MEMCPY(ADD(x142, 1), x104, 16);
-  MEMCPY(ADD(x142, 17), x105, 10);
-  if (x113) goto b42; else goto b43;
+  st8_1(x143, x31);
+  MEMCPY(ADD(x143, 1), x105, 16);
+  MEMCPY(ADD(x143, 17), x106, 10);
+  if (x114) goto b42; else goto b43;
 b42:;
-  x143 = f179(x30, x2, x142);
-  if (x143) goto b44; else goto b45;
+  x144 = f175(x30, x2, x143);
+  if (x144) goto b44; else goto b45;
 b43:;
-  st8_1(x144, x31);
-  MEMCPY(ADD(x144, 1), x104, 16);
-  MEMCPY(ADD(x144, 17), x105, 10);
-  x145 = f181(x30, x2, x144);
-  if (x145) goto b44; else goto b45;
+  st8_1(x145, x31);
+  MEMCPY(ADD(x145, 1), x105, 16);
+  MEMCPY(ADD(x145, 17), x106, 10);
+  x146 = f177(x30, x2, x145);
+  if (x146) goto b44; else goto b45;
 b44:;
-  MEMSET(x146, 0u, 32);
-  { x54 = x30; x55 = 1u; x56 = x31; x58 = Q_NULL; x60 = 0u; x62 = 0u; x64 = 0u; goto b46; }
+  MEMSET(x147, 0u, 32);
+  { x51 = x30; x52 = 1u; x53 = x31; x55 = Q_NULL; x57 = 0u; x59 = 0u; x61 = 0u; goto b46; }
 b41:;
-  MEMSET(x147, 0u, 17);
-  x148 = ldp_8(x33);
-  x149 = ld64_8(FAR(x1, 456));
-  x150 = ld64_8(FAR(x1, 616));
-  x151 = ld64_8(FAR(x1, 624));
-  x152 = f151(x148, x149, x150, x2, x109, x147, x151);
-  if (x152) goto b47; else goto b45;
+  MEMSET(x148, 0u, 17);
+  x149 = ldp_8(x33);
+  x150 = ld64_8(FAR(x1, 456));
+  x151 = ld64_8(FAR(x1, 616));
+  x152 = ld64_8(FAR(x1, 624));
+  x153 = f146(x149, x150, x151, x2, x110, x148, x152);
+  if (x153) goto b47; else goto b45;
 b45:;
-  x153 = ld8_1(x110);
-  if (((u8)((x153) & 1u))) goto b48; else goto b49;
+  x154 = ld8_1(x111);
+  if (((u8)((x154) & 1u))) goto b48; else goto b49;
 b48:;
-  MEMSET(x154, 0u, 15);
-  x155 = ldp_1(x115);
-  x156 = ld64_1(x117);
-  x157 = ld8_1(x119);
-  if (((u8)((x157) & 1u))) goto b50; else goto b51;
+  MEMSET(x155, 0u, 16);
+  x156 = ldp_1(x116);
+  x157 = ld64_1(x118);
+  x158 = ld8_1(x120);
+  if (((u8)((x158) & 1u))) goto b50; else goto b51;
 b50:;
-  MEMCPY(x158, FAR(x1, 1), 6);
+  MEMCPY(x159, FAR(x1, 1), 6);
   { x36 = 1u; goto b52; }
 b51:;
-  MEMSET(x158, 0u, 6);
+  MEMSET(x159, 0u, 6);
   { x36 = 0u; goto b52; }
 b52:;
-  st8_1(x159, x36);
-  MEMCPY(ADD(x159, 1), x158, 6);
-  MEMSET(x160, 0u, 7);
-  f175(x160, x155, x156, x159);
-  x161 = ld8_1(x160);
-  if (((u8)(x161 == 1u))) goto b53; else goto b54;
+  st8_1(x160, x36);
+  MEMCPY(ADD(x160, 1), x159, 6);
+  MEMSET(x161, 0u, 7);
+  f171(x161, x156, x157, x160);
+  x162 = ld8_1(x161);
+  if (((u8)(x162 == 1u))) goto b53; else goto b54;
 b53:;
-  x39 = ld8_1(ADD(x160, 1));
+  x39 = ld8_1(ADD(x161, 1));
   if (((u8)(((u8)(x39 & 1u)) == 0u))) goto b55; else goto b56;
 b54:;
-  MEMSET(x162, 0u, 5);
+  MEMSET(x163, 0u, 5);
   { x37 = 0u; x38 = 1u; x40 = 0u; goto b57; }
 b56:;
-  MEMSET(x162, 0u, 5);
+  MEMSET(x163, 0u, 5);
   { x37 = 0u; x38 = 1u; x40 = 0u; goto b57; }
 b55:;
-  MEMCPY(x162, ADD(x160, 2), 5);
+  MEMCPY(x163, ADD(x161, 2), 5);
   { x37 = 1u; x38 = 0u; x40 = x39; goto b57; }
 b57:;
-  x163 = ld8_1(x1);
-  x164 = (u8)((x163) & 1u);
-  MEMCPY(x165, FAR(x1, 1), 6);
-  MEMCPY(x166, x4, 16);
-  MEMCPY(x167, x3, 16);
-  MEMSET(x168, 0u, 32);
+  x164 = ld8_1(x1);
+  x165 = (u8)((x164) & 1u);
+  MEMCPY(x166, FAR(x1, 1), 6);
+  MEMCPY(x167, x4, 16);
+  MEMCPY(x168, x3, 16);
+  MEMSET(x169, 0u, 32);
   if (x37) goto b58; else { x42 = Q_NULL; x44 = 0u; x46 = 0u; goto b59; }
 b58:;
-  f157(x168);
-  x169 = ld8_1(x168);
-  if (((u8)(x169 == 0u))) goto b60; else goto b61;
+  f153(x169);
+  x170 = ld8_1(x169);
+  if (((u8)(x170 == 0u))) goto b60; else goto b61;
 b60:;
-  MEMSET(x170, 0u, 6);
-  f226(x171, ADD(x168, 8), x170, x165, x167, x164, 1u, x166);
-  x41 = ldp_8(x171);
-  x43 = ld64_8(ADD(x171, 8));
-  x45 = ld64_8(ADD(x171, 16));
+  MEMSET(x171, 0u, 6);
+  f221(x172, ADD(x169, 8), x171, x166, x168, x165, 1u, x167);
+  x41 = ldp_8(x172);
+  x43 = ld64_8(ADD(x172, 8));
+  x45 = ld64_8(ADD(x172, 16));
   st8_1(x41, x40);
-  MEMCPY(ADD(x41, 1), x162, 5);
+  MEMCPY(ADD(x41, 1), x163, 5);
   { x42 = x41; x44 = x43; x46 = x45; goto b59; }
 b59:;
-  x172 = ld64_8(FAR(x5, 16));
-  x173 = FAR(x5, 8);
-  x174 = ld64_8(x173);
-  if (((u8)(((u64)((u64)x172 - x174)) < 4u))) goto b62; else goto b63;
+  x173 = ld64_8(FAR(x5, 40));
+  x174 = FAR(x5, 32);
+  x175 = ld64_8(x174);
+  if (((u8)(((u64)((u64)x173 - x175)) < 4u))) goto b62; else goto b63;
 b62:;
-  x175 = f83(x5, 4u);
-  if (x175) goto b63; else goto b64;
+  x176 = f78(FAR(x5, 24), 4u);
+  if (x176) goto b63; else goto b64;
 b61:;
-  MEMSET(x103, 0u, 15);
+  MEMSET(ADD(x104, 8), 0u, 18);
   { x50 = 1u; goto b65; }
 b63:;
   st64_8(FAR(x1, 64), x2);
-  MEMCPY(x176, x3, 16);
-  MEMCPY(ADD(x176, 16), FAR(x3, 16), 16);
-  x177 = ld8_1(x114);
-  MEMCPY(x178, FAR(x3, 33), 32);
-  x179 = ld64_8(x173);
-  x180 = ldp_8(x5);
-  x181 = ADD(x180, (u64)((u64)((u64)x179 * 80u)));
-  st64_1(x181, x2);
-  st8_1(ADD(x181, 8), 1u);
-  MEMCPY(ADD(x181, 9), x176, 32);
-  st8_1(ADD(x181, 41), 0u);
-  st8_1(ADD(x181, 42), 0u);
-  st8_1(ADD(x181, 43), 0u);
-  st8_1(ADD(x181, 44), x177);
-  MEMCPY(ADD(x181, 45), x178, 32);
-  MEMSET(ADD(x181, 77), 0u, 3);
-  x47 = (u64)((u64)x179 + 1u);
+  MEMCPY(x177, x3, 16);
+  MEMCPY(ADD(x177, 16), FAR(x3, 16), 16);
+  x178 = ld8_1(x115);
+  MEMCPY(x179, FAR(x3, 33), 32);
+  x180 = FAR(x5, 24);
+  x181 = ld64_8(x174);
+  x182 = ldp_8(x180);
+  x183 = ADD(x182, (u64)((u64)((u64)x181 * 80u)));
+  st64_1(x183, x2);
+  st8_1(ADD(x183, 8), 1u);
+  MEMCPY(ADD(x183, 9), x177, 32);
+  st8_1(ADD(x183, 41), 0u);
+  st8_1(ADD(x183, 42), 0u);
+  st8_1(ADD(x183, 43), 0u);
+  st8_1(ADD(x183, 44), x178);
+  MEMCPY(ADD(x183, 45), x179, 32);
+  MEMSET(ADD(x183, 77), 0u, 3);
+  x47 = (u64)((u64)x181 + 1u);
   if (x37) goto b66; else { x49 = x47; goto b67; }
 b66:;
-  x182 = ldp_8(x5);
-  x183 = ADD(x182, (u64)((u64)((u64)x47 * 80u)));
-  st64_1(x183, x2);
-  st64_1(ADD(x183, 8), 0u);
-  stp_1(ADD(x183, 16), x42);
-  st64_1(ADD(x183, 24), x44);
-  st64_1(ADD(x183, 32), x46);
-  x48 = (u64)((u64)x179 + 2u);
-  MEMSET(ADD(x183, 40), 0u, 40);
+  x184 = ldp_8(x180);
+  x185 = ADD(x184, (u64)((u64)((u64)x47 * 80u)));
+  st64_1(x185, x2);
+  st64_1(ADD(x185, 8), 0u);
+  stp_1(ADD(x185, 16), x42);
+  st64_1(ADD(x185, 24), x44);
+  st64_1(ADD(x185, 32), x46);
+  x48 = (u64)((u64)x181 + 2u);
+  MEMSET(ADD(x185, 40), 0u, 40);
   { x49 = x48; goto b67; }
 b67:;
-  x184 = ldp_8(x5);
-  x185 = ADD(x184, (u64)((u64)((u64)x49 * 80u)));
-  st64_1(x185, x2);
-  st8_1(ADD(x185, 8), 14u);
-  MEMSET(ADD(x185, 9), 0u, 71);
-  st64_8(x173, ((u64)((u64)x49 + 1u)));
-  MEMCPY(x103, x154, 15);
+  x186 = ldp_8(x180);
+  x187 = ADD(x186, (u64)((u64)((u64)x49 * 80u)));
+  st64_1(x187, x2);
+  st8_1(ADD(x187, 8), 14u);
+  MEMSET(ADD(x187, 9), 0u, 71);
+  st64_8(x174, ((u64)((u64)x49 + 1u)));
+  MEMCPY(ADD(x104, 10), x155, 16);
   { x50 = 0u; goto b65; }
 b64:;
   if ((x38 ? 1u : ((u8)(x46 == 0u)))) goto b68; else goto b69;
@@ -19398,165 +19441,157 @@ b69:;
   os_rattle_dealloc(x42);
   goto b68;
 b68:;
-  MEMSET(x103, 0u, 15);
+  MEMSET(ADD(x104, 8), 0u, 18);
   { x50 = 1u; goto b65; }
 b65:;
-  MEMCPY(x68, x103, 15);
-  { x65 = x50; x66 = 0u; x67 = 0u; goto b70; }
+  MEMCPY(x68, ADD(x104, 10), 16);
+  { x63 = x50; x65 = 0u; x67 = 0u; goto b70; }
 b49:;
-  MEMSET(ADD(x186, 16), 0u, 56);
-  st8_1(x186, 13u);
-  st8_1(ADD(x186, 1), 5u);
-  st8_1(ADD(x186, 2), 0u);
-  MEMCPY(ADD(x186, 3), x107, 15);
-  x187 = f248(x1, x2, x186, x5);
-  if (((u8)((x187) & 1u))) goto b71; else goto b72;
-b72:;
-  MEMCPY(x103, x107, 15);
-  { x51 = 0u; x52 = 2u; x53 = 5u; goto b73; }
-b71:;
-  MEMSET(x103, 0u, 15);
-  { x51 = 1u; x52 = 0u; x53 = 0u; goto b73; }
-b73:;
-  MEMCPY(x68, x103, 15);
-  { x65 = x51; x66 = x52; x67 = x53; goto b70; }
+  st8_1(x108, 5u);
+  st8_1(ADD(x108, 1), 0u);
+  f149(x104, x1, x2, x108, x5);
+  x62 = ld8_1(x104);
+  x64 = ld8_1(ADD(x104, 8));
+  x66 = ld8_1(ADD(x104, 9));
+  MEMCPY(x68, ADD(x104, 10), 16);
+  { x63 = x62; x65 = x64; x67 = x66; goto b70; }
 b47:;
   MEMSET(x188, 0u, 40);
-  MEMSET(x146, 0u, 32);
-  f156(x188, x33, x109, x5);
+  MEMSET(x147, 0u, 32);
+  f152(x188, x33, x110, x5);
   x189 = ld8_1(x188);
-  if (((u8)(x189 == 0u))) goto b74; else goto b75;
-b74:;
-  x63 = ld8_1(ADD(x188, 8));
-  x57 = ldp_8(ADD(x188, 16));
-  x59 = ld64_8(ADD(x188, 24));
-  x61 = ld64_8(ADD(x188, 32));
-  { x54 = x33; x55 = x34; x56 = x35; x58 = x57; x60 = x59; x62 = x61; x64 = x63; goto b46; }
+  if (((u8)(x189 == 0u))) goto b71; else goto b72;
+b71:;
+  x60 = ld8_1(ADD(x188, 8));
+  x54 = ldp_8(ADD(x188, 16));
+  x56 = ld64_8(ADD(x188, 24));
+  x58 = ld64_8(ADD(x188, 32));
+  { x51 = x33; x52 = x34; x53 = x35; x55 = x54; x57 = x56; x59 = x58; x61 = x60; goto b46; }
 b46:;
-  f157(x146);
-  x190 = ld8_1(x146);
-  if (((u8)(x190 == 0u))) goto b76; else goto b77;
-b76:;
-  x191 = ldp_8(ADD(x146, 8));
-  x192 = ld64_8(ADD(x146, 16));
-  x193 = ld64_8(ADD(x146, 24));
-  x194 = (x113 ? 21u : 12u);
-  x195 = ld64_8(FAR(x5, 16));
-  x196 = FAR(x5, 8);
+  f153(x147);
+  x190 = ld8_1(x147);
+  if (((u8)(x190 == 0u))) goto b73; else goto b74;
+b73:;
+  x191 = ldp_8(ADD(x147, 8));
+  x192 = ld64_8(ADD(x147, 16));
+  x193 = ld64_8(ADD(x147, 24));
+  x194 = (x114 ? 21u : 12u);
+  x195 = ld64_8(FAR(x5, 40));
+  x196 = FAR(x5, 32);
   x197 = ld64_8(x196);
-  if (((u8)(x194 > ((u64)((u64)x195 - x197))))) goto b78; else goto b79;
+  if (((u8)(x194 > ((u64)((u64)x195 - x197))))) goto b75; else goto b76;
+b75:;
+  x198 = f78(FAR(x5, 24), x194);
+  if (x198) goto b76; else goto b77;
+b74:;
+  if ((((u8)(x61 != 1u)) ? 1u : ((u8)(x59 == 0u)))) goto b72; else goto b78;
 b78:;
-  x198 = f83(x5, x194);
-  if (x198) goto b79; else goto b80;
+  os_rattle_dealloc(x55);
+  goto b72;
 b77:;
-  if ((((u8)(x64 != 1u)) ? 1u : ((u8)(x62 == 0u)))) goto b75; else goto b81;
-b81:;
-  os_rattle_dealloc(x58);
-  goto b75;
+  if (((u8)(x193 == 0u))) goto b79; else goto b80;
 b80:;
-  if (((u8)(x193 == 0u))) goto b82; else goto b83;
-b83:;
   os_rattle_dealloc(x191);
-  goto b82;
-b82:;
-  if ((((u8)(x64 != 1u)) ? 1u : ((u8)(x62 == 0u)))) goto b75; else goto b84;
-b84:;
-  os_rattle_dealloc(x58);
-  goto b75;
+  goto b79;
 b79:;
-  x199 = (u64)x64;
+  if ((((u8)(x61 != 1u)) ? 1u : ((u8)(x59 == 0u)))) goto b72; else goto b81;
+b81:;
+  os_rattle_dealloc(x55);
+  goto b72;
+b76:;
+  x199 = (u64)x61;
   st64_8(FAR(x1, 64), x2);
   MEMCPY(x200, x3, 16);
   MEMCPY(ADD(x200, 16), FAR(x3, 16), 16);
-  x201 = ld8_1(x114);
+  x201 = ld8_1(x115);
   MEMCPY(x202, FAR(x3, 33), 32);
-  x203 = ld64_8(x196);
-  x204 = ldp_8(x5);
-  x205 = ADD(x204, (u64)((u64)((u64)x203 * 80u)));
-  st64_1(x205, x2);
-  st8_1(ADD(x205, 8), 1u);
-  MEMCPY(ADD(x205, 9), x200, 32);
-  st8_1(ADD(x205, 41), 0u);
-  st8_1(ADD(x205, 42), 0u);
-  st8_1(ADD(x205, 43), 0u);
-  st8_1(ADD(x205, 44), x201);
-  MEMCPY(ADD(x205, 45), x202, 32);
-  MEMSET(ADD(x205, 77), 0u, 3);
-  st64_8(x196, ((u64)((u64)x203 + 1u)));
-  x206 = ld64_8(FAR(x1, 88));
-  x207 = FAR(x1, 696);
-  st8_1(x208, x55);
-  st8_1(ADD(x208, 1), x56);
-  MEMCPY(ADD(x208, 2), x104, 16);
-  MEMCPY(ADD(x208, 18), x105, 10);
-  f183(x209, x54, x207, x2, x208, x113, x5);
-  (void)f185(x54, x207, x2, x208, x206, x5);
-  x210 = ld8_1(x209);
-  MEMCPY(ADD(x106, 1), ADD(x209, 1), 16);
-  st8_1(x106, x210);
-  f188(FAR(x1, 112), x207, x106);
-  x211 = ld8_1(x1);
-  MEMCPY(x212, FAR(x1, 1), 6);
-  MEMCPY(x213, x4, 16);
-  stp_8(x214, x191);
-  st64_8(ADD(x214, 8), x192);
-  st64_8(ADD(x214, 16), x193);
-  MEMSET(x215, 0u, 6);
-  f226(x216, x214, x215, x212, x109, ((u8)((x211) & 1u)), 1u, x213);
-  x217 = ldp_8(x216);
-  x218 = ld64_8(ADD(x216, 8));
-  x219 = ld64_8(ADD(x216, 16));
-  x220 = ld8_1(x111);
-  if (((u8)((x220) & 1u))) goto b85; else goto b86;
-b86:;
-  goto b87;
+  x203 = FAR(x5, 24);
+  x204 = ld64_8(x196);
+  x205 = ldp_8(x203);
+  x206 = ADD(x205, (u64)((u64)((u64)x204 * 80u)));
+  st64_1(x206, x2);
+  st8_1(ADD(x206, 8), 1u);
+  MEMCPY(ADD(x206, 9), x200, 32);
+  st8_1(ADD(x206, 41), 0u);
+  st8_1(ADD(x206, 42), 0u);
+  st8_1(ADD(x206, 43), 0u);
+  st8_1(ADD(x206, 44), x201);
+  MEMCPY(ADD(x206, 45), x202, 32);
+  MEMSET(ADD(x206, 77), 0u, 3);
+  st64_8(x196, ((u64)((u64)x204 + 1u)));
+  x207 = ld64_8(FAR(x1, 88));
+  x208 = FAR(x1, 696);
+  st8_1(x209, x52);
+  st8_1(ADD(x209, 1), x53);
+  MEMCPY(ADD(x209, 2), x105, 16);
+  MEMCPY(ADD(x209, 18), x106, 10);
+  f179(x210, x51, x208, x2, x209, x114, x5);
+  (void)f181(x51, x208, x2, x209, x207, x5);
+  x211 = ld8_1(x210);
+  MEMCPY(ADD(x107, 1), ADD(x210, 1), 16);
+  st8_1(x107, x211);
+  f184(FAR(x1, 112), x208, x107);
+  x212 = ld8_1(x1);
+  MEMCPY(x213, FAR(x1, 1), 6);
+  MEMCPY(x214, x4, 16);
+  stp_8(x215, x191);
+  st64_8(ADD(x215, 8), x192);
+  st64_8(ADD(x215, 16), x193);
+  MEMSET(x216, 0u, 6);
+  f221(x217, x215, x216, x213, x110, ((u8)((x212) & 1u)), 1u, x214);
+  x218 = ldp_8(x217);
+  x219 = ld64_8(ADD(x217, 8));
+  x220 = ld64_8(ADD(x217, 16));
+  x221 = ld8_1(x112);
+  if (((u8)((x221) & 1u))) goto b82; else goto b83;
+b83:;
+  goto b84;
+b82:;
+  f159(x222, x51, x110);
+  x223 = ld8_1(x222);
+  MEMCPY(x224, ADD(x222, 1), 6);
+  if (((u8)(x223 == 1u))) goto b85; else goto b84;
 b85:;
-  f163(x221, x54, x109);
-  x222 = ld8_1(x221);
-  MEMCPY(x223, ADD(x221, 1), 6);
-  if (((u8)(x222 == 1u))) goto b88; else goto b87;
-b88:;
-  MEMCPY(x217, x223, 6);
-  x224 = ld64_8(x196);
-  x225 = ldp_8(x5);
-  x226 = ADD(x225, (u64)((u64)((u64)x224 * 80u)));
-  st64_1(x226, x2);
-  st64_1(ADD(x226, 8), 0u);
-  stp_1(ADD(x226, 16), x217);
-  st64_1(ADD(x226, 24), x218);
-  st64_1(ADD(x226, 32), x219);
-  MEMSET(ADD(x226, 40), 0u, 40);
-  st64_8(x196, ((u64)((u64)x224 + 1u)));
-  if ((((u8)(x64 != 1u)) ? 1u : ((u8)(x62 == 0u)))) goto b89; else goto b90;
-b90:;
-  os_rattle_dealloc(x58);
-  goto b89;
+  MEMCPY(x218, x224, 6);
+  x225 = ld64_8(x196);
+  x226 = ldp_8(x203);
+  x227 = ADD(x226, (u64)((u64)((u64)x225 * 80u)));
+  st64_1(x227, x2);
+  st64_1(ADD(x227, 8), 0u);
+  stp_1(ADD(x227, 16), x218);
+  st64_1(ADD(x227, 24), x219);
+  st64_1(ADD(x227, 32), x220);
+  MEMSET(ADD(x227, 40), 0u, 40);
+  st64_8(x196, ((u64)((u64)x225 + 1u)));
+  if ((((u8)(x61 != 1u)) ? 1u : ((u8)(x59 == 0u)))) goto b86; else goto b87;
 b87:;
-  stp_8(x227, x217);
-  st64_8(ADD(x227, 8), x218);
-  st64_8(ADD(x227, 16), x219);
-  st64_8(x228, x199);
-  stp_8(ADD(x228, 8), x58);
-  st64_8(ADD(x228, 16), x60);
-  st64_8(ADD(x228, 24), x62);
-  f159(x1, x2, x109, x227, x228, x5);
-  goto b89;
-b89:;
-  MEMCPY(x68, x108, 15);
-  { x65 = 0u; x66 = 0u; x67 = 0u; goto b70; }
-b75:;
-  MEMSET(x68, 0u, 15);
-  { x65 = 1u; x66 = 0u; x67 = 0u; goto b70; }
+  os_rattle_dealloc(x55);
+  goto b86;
+b84:;
+  stp_8(x228, x218);
+  st64_8(ADD(x228, 8), x219);
+  st64_8(ADD(x228, 16), x220);
+  st64_8(x229, x199);
+  stp_8(ADD(x229, 8), x55);
+  st64_8(ADD(x229, 16), x57);
+  st64_8(ADD(x229, 24), x59);
+  f155(x1, x2, x110, x228, x229, x5);
+  goto b86;
+b86:;
+  MEMCPY(x68, x109, 16);
+  { x63 = 0u; x65 = 0u; x67 = 0u; goto b70; }
+b72:;
+  MEMSET(x68, 0u, 16);
+  { x63 = 1u; x65 = 0u; x67 = 0u; goto b70; }
 b70:;
-  st8_1(x0, x65);
-  st8_1(FAR(x0, 8), x66);
+  st8_1(x0, x63);
+  st8_1(FAR(x0, 8), x65);
   st8_1(FAR(x0, 9), x67);
-  st8_1(FAR(x0, 10), 0u);
-  MEMCPY(FAR(x0, 11), x68, 15);
+  MEMCPY(FAR(x0, 10), x68, 16);
   goto b14;
 }
 
-static u8 f225(Q x0, Q x1)
+static u8 f220(Q x0, Q x1)
 {
   u8 x2, x10;
   Q x3, x5, x8, x9, x11;
@@ -19568,7 +19603,7 @@ static u8 f225(Q x0, Q x1)
   MEMCPY(x4, x1, 16);
   x5 = ldp_8(FAR(x0, 32));
   x6 = ld64_8(FAR(x0, 40));
-  x7 = f102(x5, x6, x1);
+  x7 = f97(x5, x6, x1);
   if (((u8)((x7.f0) == 0u))) goto b0; else { x2 = 0u; goto b1; }
 b0:;
   x8 = FAR(x5, (u64)((u64)((u64)(x7.f1) * 72u)));
@@ -19582,13 +19617,13 @@ b2:;
   st8_1(FAR(x8, 49), 0u);
   st32_4(FAR(x8, 52), 0u);
   st64_8(x11, 0u);
-  f85(x3, 1u, x12, 0u, 0u, x4);
+  f80(x3, 1u, x12, 0u, 0u, x4);
   { x2 = 1u; goto b1; }
 b1:;
   return x2;
 }
 
-static void f226(Q x0, Q x1, Q x2, Q x3, Q x4, u8 x5, u8 x6, Q x7)
+static void f221(Q x0, Q x1, Q x2, Q x3, Q x4, u8 x5, u8 x6, Q x7)
 {
   u8 x8, x9;
   u32 x10;
@@ -19670,7 +19705,7 @@ static void f226(Q x0, Q x1, Q x2, Q x3, Q x4, u8 x5, u8 x6, Q x7)
   st64_8(x31, ((x5 ? UINT64_C(687194767496) : UINT64_C(137438953608)) | (x6 ? UINT64_C(274877906944) : 0u)));
   MEMCPY(ADD(x31, 8), x18, 16);
   st64_8(ADD(x31, 24), (((((u64)((u64)((u64)x8) << 16)) | ((u64)((u64)((u64)x9) << 24))) | ((u64)((u64)((u64)x10) << 32))) | 258u));
-  x32 = f121(x12, x11, x31, 32u);
+  x32 = f116(x12, x11, x31, 32u);
   x33 = bswap16(x32);
   st16_2(ADD(x31, 2), x33);
   MEMCPY(x26, x31, 32);
@@ -19688,18 +19723,18 @@ static void f226(Q x0, Q x1, Q x2, Q x3, Q x4, u8 x5, u8 x6, Q x7)
   st64_1(ADD(x17, 14), UINT64_C(18391047212692930656));
   MEMCPY(ADD(x17, 22), x15, 32);
   MEMCPY(ADD(x17, 54), x16, 32);
-  f124(x13, x19, x17);
+  f119(x13, x19, x17);
   MEMCPY(x0, x13, 24);
   return;
 }
 
-static void f227(Q x0, Q x1, u64 x2, Q x3, Q x4, Q x5)
+static void f222(Q x0, Q x1, u64 x2, Q x3, Q x4, Q x5)
 {
-  u8 x6, x7, x8, x10, x11, x12, x14, x19, x21, x23, x25, x31, x41, x9, x43, x45, x13, x20, x48, x51, x52, x53, x54, x24, x22, x58, x60, x71, x76, x84;
-  u64 x16, x18, x17, x15, x30, x55, x57, x62, x67, x69, x72, x75, x78, x79, x83, x86;
-  Q x28, x29, x42, x47, x56, x63, x64, x65, x66, x68, x73, x74, x77, x82, x87, x88;
+  u8 x6, x7, x8, x10, x11, x12, x14, x19, x21, x23, x25, x31, x41, x9, x43, x45, x13, x20, x48, x51, x52, x53, x54, x24, x22, x58, x60, x72, x77, x85;
+  u64 x16, x18, x17, x15, x30, x55, x57, x63, x68, x70, x73, x76, x79, x80, x84, x87;
+  Q x28, x29, x42, x47, x56, x62, x64, x65, x66, x67, x69, x74, x75, x78, x83, x88, x89;
   _Alignas(1) u8 y0_[33];
-  Q const x81 = Q_OF(y0_);
+  Q const x82 = Q_OF(y0_);
   Q const x59 = Q_OF(y0_);
   _Alignas(1) u8 y1_[32];
   Q const x61 = Q_OF(y1_);
@@ -19708,11 +19743,11 @@ static void f227(Q x0, Q x1, u64 x2, Q x3, Q x4, Q x5)
   _Alignas(1) u8 y3_[28];
   Q const x26 = Q_OF(y3_);
   _Alignas(1) u8 y4_[17];
-  Q const x85 = Q_OF(y4_);
+  Q const x86 = Q_OF(y4_);
   _Alignas(8) u8 y5_[16];
-  Q const x70 = Q_OF(y5_);
+  Q const x71 = Q_OF(y5_);
   _Alignas(8) u8 y6_[16];
-  Q const x80 = Q_OF(y6_);
+  Q const x81 = Q_OF(y6_);
   _Alignas(1) u8 y7_[16];
   Q const x50 = Q_OF(y7_);
   _Alignas(2) u8 y8_[16];
@@ -19767,7 +19802,7 @@ b2:;
   x41 = ld8_1(x28);
   switch (x41) { case 0u: goto b3; case 1u: goto b4; case 2u: goto b5; case 3u: goto b6; case 4u: goto b7; default: goto b8; }
 b3:;
-  f175(x36, x29, x30, x34);
+  f171(x36, x29, x30, x34);
   x9 = ld8_1(ADD(x36, 1));
   x42 = ADD(x36, 2);
   if (((u8)((x15 | x17) == 0u))) goto b9; else goto b10;
@@ -19793,7 +19828,7 @@ b14:;
   st16_1(ADD(x35, 26), 0u);
   { x23 = x8; x25 = 1u; goto b11; }
 b4:;
-  f175(x37, x29, x30, x34);
+  f171(x37, x29, x30, x34);
   x45 = ld8_1(x37);
   if (((u8)(x45 == 1u))) goto b15; else goto b16;
 b15:;
@@ -19813,7 +19848,7 @@ b17:;
   st16_1(ADD(x35, 26), 0u);
   { x23 = x12; x25 = 1u; goto b11; }
 b5:;
-  f175(x38, x29, x30, x34);
+  f171(x38, x29, x30, x34);
   x20 = ld8_1(ADD(x38, 1));
   x47 = ADD(x38, 2);
   if (((u8)((x15 | x17) == 0u))) goto b18; else goto b19;
@@ -19843,7 +19878,7 @@ b6:;
   x51 = ld8_1(FAR(x3, 33));
   x52 = ld8_1(FAR(x3, 34));
   x53 = ld8_1(FAR(x3, 35));
-  f177(x39, x29, x30, x34);
+  f173(x39, x29, x30, x34);
   x54 = ld8_1(x39);
   MEMCPY(ADD(x35, 2), x50, 16);
   st8_1(ADD(x35, 18), x51);
@@ -19853,8 +19888,8 @@ b6:;
   MEMCPY(ADD(x35, 22), ADD(x39, 1), 6);
   { x23 = 1u; x25 = 1u; goto b11; }
 b7:;
-  f177(x40, x29, x30, x34);
-  f178(x35, FAR(x3, 33), x40);
+  f173(x40, x29, x30, x34);
+  f174(x35, FAR(x3, 33), x40);
   x24 = ld8_1(x35);
   x22 = ld8_1(ADD(x35, 1));
   { x23 = x22; x25 = x24; goto b11; }
@@ -19865,12 +19900,12 @@ b11:;
   st8_1(ADD(x26, 1), x23);
   MEMCPY(ADD(x26, 2), ADD(x35, 2), 16);
   MEMCPY(ADD(x26, 18), ADD(x35, 18), 10);
-  x55 = ld64_8(FAR(x5, 16));
-  x56 = FAR(x5, 8);
+  x55 = ld64_8(FAR(x5, 40));
+  x56 = FAR(x5, 32);
   x57 = ld64_8(x56);
   if (((u8)(((u64)((u64)x55 - x57)) < 12u))) goto b23; else goto b24;
 b23:;
-  x58 = f83(x5, 12u);
+  x58 = f78(FAR(x5, 24), 12u);
   if (x58) goto b24; else goto b25;
 b24:;
   st64_8(FAR(x1, 64), x2);
@@ -19878,72 +19913,73 @@ b24:;
   MEMCPY(ADD(x59, 16), FAR(x3, 16), 16);
   x60 = ld8_1(x28);
   MEMCPY(x61, FAR(x3, 33), 32);
-  x62 = ld64_8(x56);
-  x63 = ldp_8(x5);
-  x64 = ADD(x63, (u64)((u64)((u64)x62 * 80u)));
-  st64_1(x64, x2);
-  st8_1(ADD(x64, 8), 1u);
-  MEMCPY(ADD(x64, 9), x59, 32);
-  st8_1(ADD(x64, 41), 0u);
-  st8_1(ADD(x64, 42), 0u);
-  st8_1(ADD(x64, 43), 0u);
-  st8_1(ADD(x64, 44), x60);
-  MEMCPY(ADD(x64, 45), x61, 32);
-  MEMSET(ADD(x64, 77), 0u, 3);
-  st64_8(x56, ((u64)((u64)x62 + 1u)));
-  x65 = FAR(x1, 696);
-  x66 = FAR(x4, 3);
-  x67 = ld64_1(x66);
-  x68 = FAR(x4, 11);
-  x69 = ld64_1(x68);
-  st64_8(x70, x67);
-  st64_8(ADD(x70, 8), x69);
-  x71 = f225(FAR(x1, 280), x70);
-  if (x71) goto b26; else goto b27;
+  x62 = FAR(x5, 24);
+  x63 = ld64_8(x56);
+  x64 = ldp_8(x62);
+  x65 = ADD(x64, (u64)((u64)((u64)x63 * 80u)));
+  st64_1(x65, x2);
+  st8_1(ADD(x65, 8), 1u);
+  MEMCPY(ADD(x65, 9), x59, 32);
+  st8_1(ADD(x65, 41), 0u);
+  st8_1(ADD(x65, 42), 0u);
+  st8_1(ADD(x65, 43), 0u);
+  st8_1(ADD(x65, 44), x60);
+  MEMCPY(ADD(x65, 45), x61, 32);
+  MEMSET(ADD(x65, 77), 0u, 3);
+  st64_8(x56, ((u64)((u64)x63 + 1u)));
+  x66 = FAR(x1, 696);
+  x67 = FAR(x4, 3);
+  x68 = ld64_1(x67);
+  x69 = FAR(x4, 11);
+  x70 = ld64_1(x69);
+  st64_8(x71, x68);
+  st64_8(ADD(x71, 8), x70);
+  x72 = f220(FAR(x1, 280), x71);
+  if (x72) goto b26; else goto b27;
 b26:;
-  f99(FAR(x1, 864));
-  x72 = ld64_8(x56);
-  x73 = ldp_8(x5);
-  x74 = ADD(x73, (u64)((u64)((u64)x72 * 80u)));
-  st64_1(x74, x2);
-  st8_1(ADD(x74, 8), 4u);
-  st64_1(ADD(x74, 9), x67);
-  st64_1(ADD(x74, 17), x69);
-  MEMSET(ADD(x74, 25), 0u, 55);
-  st64_8(x56, ((u64)((u64)x72 + 1u)));
+  f94(FAR(x1, 864));
+  x73 = ld64_8(x56);
+  x74 = ldp_8(x62);
+  x75 = ADD(x74, (u64)((u64)((u64)x73 * 80u)));
+  st64_1(x75, x2);
+  st8_1(ADD(x75, 8), 4u);
+  st64_1(ADD(x75, 9), x68);
+  st64_1(ADD(x75, 17), x70);
+  MEMSET(ADD(x75, 25), 0u, 55);
+  st64_8(x56, ((u64)((u64)x73 + 1u)));
   goto b28;
 b27:;
   goto b28;
 b28:;
-  x75 = ld64_8(FAR(x1, 88));
-  x76 = f185(FAR(x1, 448), x65, x2, x26, x75, x5);
-  x77 = FAR(x1, 112);
-  x78 = ld64_1(x66);
-  x79 = ld64_1(x68);
-  st64_8(x80, x78);
-  st64_8(ADD(x80, 8), x79);
-  MEMSET(ADD(x81, 16), 0u, 17);
-  if (x76) goto b29; else goto b30;
+  x76 = ld64_8(FAR(x1, 88));
+  x77 = f181(FAR(x1, 448), x66, x2, x26, x76, x5);
+  x78 = FAR(x1, 112);
+  x79 = ld64_1(x67);
+  x80 = ld64_1(x69);
+  st64_8(x81, x79);
+  st64_8(ADD(x81, 8), x80);
+  MEMSET(ADD(x82, 16), 0u, 17);
+  if (x77) goto b29; else goto b30;
 b29:;
-  x82 = ldp_8(x77);
-  x83 = ld64_8(FAR(x1, 120));
-  x84 = f196(x82, x83, x2, x80);
-  if (x84) goto b31; else goto b30;
+  x83 = ldp_8(x78);
+  x84 = ld64_8(FAR(x1, 120));
+  x85 = f192(x83, x84, x2, x81);
+  if (x85) goto b31; else goto b30;
 b31:;
-  f219(x77, x80);
-  st8_1(x85, 1u);
-  MEMCPY(ADD(x85, 1), x80, 16);
-  f98(x65, x85);
-  f99(FAR(x1, 864));
-  MEMCPY(x81, x80, 16);
-  x86 = ld64_8(x56);
-  x87 = ldp_8(x5);
-  x88 = ADD(x87, (u64)((u64)((u64)x86 * 80u)));
-  st64_1(x88, x2);
-  st8_1(ADD(x88, 8), 7u);
-  MEMCPY(ADD(x88, 9), x81, 33);
-  MEMSET(ADD(x88, 42), 0u, 38);
-  st64_8(x56, ((u64)((u64)x86 + 1u)));
+  f214(x78, x81);
+  st8_1(x86, 1u);
+  MEMCPY(ADD(x86, 1), x81, 16);
+  f93(x66, x86);
+  f94(FAR(x1, 864));
+  MEMCPY(x82, x81, 16);
+  x87 = ld64_8(x56);
+  x88 = ldp_8(x62);
+  x89 = ADD(x88, (u64)((u64)((u64)x87 * 80u)));
+  st64_1(x89, x2);
+  st8_1(ADD(x89, 8), 7u);
+  MEMCPY(ADD(x89, 9), x82, 33);
+  MEMSET(ADD(x89, 42), 0u, 38);
+  st64_8(x56, ((u64)((u64)x87 + 1u)));
   goto b30;
 b30:;
   st8_1(x0, 0u);
@@ -19959,461 +19995,451 @@ b25:;
   goto b32;
 }
 
-static void f228(Q x0, Q x1, u64 x2, Q x3, Q x4, Q x5)
+static void f223(Q x0, Q x1, u64 x2, Q x3, Q x4, Q x5)
 {
-  u8 x6, x7, x8, x10, x11, x12, x14, x19, x21, x23, x25, x26, x27, x28, x29, x48, x58, x9, x60, x62, x13, x20, x65, x68, x69, x70, x71, x24, x22, x75, x76, x79, x81, x82, x84, x89, x94, x115, x127, x140, x151, x157, x159, x161;
-  u64 x16, x18, x32, x35, x17, x15, x47, x85, x86, x88, x91, x92, x107, x108, x109, x31, x111, x113, x114, x30, x116, x119, x123, x125, x126, x33, x129, x133, x135, x34, x141, x153, x156, x162;
-  u32 x38, x128, x36, x132, x134, x37, x138;
-  Q x45, x46, x59, x64, x72, x73, x74, x77, x87, x90, x98, x99, x100, x101, x102, x103, x104, x105, x106, x110, x112, x117, x118, x121, x122, x130, x131, x136, x142, x143, x144, x145, x148, x154, x155, x163, x164;
-  u128 x93, x95, x120, x124, x137;
-  s_u8_Q x97;
-  s_u64_u64 x147;
-  _Alignas(8) u8 y0_[72];
-  Q const x83 = Q_OF(y0_);
-  Q const x150 = Q_OF(y0_);
+  u8 x6, x7, x8, x10, x11, x12, x14, x19, x21, x23, x25, x26, x45, x55, x9, x57, x59, x13, x20, x62, x65, x66, x67, x68, x24, x22, x72, x73, x76, x78, x79, x80, x81, x82, x87, x92, x113, x125, x138, x149, x156, x158, x160;
+  u64 x16, x18, x29, x32, x17, x15, x44, x83, x84, x86, x89, x90, x105, x106, x107, x28, x109, x111, x112, x27, x114, x117, x121, x123, x124, x30, x127, x131, x133, x31, x139, x152, x155, x161;
+  u32 x35, x126, x33, x130, x132, x34, x136;
+  Q x42, x43, x56, x61, x69, x70, x71, x74, x85, x88, x96, x97, x98, x99, x100, x101, x102, x103, x104, x108, x110, x115, x116, x119, x120, x128, x129, x134, x140, x141, x142, x143, x146, x151, x153, x154, x162, x163;
+  u128 x91, x93, x118, x122, x135;
+  s_u8_Q x95;
+  s_u64_u64 x145;
+  _Alignas(1) u8 y0_[32];
+  Q const x148 = Q_OF(y0_);
   _Alignas(1) u8 y1_[32];
-  Q const x152 = Q_OF(y1_);
-  _Alignas(1) u8 y2_[28];
-  Q const x158 = Q_OF(y2_);
+  Q const x150 = Q_OF(y1_);
+  _Alignas(8) u8 y2_[32];
+  Q const x36 = Q_OF(y2_);
   _Alignas(1) u8 y3_[28];
-  Q const x52 = Q_OF(y3_);
+  Q const x157 = Q_OF(y3_);
   _Alignas(1) u8 y4_[28];
-  Q const x40 = Q_OF(y4_);
+  Q const x49 = Q_OF(y4_);
   _Alignas(1) u8 y5_[28];
-  Q const x41 = Q_OF(y5_);
-  _Alignas(1) u8 y6_[27];
-  Q const x78 = Q_OF(y6_);
+  Q const x37 = Q_OF(y5_);
+  _Alignas(1) u8 y6_[28];
+  Q const x38 = Q_OF(y6_);
   _Alignas(1) u8 y7_[27];
-  Q const x80 = Q_OF(y7_);
-  _Alignas(8) u8 y8_[24];
-  Q const x139 = Q_OF(y8_);
-  _Alignas(1) u8 y9_[17];
-  Q const x146 = Q_OF(y9_);
+  Q const x75 = Q_OF(y7_);
+  _Alignas(1) u8 y8_[27];
+  Q const x77 = Q_OF(y8_);
+  _Alignas(8) u8 y9_[24];
+  Q const x137 = Q_OF(y9_);
   _Alignas(1) u8 y10_[17];
-  Q const x149 = Q_OF(y10_);
+  Q const x144 = Q_OF(y10_);
   _Alignas(1) u8 y11_[17];
-  Q const x160 = Q_OF(y11_);
+  Q const x147 = Q_OF(y11_);
   _Alignas(1) u8 y12_[17];
-  Q const x42 = Q_OF(y12_);
-  _Alignas(16) u8 y13_[16];
-  Q const x96 = Q_OF(y13_);
-  _Alignas(1) u8 y14_[16];
-  Q const x67 = Q_OF(y14_);
-  _Alignas(1) u8 y15_[15];
-  Q const x39 = Q_OF(y15_);
-  _Alignas(1) u8 y16_[15];
-  Q const x43 = Q_OF(y16_);
-  _Alignas(1) u8 y17_[15];
-  Q const x44 = Q_OF(y17_);
+  Q const x159 = Q_OF(y12_);
+  _Alignas(1) u8 y13_[17];
+  Q const x39 = Q_OF(y13_);
+  _Alignas(1) u8 y14_[17];
+  Q const x40 = Q_OF(y14_);
+  _Alignas(16) u8 y15_[16];
+  Q const x94 = Q_OF(y15_);
+  _Alignas(1) u8 y16_[16];
+  Q const x64 = Q_OF(y16_);
+  _Alignas(2) u8 y17_[16];
+  Q const x41 = Q_OF(y17_);
   _Alignas(1) u8 y18_[7];
-  Q const x51 = Q_OF(y18_);
+  Q const x48 = Q_OF(y18_);
   _Alignas(1) u8 y19_[7];
-  Q const x53 = Q_OF(y19_);
+  Q const x50 = Q_OF(y19_);
   _Alignas(1) u8 y20_[7];
-  Q const x54 = Q_OF(y20_);
+  Q const x51 = Q_OF(y20_);
   _Alignas(1) u8 y21_[7];
-  Q const x55 = Q_OF(y21_);
+  Q const x52 = Q_OF(y21_);
   _Alignas(1) u8 y22_[7];
-  Q const x56 = Q_OF(y22_);
+  Q const x53 = Q_OF(y22_);
   _Alignas(1) u8 y23_[7];
-  Q const x57 = Q_OF(y23_);
+  Q const x54 = Q_OF(y23_);
   _Alignas(1) u8 y24_[6];
-  Q const x49 = Q_OF(y24_);
+  Q const x46 = Q_OF(y24_);
   _Alignas(1) u8 y25_[6];
-  Q const x50 = Q_OF(y25_);
+  Q const x47 = Q_OF(y25_);
   _Alignas(1) u8 y26_[5];
-  Q const x66 = Q_OF(y26_);
+  Q const x63 = Q_OF(y26_);
   _Alignas(1) u8 y27_[5];
-  Q const x63 = Q_OF(y27_);
+  Q const x60 = Q_OF(y27_);
   _Alignas(1) u8 y28_[5];
-  Q const x61 = Q_OF(y28_);
-  MEMSET(x39, 0u, 15);
-  MEMSET(x40, 0u, 28);
-  MEMSET(x41, 0u, 28);
-  MEMSET(x42, 0u, 17);
-  MEMSET(x43, 0u, 15);
-  MEMSET(x44, 0u, 15);
+  Q const x58 = Q_OF(y28_);
+  MEMSET(x36, 0u, 32);
+  MEMSET(x37, 0u, 28);
+  MEMSET(x38, 0u, 28);
+  MEMSET(x39, 0u, 17);
+  MEMSET(x40, 0u, 17);
+  MEMSET(x41, 0u, 16);
   x17 = ld64_1(x3);
   x15 = ld64_1(ADD(x3, 8));
-  x45 = FAR(x3, 32);
-  x46 = ldp_1(FAR(x3, 72));
-  x47 = ld64_1(FAR(x3, 80));
-  x48 = ld8_1(FAR(x1, 33));
-  if (((u8)((x48) & 1u))) goto b0; else goto b1;
+  x42 = FAR(x3, 32);
+  x43 = ldp_1(FAR(x3, 72));
+  x44 = ld64_1(FAR(x3, 80));
+  x45 = ld8_1(FAR(x1, 33));
+  if (((u8)((x45) & 1u))) goto b0; else goto b1;
 b0:;
-  MEMCPY(x49, FAR(x1, 1), 6);
+  MEMCPY(x46, FAR(x1, 1), 6);
   { x6 = 1u; goto b2; }
 b1:;
-  MEMSET(x49, 0u, 6);
+  MEMSET(x46, 0u, 6);
   { x6 = 0u; goto b2; }
 b2:;
-  MEMCPY(x50, x49, 6);
-  st8_1(x51, x6);
-  MEMCPY(ADD(x51, 1), x50, 6);
-  MEMSET(x52, 0u, 28);
+  MEMCPY(x47, x46, 6);
+  st8_1(x48, x6);
+  MEMCPY(ADD(x48, 1), x47, 6);
+  MEMSET(x49, 0u, 28);
+  MEMSET(x50, 0u, 7);
+  MEMSET(x51, 0u, 7);
+  MEMSET(x52, 0u, 7);
   MEMSET(x53, 0u, 7);
   MEMSET(x54, 0u, 7);
-  MEMSET(x55, 0u, 7);
-  MEMSET(x56, 0u, 7);
-  MEMSET(x57, 0u, 7);
-  x58 = ld8_1(x45);
-  switch (x58) { case 0u: goto b3; case 1u: goto b4; case 2u: goto b5; case 3u: goto b6; case 4u: goto b7; default: goto b8; }
+  x55 = ld8_1(x42);
+  switch (x55) { case 0u: goto b3; case 1u: goto b4; case 2u: goto b5; case 3u: goto b6; case 4u: goto b7; default: goto b8; }
 b3:;
-  f175(x53, x46, x47, x51);
-  x9 = ld8_1(ADD(x53, 1));
-  x59 = ADD(x53, 2);
+  f171(x50, x43, x44, x48);
+  x9 = ld8_1(ADD(x50, 1));
+  x56 = ADD(x50, 2);
   if (((u8)((x15 | x17) == 0u))) goto b9; else goto b10;
 b9:;
-  MEMSET(x52, 0u, 28);
+  MEMSET(x49, 0u, 28);
   { x23 = 0u; x25 = 0u; goto b11; }
 b10:;
-  x60 = ld8_1(x53);
-  if (((u8)(x60 == 1u))) goto b12; else goto b13;
+  x57 = ld8_1(x50);
+  if (((u8)(x57 == 1u))) goto b12; else goto b13;
 b12:;
-  MEMCPY(x61, x59, 5);
+  MEMCPY(x58, x56, 5);
   { x7 = 1u; x8 = 0u; x10 = x9; goto b14; }
 b13:;
-  MEMSET(x61, 0u, 5);
+  MEMSET(x58, 0u, 5);
   { x7 = 0u; x8 = 2u; x10 = 0u; goto b14; }
 b14:;
-  MEMCPY(ADD(x52, 19), x61, 5);
-  st8_1(x52, 1u);
-  st8_1(ADD(x52, 1), x8);
-  st64_1(ADD(x52, 2), x17);
-  st64_1(ADD(x52, 10), x15);
-  st8_1(ADD(x52, 18), x10);
-  st8_1(ADD(x52, 24), x7);
-  st8_1(ADD(x52, 25), 0u);
-  st16_1(ADD(x52, 26), 0u);
+  MEMCPY(ADD(x49, 19), x58, 5);
+  st8_1(x49, 1u);
+  st8_1(ADD(x49, 1), x8);
+  st64_1(ADD(x49, 2), x17);
+  st64_1(ADD(x49, 10), x15);
+  st8_1(ADD(x49, 18), x10);
+  st8_1(ADD(x49, 24), x7);
+  st8_1(ADD(x49, 25), 0u);
+  st16_1(ADD(x49, 26), 0u);
   { x23 = x8; x25 = 1u; goto b11; }
 b4:;
-  f175(x54, x46, x47, x51);
-  x62 = ld8_1(x54);
-  if (((u8)(x62 == 1u))) goto b15; else goto b16;
+  f171(x51, x43, x44, x48);
+  x59 = ld8_1(x51);
+  if (((u8)(x59 == 1u))) goto b15; else goto b16;
 b15:;
-  x13 = ld8_1(ADD(x54, 1));
-  MEMCPY(x63, ADD(x54, 2), 5);
+  x13 = ld8_1(ADD(x51, 1));
+  MEMCPY(x60, ADD(x51, 2), 5);
   { x11 = 1u; x12 = 0u; x14 = x13; goto b17; }
 b16:;
-  MEMSET(x63, 0u, 5);
+  MEMSET(x60, 0u, 5);
   { x11 = 0u; x12 = 2u; x14 = 1u; goto b17; }
 b17:;
-  st8_1(x52, 1u);
-  st8_1(ADD(x52, 1), x12);
-  st64_1(ADD(x52, 2), x17);
-  st64_1(ADD(x52, 10), x15);
-  st8_1(ADD(x52, 18), x14);
-  MEMCPY(ADD(x52, 19), x63, 5);
-  st8_1(ADD(x52, 24), x11);
-  st8_1(ADD(x52, 25), x11);
-  st16_1(ADD(x52, 26), 0u);
+  st8_1(x49, 1u);
+  st8_1(ADD(x49, 1), x12);
+  st64_1(ADD(x49, 2), x17);
+  st64_1(ADD(x49, 10), x15);
+  st8_1(ADD(x49, 18), x14);
+  MEMCPY(ADD(x49, 19), x60, 5);
+  st8_1(ADD(x49, 24), x11);
+  st8_1(ADD(x49, 25), x11);
+  st16_1(ADD(x49, 26), 0u);
   { x23 = x12; x25 = 1u; goto b11; }
 b5:;
-  f175(x55, x46, x47, x51);
-  x20 = ld8_1(ADD(x55, 1));
-  x64 = ADD(x55, 2);
+  f171(x52, x43, x44, x48);
+  x20 = ld8_1(ADD(x52, 1));
+  x61 = ADD(x52, 2);
   if (((u8)((x15 | x17) == 0u))) goto b18; else goto b19;
 b18:;
-  MEMSET(x52, 0u, 28);
+  MEMSET(x49, 0u, 28);
   { x23 = 0u; x25 = 0u; goto b11; }
 b19:;
-  x65 = ld8_1(x55);
-  if (((u8)(x65 == 1u))) goto b20; else goto b21;
+  x62 = ld8_1(x52);
+  if (((u8)(x62 == 1u))) goto b20; else goto b21;
 b20:;
-  MEMCPY(x66, x64, 5);
+  MEMCPY(x63, x61, 5);
   { x16 = x15; x18 = x17; x19 = 1u; x21 = x20; goto b22; }
 b21:;
-  MEMSET(x66, 0u, 5);
+  MEMSET(x63, 0u, 5);
   { x16 = 0u; x18 = 0u; x19 = 0u; x21 = 0u; goto b22; }
 b22:;
-  MEMCPY(ADD(x52, 19), x66, 5);
-  st8_1(x52, x19);
-  st8_1(ADD(x52, 1), 0u);
-  st64_1(ADD(x52, 2), x18);
-  st64_1(ADD(x52, 10), x16);
-  st8_1(ADD(x52, 18), x21);
-  st8_1(ADD(x52, 24), 0u);
-  st8_1(ADD(x52, 25), 0u);
-  st16_1(ADD(x52, 26), 0u);
+  MEMCPY(ADD(x49, 19), x63, 5);
+  st8_1(x49, x19);
+  st8_1(ADD(x49, 1), 0u);
+  st64_1(ADD(x49, 2), x18);
+  st64_1(ADD(x49, 10), x16);
+  st8_1(ADD(x49, 18), x21);
+  st8_1(ADD(x49, 24), 0u);
+  st8_1(ADD(x49, 25), 0u);
+  st16_1(ADD(x49, 26), 0u);
   { x23 = 0u; x25 = x19; goto b11; }
 b6:;
-  MEMCPY(x67, FAR(x3, 36), 16);
-  x68 = ld8_1(FAR(x3, 33));
-  x69 = ld8_1(FAR(x3, 34));
-  x70 = ld8_1(FAR(x3, 35));
-  f177(x56, x46, x47, x51);
-  x71 = ld8_1(x56);
-  st8_1(x52, 1u);
-  st8_1(ADD(x52, 1), 1u);
-  MEMCPY(ADD(x52, 2), x67, 16);
-  st8_1(ADD(x52, 18), x68);
-  st8_1(ADD(x52, 19), x69);
-  st8_1(ADD(x52, 20), x70);
-  st8_1(ADD(x52, 21), x71);
-  MEMCPY(ADD(x52, 22), ADD(x56, 1), 6);
+  MEMCPY(x64, FAR(x3, 36), 16);
+  x65 = ld8_1(FAR(x3, 33));
+  x66 = ld8_1(FAR(x3, 34));
+  x67 = ld8_1(FAR(x3, 35));
+  f173(x53, x43, x44, x48);
+  x68 = ld8_1(x53);
+  st8_1(x49, 1u);
+  st8_1(ADD(x49, 1), 1u);
+  MEMCPY(ADD(x49, 2), x64, 16);
+  st8_1(ADD(x49, 18), x65);
+  st8_1(ADD(x49, 19), x66);
+  st8_1(ADD(x49, 20), x67);
+  st8_1(ADD(x49, 21), x68);
+  MEMCPY(ADD(x49, 22), ADD(x53, 1), 6);
   { x23 = 1u; x25 = 1u; goto b11; }
 b7:;
-  f177(x57, x46, x47, x51);
-  f178(x52, FAR(x3, 33), x57);
-  x24 = ld8_1(x52);
-  x22 = ld8_1(ADD(x52, 1));
+  f173(x54, x43, x44, x48);
+  f174(x49, FAR(x3, 33), x54);
+  x24 = ld8_1(x49);
+  x22 = ld8_1(ADD(x49, 1));
   { x23 = x22; x25 = x24; goto b11; }
 b8:;
   UNREACHABLE();
 b11:;
-  st8_1(x40, x25);
-  st8_1(ADD(x40, 1), x23);
-  x72 = ADD(x40, 2);
-  MEMCPY(x72, ADD(x52, 2), 16);
-  x73 = ADD(x40, 18);
-  MEMCPY(x73, ADD(x52, 18), 10);
-  x74 = FAR(x1, 30);
-  x75 = ld8_1(FAR(x1, 31));
-  x76 = (u8)((x75) & 1u);
-  x77 = FAR(x1, 448);
+  st8_1(x37, x25);
+  st8_1(ADD(x37, 1), x23);
+  x69 = ADD(x37, 2);
+  MEMCPY(x69, ADD(x49, 2), 16);
+  x70 = ADD(x37, 18);
+  MEMCPY(x70, ADD(x49, 18), 10);
+  x71 = FAR(x1, 30);
+  x72 = ld8_1(FAR(x1, 31));
+  x73 = (u8)((x72) & 1u);
+  x74 = FAR(x1, 448);
   if (((u8)(x25 == 1u))) goto b23; else goto b24;
 b24:;
-  { x29 = 1u; goto b25; }
+  { x26 = 1u; goto b25; }
 b23:;
-  st8_1(x78, x23);
-  MEMCPY(ADD(x78, 1), x72, 16);
-  MEMCPY(ADD(x78, 17), x73, 10);
-  if (x76) goto b26; else goto b27;
+  st8_1(x75, x23);
+  MEMCPY(ADD(x75, 1), x69, 16);
+  MEMCPY(ADD(x75, 17), x70, 10);
+  if (x73) goto b26; else goto b27;
 b26:;
-  x79 = f179(x77, x2, x78);
-  if (x79) { x29 = 1u; goto b25; } else goto b28;
+  x76 = f175(x74, x2, x75);
+  if (x76) { x26 = 1u; goto b25; } else goto b28;
 b27:;
-  st8_1(x80, x23);
-  MEMCPY(ADD(x80, 1), x72, 16);
-  MEMCPY(ADD(x80, 17), x73, 10);
-  x81 = f181(x77, x2, x80);
-  if (x81) { x29 = 1u; goto b25; } else goto b28;
+  st8_1(x77, x23);
+  MEMCPY(ADD(x77, 1), x69, 16);
+  MEMCPY(ADD(x77, 17), x70, 10);
+  x78 = f177(x74, x2, x77);
+  if (x78) { x26 = 1u; goto b25; } else goto b28;
 b28:;
-  x82 = ld8_1(x74);
-  if (((u8)((x82) & 1u))) { x29 = 0u; goto b25; } else goto b29;
-b33:;
+  x79 = ld8_1(x71);
+  if (((u8)((x79) & 1u))) { x26 = 0u; goto b25; } else goto b29;
+b30:;
   return;
 b29:;
-  MEMSET(ADD(x83, 16), 0u, 56);
-  st8_1(x83, 13u);
-  st8_1(ADD(x83, 1), 5u);
-  st8_1(ADD(x83, 2), 0u);
-  MEMCPY(ADD(x83, 3), x43, 15);
-  x84 = f248(x1, x2, x83, x5);
-  if (((u8)((x84) & 1u))) goto b30; else goto b31;
-b31:;
-  MEMCPY(x39, x43, 15);
-  { x26 = 0u; x27 = 2u; x28 = 5u; goto b32; }
-b30:;
-  MEMSET(x39, 0u, 15);
-  { x26 = 1u; x27 = 0u; x28 = 0u; goto b32; }
-b32:;
-  st8_1(x0, x26);
-  st8_1(FAR(x0, 8), x27);
-  st8_1(FAR(x0, 9), x28);
-  st8_1(FAR(x0, 10), 0u);
-  MEMCPY(FAR(x0, 11), x39, 15);
-  goto b33;
+  st8_1(x40, 5u);
+  st8_1(ADD(x40, 1), 0u);
+  f149(x36, x1, x2, x40, x5);
+  x80 = ld8_1(x36);
+  st8_1(x0, x80);
+  x81 = ld8_1(ADD(x36, 8));
+  st8_1(FAR(x0, 8), x81);
+  x82 = ld8_1(ADD(x36, 9));
+  st8_1(FAR(x0, 9), x82);
+  MEMCPY(FAR(x0, 10), ADD(x36, 10), 16);
+  goto b30;
 b25:;
-  f182(x41, x40, x29);
-  x85 = (x76 ? 21u : 12u);
-  x86 = ld64_8(FAR(x5, 16));
-  x87 = FAR(x5, 8);
-  x88 = ld64_8(x87);
-  if (((u8)(x85 > ((u64)((u64)x86 - x88))))) goto b34; else goto b35;
+  f178(x38, x37, x26);
+  x83 = (x73 ? 21u : 12u);
+  x84 = ld64_8(FAR(x5, 40));
+  x85 = FAR(x5, 32);
+  x86 = ld64_8(x85);
+  if (((u8)(x83 > ((u64)((u64)x84 - x86))))) goto b31; else goto b32;
+b31:;
+  x87 = f78(FAR(x5, 24), x83);
+  if (x87) goto b32; else goto b33;
+b32:;
+  x88 = FAR(x1, 696);
+  x89 = ld64_1(FAR(x4, 16));
+  x90 = ld64_1(FAR(x4, 24));
+  x91 = u128_and(u128_of(ldn(ADD(x4, 8), 7), ldn(x4, 8)), u128_of(UINT64_C(72057594037927935), UINT64_C(18446744073709551615)));
+  x92 = ld8_1(ADD(x4, 15));
+  x93 = bswap128(u128_or(u128_shl(u128_of(0, x90), (unsigned)u128_low(u128_of(0u, 64u)) & 127u), u128_of(0, x89)));
+  st128_8(x94, x93);
+  x95 = f232(x88, x94);
+  if (((u8)((x95.f0) == 1u))) goto b34; else goto b35;
 b34:;
-  x89 = f83(x5, x85);
-  if (x89) goto b35; else goto b36;
+  x96 = x95.f1;
+  st8_1(FAR(x96, 32), 1u);
+  stn(FAR(x96, 33), u128_low(x91), 8); stn(ADD(FAR(x96, 33), 8), u128_high(x91), 7);
+  st8_1(FAR(x96, 48), x92);
+  x97 = FAR(x96, 8);
+  x98 = ldp_8(x97);
+  x99 = ldp_8(x96);
+  stp_8(FAR(x99, 8), x98);
+  x100 = ldp_8(x96);
+  stp_8(x98, x100);
+  x101 = ldp_1(FAR(x1, 840));
+  x102 = FAR(x101, 8);
+  x103 = ldp_8(x102);
+  stp_8(x97, x103);
+  stp_8(x96, x101);
+  stp_8(x102, x96);
+  x104 = ldp_8(x97);
+  stp_8(x104, x96);
+  goto b36;
 b35:;
-  x90 = FAR(x1, 696);
-  x91 = ld64_1(FAR(x4, 16));
-  x92 = ld64_1(FAR(x4, 24));
-  x93 = u128_and(u128_of(ldn(ADD(x4, 8), 7), ldn(x4, 8)), u128_of(UINT64_C(72057594037927935), UINT64_C(18446744073709551615)));
-  x94 = ld8_1(ADD(x4, 15));
-  x95 = bswap128(u128_or(u128_shl(u128_of(0, x92), (unsigned)u128_low(u128_of(0u, 64u)) & 127u), u128_of(0, x91)));
-  st128_8(x96, x95);
-  x97 = f237(x90, x96);
-  if (((u8)((x97.f0) == 1u))) goto b37; else goto b38;
+  x105 = ld64_8(FAR(x1, 712));
+  x106 = ld64_8(FAR(x1, 744));
+  x107 = umin64(x106, x105);
+  x108 = FAR(x1, 704);
+  x28 = ld64_8(x108);
+  x109 = usub_sat64(x107, x28);
+  x110 = FAR(x1, 824);
+  x111 = ld64_8(x110);
+  x112 = umin64(x109, x111);
+  if (((u8)(x112 == 0u))) goto b37; else { x29 = x28; goto b38; }
 b37:;
-  x98 = x97.f1;
-  st8_1(FAR(x98, 32), 1u);
-  stn(FAR(x98, 33), u128_low(x93), 8); stn(ADD(FAR(x98, 33), 8), u128_high(x93), 7);
-  st8_1(FAR(x98, 48), x94);
-  x99 = FAR(x98, 8);
-  x100 = ldp_8(x99);
-  x101 = ldp_8(x98);
-  stp_8(FAR(x101, 8), x100);
-  x102 = ldp_8(x98);
-  stp_8(x100, x102);
-  x103 = ldp_1(FAR(x1, 840));
-  x104 = FAR(x103, 8);
-  x105 = ldp_8(x104);
-  stp_8(x99, x105);
-  stp_8(x98, x103);
-  stp_8(x104, x98);
-  x106 = ldp_8(x99);
-  stp_8(x106, x98);
-  goto b39;
-b38:;
-  x107 = ld64_8(FAR(x1, 712));
-  x108 = ld64_8(FAR(x1, 744));
-  x109 = umin64(x108, x107);
-  x110 = FAR(x1, 704);
-  x31 = ld64_8(x110);
-  x111 = usub_sat64(x109, x31);
-  x112 = FAR(x1, 824);
-  x113 = ld64_8(x112);
-  x114 = umin64(x111, x113);
-  if (((u8)(x114 == 0u))) goto b40; else { x32 = x31; goto b41; }
+  x113 = f224(x88);
+  if (((u8)((x113) & 1u))) goto b39; else goto b40;
 b40:;
-  x115 = f229(x90);
-  if (((u8)((x115) & 1u))) goto b42; else goto b43;
-b43:;
-  x30 = ld64_8(x110);
-  { x32 = x30; goto b41; }
+  x27 = ld64_8(x108);
+  { x29 = x27; goto b38; }
+b39:;
+  goto b41;
+b38:;
+  x114 = ld64_1(FAR(x1, 856));
+  if (((u8)(x29 == x114))) goto b42; else goto b43;
 b42:;
-  goto b44;
-b41:;
-  x116 = ld64_1(FAR(x1, 856));
-  if (((u8)(x32 == x116))) goto b45; else goto b46;
+  x115 = ldp_1(FAR(x1, 848));
+  x116 = ldp_8(x115);
+  x117 = ld64_1(FAR(x1, 832));
+  x118 = ld128_8(FAR(x116, 16));
+  x119 = ldp_8(x88);
+  x120 = ldp_8(FAR(x1, 760));
+  x121 = ld64_8(FAR(x1, 768));
+  if (((u8)(x121 == 0u))) goto b44; else goto b45;
 b45:;
-  x117 = ldp_1(FAR(x1, 848));
-  x118 = ldp_8(x117);
-  x119 = ld64_1(FAR(x1, 832));
-  x120 = ld128_8(FAR(x118, 16));
-  x121 = ldp_8(x90);
-  x122 = ldp_8(FAR(x1, 760));
-  x123 = ld64_8(FAR(x1, 768));
-  if (((u8)(x123 == 0u))) goto b47; else goto b48;
+  x122 = u128_mul(u128_of(0, (((u64)(u128_low(u128_lshr(x118, (unsigned)u128_low(u128_of(0u, 64u)) & 127u)))) ^ UINT64_C(11400714819323198485))), u128_of(0, (((u64)((u64)x117 + 16u)) ^ ((u64)(u128_low(x118))))));
+  x123 = (u64)(u128_low(u128_xor(u128_lshr(x122, (unsigned)u128_low(u128_of(0u, 64u)) & 127u), x122)));
+  x124 = (((u64)((u64)x123 >> 32)) ^ x123);
+  x125 = umax8(((u8)(((u64)((u64)x124 >> 24)))), 1u);
+  x30 = ((((u64)((u64)x121 + 4294967295u)) & 4294967295u) & x124);
+  x126 = (u32)((u32)1u << (((u32)((u8)(x125 & 31u))) & 31u));
+  x127 = (u64)((u64)x121 + UINT64_C(18446744073709551615));
+  { x32 = x30; goto b46; }
+b46:;
+  x128 = FAR(x120, (u64)((u64)((u64)x32 << 6)));
+  x33 = f49(x128, x125);
+  if (((u8)(x33 == 0u))) goto b47; else goto b48;
 b48:;
-  x124 = u128_mul(u128_of(0, (((u64)(u128_low(u128_lshr(x120, (unsigned)u128_low(u128_of(0u, 64u)) & 127u)))) ^ UINT64_C(11400714819323198485))), u128_of(0, (((u64)((u64)x119 + 16u)) ^ ((u64)(u128_low(x120))))));
-  x125 = (u64)(u128_low(u128_xor(u128_lshr(x124, (unsigned)u128_low(u128_of(0u, 64u)) & 127u), x124)));
-  x126 = (((u64)((u64)x125 >> 32)) ^ x125);
-  x127 = umax8(((u8)(((u64)((u64)x126 >> 24)))), 1u);
-  x33 = ((((u64)((u64)x123 + 4294967295u)) & 4294967295u) & x126);
-  x128 = (u32)((u32)1u << (((u32)((u8)(x127 & 31u))) & 31u));
-  x129 = (u64)((u64)x123 + UINT64_C(18446744073709551615));
+  x129 = FAR(x128, 16);
   { x35 = x33; goto b49; }
 b49:;
-  x130 = FAR(x122, (u64)((u64)((u64)x35 << 6)));
-  x36 = f52(x130, x127);
-  if (((u8)(x36 == 0u))) goto b50; else goto b51;
-b51:;
-  x131 = FAR(x130, 16);
-  { x38 = x36; goto b52; }
-b52:;
-  x132 = cttz32(x38);
+  x130 = cttz32(x35);
+  x131 = (u64)x130;
+  x132 = ld32_4(ADD(x129, (u64)((u64)((u64)x131 << 2))));
   x133 = (u64)x132;
-  x134 = ld32_4(ADD(x131, (u64)((u64)((u64)x133 << 2))));
-  x135 = (u64)x134;
-  x136 = ldp_8(FAR(x121, (u64)((u64)((u64)x135 << 3))));
-  x137 = ld128_8(x136);
-  if (((u8)u128_eq(x120, x137))) goto b53; else goto b54;
-b54:;
-  x37 = (((u32)((u32)x38 + 4294967295u)) & x38);
-  if (((u8)(x37 == 0u))) goto b50; else { x38 = x37; goto b52; }
-b50:;
-  x138 = ld32_1(ADD(x130, 12));
-  if (((u8)((x138 & x128) == 0u))) goto b47; else goto b55;
-b55:;
-  x34 = (((u64)((u64)x35 + 1u)) & x129);
-  if (((u8)(x34 == x33))) goto b47; else { x35 = x34; goto b49; }
+  x134 = ldp_8(FAR(x119, (u64)((u64)((u64)x133 << 3))));
+  x135 = ld128_8(x134);
+  if (((u8)u128_eq(x118, x135))) goto b50; else goto b51;
+b51:;
+  x34 = (((u32)((u32)x35 + 4294967295u)) & x35);
+  if (((u8)(x34 == 0u))) goto b47; else { x35 = x34; goto b49; }
 b47:;
+  x136 = ld32_1(ADD(x128, 12));
+  if (((u8)((x136 & x126) == 0u))) goto b44; else goto b52;
+b52:;
+  x31 = (((u64)((u64)x32 + 1u)) & x127);
+  if (((u8)(x31 == x30))) goto b44; else { x32 = x31; goto b46; }
+b44:;
   TRAP();
   UNREACHABLE();
+b50:;
+  st64_8(x137, x32);
+  st64_8(ADD(x137, 8), x131);
+  st64_8(ADD(x137, 16), x133);
+  x138 = f3(x120, FAR(x1, 792), x137);
+  x139 = ld64_8(x110);
+  st64_8(x110, ((u64)((u64)x139 + ((u64)((u8)(x138 ^ 1u))))));
+  x140 = f74(x88, x133);
+  x141 = ldp_8(FAR(x140, 8));
+  x142 = ldp_8(x140);
+  stp_8(FAR(x142, 8), x141);
+  x143 = ldp_8(x140);
+  stp_8(x141, x143);
+  st8_1(x144, 1u);
+  stn(ADD(x144, 1), u128_low(x91), 8); stn(ADD(ADD(x144, 1), 8), u128_high(x91), 7);
+  st8_1(ADD(x144, 16), x92);
+  f228(x88, x93, x144, x140, x140);
+  goto b36;
+b43:;
+  x145 = os_rattle_alloc(64u, 16u);
+  if (((u8)(((x145.f0)) & 1u))) goto b53; else goto b54;
 b53:;
-  st64_8(x139, x35);
-  st64_8(ADD(x139, 8), x133);
-  st64_8(ADD(x139, 16), x135);
-  x140 = f3(x122, FAR(x1, 792), x139);
-  x141 = ld64_8(x112);
-  st64_8(x112, ((u64)((u64)x141 + ((u64)((u8)(x140 ^ 1u))))));
-  x142 = f77(x90, x135);
-  x143 = ldp_8(FAR(x142, 8));
-  x144 = ldp_8(x142);
-  stp_8(FAR(x144, 8), x143);
-  x145 = ldp_8(x142);
-  stp_8(x143, x145);
-  st8_1(x146, 1u);
-  stn(ADD(x146, 1), u128_low(x93), 8); stn(ADD(ADD(x146, 1), 8), u128_high(x93), 7);
-  st8_1(ADD(x146, 16), x94);
-  f233(x90, x95, x146, x142, x142);
-  goto b39;
-b46:;
-  x147 = os_rattle_alloc(64u, 16u);
-  if (((u8)(((x147.f0)) & 1u))) goto b56; else goto b57;
-b56:;
-  x148 = (Q)(u64)(x147.f1);
-  st8_1(x149, 1u);
-  stn(ADD(x149, 1), u128_low(x93), 8); stn(ADD(ADD(x149, 1), 8), u128_high(x93), 7);
-  st8_1(ADD(x149, 16), x94);
-  f233(x90, x95, x149, x148, x148);
-  goto b58;
-b57:;
-  goto b44;
-b39:;
-  goto b58;
+  x146 = (Q)(u64)(x145.f1);
+  st8_1(x147, 1u);
+  stn(ADD(x147, 1), u128_low(x91), 8); stn(ADD(ADD(x147, 1), 8), u128_high(x91), 7);
+  st8_1(ADD(x147, 16), x92);
+  f228(x88, x93, x147, x146, x146);
+  goto b55;
+b54:;
+  goto b41;
 b36:;
+  goto b55;
+b33:;
   st8_1(x0, 1u);
   MEMSET(FAR(x0, 8), 0u, 18);
-  goto b33;
-b58:;
-  f99(FAR(x1, 864));
+  goto b30;
+b55:;
+  f94(FAR(x1, 864));
   st64_8(FAR(x1, 64), x2);
-  MEMCPY(x150, x3, 16);
-  MEMCPY(ADD(x150, 16), FAR(x3, 16), 16);
-  x151 = ld8_1(x45);
-  MEMCPY(x152, FAR(x3, 33), 32);
-  x153 = ld64_8(x87);
-  x154 = ldp_8(x5);
-  x155 = ADD(x154, (u64)((u64)((u64)x153 * 80u)));
-  st64_1(x155, x2);
-  st8_1(ADD(x155, 8), 1u);
-  MEMCPY(ADD(x155, 9), x150, 32);
-  st8_1(ADD(x155, 41), 0u);
-  st8_1(ADD(x155, 42), 0u);
-  st8_1(ADD(x155, 43), 0u);
-  st8_1(ADD(x155, 44), x151);
-  MEMCPY(ADD(x155, 45), x152, 32);
-  MEMSET(ADD(x155, 77), 0u, 3);
-  st64_8(x87, ((u64)((u64)x153 + 1u)));
-  x156 = ld64_8(FAR(x1, 88));
-  x157 = ld8_1(x41);
-  st8_1(x158, x157);
-  x159 = ld8_1(ADD(x41, 1));
-  st8_1(ADD(x158, 1), x159);
-  MEMCPY(ADD(x158, 2), ADD(x41, 2), 16);
-  MEMCPY(ADD(x158, 18), ADD(x41, 18), 10);
-  f183(x160, x77, x90, x2, x158, x76, x5);
-  (void)f185(x77, x90, x2, x158, x156, x5);
-  x161 = ld8_1(x160);
-  MEMCPY(ADD(x42, 1), ADD(x160, 1), 16);
-  st8_1(x42, x161);
-  f188(FAR(x1, 112), x90, x42);
-  if (x29) goto b59; else goto b60;
-b60:;
-  x162 = ld64_8(x87);
-  x163 = ldp_8(x5);
-  x164 = ADD(x163, (u64)((u64)((u64)x162 * 80u)));
-  st64_1(x164, x2);
-  st8_1(ADD(x164, 8), 14u);
-  MEMSET(ADD(x164, 9), 0u, 71);
-  st64_8(x87, ((u64)((u64)x162 + 1u)));
-  goto b59;
-b59:;
+  MEMCPY(x148, x3, 16);
+  MEMCPY(ADD(x148, 16), FAR(x3, 16), 16);
+  x149 = ld8_1(x42);
+  MEMCPY(x150, FAR(x3, 33), 32);
+  x151 = FAR(x5, 24);
+  x152 = ld64_8(x85);
+  x153 = ldp_8(x151);
+  x154 = ADD(x153, (u64)((u64)((u64)x152 * 80u)));
+  st64_1(x154, x2);
+  st8_1(ADD(x154, 8), 1u);
+  MEMCPY(ADD(x154, 9), x148, 32);
+  st8_1(ADD(x154, 41), 0u);
+  st8_1(ADD(x154, 42), 0u);
+  st8_1(ADD(x154, 43), 0u);
+  st8_1(ADD(x154, 44), x149);
+  MEMCPY(ADD(x154, 45), x150, 32);
+  MEMSET(ADD(x154, 77), 0u, 3);
+  st64_8(x85, ((u64)((u64)x152 + 1u)));
+  x155 = ld64_8(FAR(x1, 88));
+  x156 = ld8_1(x38);
+  st8_1(x157, x156);
+  x158 = ld8_1(ADD(x38, 1));
+  st8_1(ADD(x157, 1), x158);
+  MEMCPY(ADD(x157, 2), ADD(x38, 2), 16);
+  MEMCPY(ADD(x157, 18), ADD(x38, 18), 10);
+  f179(x159, x74, x88, x2, x157, x73, x5);
+  (void)f181(x74, x88, x2, x157, x155, x5);
+  x160 = ld8_1(x159);
+  MEMCPY(ADD(x39, 1), ADD(x159, 1), 16);
+  st8_1(x39, x160);
+  f184(FAR(x1, 112), x88, x39);
+  if (x26) goto b56; else goto b57;
+b57:;
+  x161 = ld64_8(x85);
+  x162 = ldp_8(x151);
+  x163 = ADD(x162, (u64)((u64)((u64)x161 * 80u)));
+  st64_1(x163, x2);
+  st8_1(ADD(x163, 8), 14u);
+  MEMSET(ADD(x163, 9), 0u, 71);
+  st64_8(x85, ((u64)((u64)x161 + 1u)));
+  goto b56;
+b56:;
   st8_1(x0, 0u);
   st8_1(FAR(x0, 8), 0u);
   st8_1(FAR(x0, 9), 0u);
-  st8_1(FAR(x0, 10), 0u);
-  MEMCPY(FAR(x0, 11), x44, 15);
-  goto b33;
-b44:;
+  MEMCPY(FAR(x0, 10), x41, 16);
+  goto b30;
+b41:;
   st8_1(x0, 1u);
   MEMSET(FAR(x0, 8), 0u, 18);
-  goto b33;
+  goto b30;
 }
 
-static u8 f229(Q x0)
+static u8 f224(Q x0)
 {
   u64 x3, x5, x2, x1, x12, x4;
   u8 x7, x9, x10, x15, x6;
@@ -20424,13 +20450,13 @@ static u8 f229(Q x0)
   x2 = ld64_8(x8);
   if (((u8)(x2 == 0u))) goto b0; else { x3 = x2; goto b1; }
 b0:;
-  x9 = f230(FAR(x0, 64));
+  x9 = f225(FAR(x0, 64));
   if (((u8)((x9) & 1u))) { x7 = 1u; goto b2; } else goto b3;
 b3:;
   x1 = ld64_8(x8);
   { x3 = x1; goto b1; }
 b1:;
-  x10 = f232(x0, x3);
+  x10 = f227(x0, x3);
   if (((u8)((x10) & 1u))) { x7 = 1u; goto b2; } else goto b4;
 b4:;
   x11 = FAR(x0, 32);
@@ -20451,14 +20477,14 @@ b6:;
 b8:;
   if (((u8)(x3 > ((u64)((u64)x12 - x5))))) goto b9; else { x7 = 0u; goto b2; }
 b9:;
-  x15 = f238(x11, x3);
+  x15 = f233(x11, x3);
   x6 = (u8)((u8)(x15 ^ 1u));
   { x7 = x6; goto b2; }
 b2:;
   return x7;
 }
 
-static u8 f230(Q x0)
+static u8 f225(Q x0)
 {
   u64 x2, x6, x11, x16, x17, x18, x19, x22, x23, x1, x29, x30, x5, x31, x32, x10, x34, x38, x40;
   u8 x4, x12, x13, x28, x3, x33, x35, x41, x42;
@@ -20484,7 +20510,7 @@ b5:;
   memset_n(x20, 0u, ((u64)((u64)x17 << 6)));
   goto b4;
 b4:;
-  f50(x20, x17, x21, x16);
+  f47(x20, x17, x21, x16);
   st64_8(FAR(x0, 64), ((u64)((u64)x18 - x16)));
   { x13 = 0u; goto b0; }
 b3:;
@@ -20504,7 +20530,7 @@ b7:;
   if (((u8)(x2 == 0u))) { x4 = 0u; x6 = 0u; x9 = x8; goto b8; } else goto b9;
 b9:;
   x27 = ADD(x24, 16);
-  x28 = f231(x24, x2);
+  x28 = f226(x24, x2);
   if (x28) goto b10; else goto b11;
 b10:;
   x29 = ld64_8(x25);
@@ -20537,7 +20563,7 @@ b16:;
 b18:;
   if (((u8)(x31 > ((u64)((u64)x32 - x11))))) goto b19; else goto b14;
 b19:;
-  x33 = f42(x14, x31);
+  x33 = f39(x14, x31);
   if (x33) goto b14; else goto b20;
 b11:;
   x34 = ld64_8(x27);
@@ -20550,7 +20576,7 @@ b21:;
 b14:;
   x37 = ldp_8(x14);
   x38 = ld64_8(x15);
-  f50(x9, x6, x37, x38);
+  f47(x9, x6, x37, x38);
   x39 = ldp_8(x0);
   x40 = ld64_8(ADD(x0, 16));
   x41 = ld8_1(ADD(x0, 24));
@@ -20574,7 +20600,7 @@ b0:;
   return x13;
 }
 
-static u8 f231(Q x0, u64 x1)
+static u8 f226(Q x0, u64 x1)
 {
   u8 x2, x13, x14;
   s_u64_u64 x5, x15, x3, x4;
@@ -20613,7 +20639,7 @@ b7:;
   { x2 = 1u; goto b0; }
 }
 
-static u8 f232(Q x0, u64 x1)
+static u8 f227(Q x0, u64 x1)
 {
   u64 x3, x2, x6;
   u8 x4, x7;
@@ -20633,7 +20659,7 @@ b3:;
   x6 = ld64_8(FAR(x0, 8));
   if (((u8)(x1 > ((u64)((u64)x3 - x6))))) goto b4; else goto b5;
 b4:;
-  x7 = f238(x0, x1);
+  x7 = f233(x0, x1);
   if (x7) goto b5; else { x4 = 1u; goto b0; }
 b5:;
   { x4 = 0u; goto b0; }
@@ -20641,7 +20667,7 @@ b0:;
   return x4;
 }
 
-static void f233(Q x0, u128 x1, Q x2, Q x3, Q x4)
+static void f228(Q x0, u128 x1, Q x2, Q x3, Q x4)
 {
   u64 x7, x19, x22, x23, x26, x29, x5, x32, x37, x6, x41, x42, x43, x44, x45, x46, x49, x52;
   u32 x10, x31, x8, x35, x36, x9, x40;
@@ -20685,7 +20711,7 @@ b1:;
   { x7 = x5; goto b2; }
 b2:;
   x33 = FAR(x28, (u64)((u64)((u64)x7 << 6)));
-  x8 = f52(x33, x30);
+  x8 = f49(x33, x30);
   if (((u8)(x8 == 0u))) goto b3; else goto b4;
 b4:;
   x34 = FAR(x33, 16);
@@ -20715,7 +20741,7 @@ b0:;
   x46 = umin64(x44, x45);
   if (((u8)(x46 == 0u))) goto b9; else goto b10;
 b9:;
-  x47 = f229(x0);
+  x47 = f224(x0);
   if (((u8)(x47 == 0u))) goto b10; else goto b11;
 b6:;
   x48 = ldp_8(FAR(x0, 32));
@@ -20726,7 +20752,7 @@ b11:;
   TRAP();
   UNREACHABLE();
 b10:;
-  f234(x27, ((u32)(x23)));
+  f229(x27, ((u32)(x23)));
   x49 = ld64_8(x25);
   x50 = ldp_8(x0);
   st64_1(ADD(x50, (u64)((u64)((u64)x49 << 3))), ((u64)((u64)x13)));
@@ -20739,7 +20765,7 @@ b10:;
   return;
 }
 
-static void f234(Q x0, u32 x1)
+static void f229(Q x0, u32 x1)
 {
   Q x2, x4, x8, x9;
   u64 x3, x5, x7, x10;
@@ -20748,7 +20774,7 @@ static void f234(Q x0, u32 x1)
   x3 = ld64_8(FAR(x0, 8));
   x4 = FAR(x0, 40);
   x5 = ld64_8(x4);
-  x6 = f51(x2, x3, x5, x1);
+  x6 = f48(x2, x3, x5, x1);
   x7 = ld64_8(x4);
   x8 = ldp_8(FAR(x0, 32));
   st64_1(ADD(x8, (u64)((u64)((u64)x7 << 3))), (((u64)((u64)((u64)(x6.f1)) << 32)) | ((u64)(x6.f0))));
@@ -20759,60 +20785,64 @@ static void f234(Q x0, u32 x1)
   return;
 }
 
-static void f235(Q x0, Q x1, u64 x2, Q x3, Q x4)
+static void f230(Q x0, Q x1, u64 x2, Q x3, Q x4)
 {
-  u8 x7, x10, x13, x15, x16, x17, x20, x23, x26, x27, x28, x29, x30, x31, x32, x37, x38, x39, x44, x45, x46, x47, x48, x49, x52, x14, x63, x6, x65, x9, x12, x68, x71, x5, x8, x11, x79, x19, x81, x22, x25, x83, x86, x18, x21, x24, x87, x90, x92;
-  Q x34, x41, x59, x66, x75, x82;
-  u64 x60, x61, x62, x76, x77, x78;
-  _Alignas(8) u8 y0_[72];
-  Q const x91 = Q_OF(y0_);
-  Q const x80 = Q_OF(y0_);
-  Q const x64 = Q_OF(y0_);
-  Q const x53 = Q_OF(y0_);
-  _Alignas(8) u8 y1_[32];
-  Q const x56 = Q_OF(y1_);
-  Q const x72 = Q_OF(y1_);
+  u8 x5, x8, x11, x14, x15, x16, x17, x20, x23, x26, x27, x28, x29, x30, x31, x32, x37, x38, x39, x46, x47, x48, x49, x50, x51, x54, x57, x68, x7, x10, x13, x72, x75, x6, x9, x12, x83, x19, x22, x25, x87, x90, x18, x21, x24, x91, x92, x93;
+  Q x34, x41, x64, x71, x79, x86;
+  u64 x65, x66, x67, x80, x81, x82;
+  _Alignas(8) u8 y0_[80];
+  Q const x56 = Q_OF(y0_);
+  Q const x84 = Q_OF(y0_);
+  Q const x69 = Q_OF(y0_);
+  _Alignas(8) u8 y1_[33];
+  Q const x55 = Q_OF(y1_);
+  Q const x61 = Q_OF(y1_);
+  Q const x76 = Q_OF(y1_);
   _Alignas(8) u8 y2_[32];
-  Q const x57 = Q_OF(y2_);
-  Q const x73 = Q_OF(y2_);
+  Q const x62 = Q_OF(y2_);
+  Q const x77 = Q_OF(y2_);
   _Alignas(8) u8 y3_[32];
-  Q const x43 = Q_OF(y3_);
+  Q const x45 = Q_OF(y3_);
   _Alignas(8) u8 y4_[32];
   Q const x42 = Q_OF(y4_);
   _Alignas(1) u8 y5_[17];
-  Q const x58 = Q_OF(y5_);
+  Q const x85 = Q_OF(y5_);
   _Alignas(1) u8 y6_[17];
-  Q const x74 = Q_OF(y6_);
+  Q const x70 = Q_OF(y6_);
   _Alignas(1) u8 y7_[17];
-  Q const x36 = Q_OF(y7_);
+  Q const x63 = Q_OF(y7_);
   _Alignas(1) u8 y8_[17];
-  Q const x40 = Q_OF(y8_);
-  _Alignas(1) u8 y9_[16];
-  Q const x55 = Q_OF(y9_);
-  _Alignas(2) u8 y10_[16];
-  Q const x67 = Q_OF(y10_);
-  _Alignas(2) u8 y11_[16];
-  Q const x54 = Q_OF(y11_);
-  _Alignas(1) u8 y12_[16];
-  Q const x35 = Q_OF(y12_);
+  Q const x78 = Q_OF(y8_);
+  _Alignas(1) u8 y9_[17];
+  Q const x36 = Q_OF(y9_);
+  _Alignas(1) u8 y10_[17];
+  Q const x40 = Q_OF(y10_);
+  _Alignas(1) u8 y11_[16];
+  Q const x60 = Q_OF(y11_);
+  _Alignas(2) u8 y12_[16];
+  Q const x58 = Q_OF(y12_);
   _Alignas(2) u8 y13_[16];
-  Q const x33 = Q_OF(y13_);
-  _Alignas(1) u8 y14_[6];
-  Q const x69 = Q_OF(y14_);
-  _Alignas(1) u8 y15_[6];
-  Q const x70 = Q_OF(y15_);
+  Q const x59 = Q_OF(y13_);
+  _Alignas(1) u8 y14_[16];
+  Q const x35 = Q_OF(y14_);
+  _Alignas(2) u8 y15_[16];
+  Q const x33 = Q_OF(y15_);
   _Alignas(1) u8 y16_[6];
-  Q const x50 = Q_OF(y16_);
+  Q const x73 = Q_OF(y16_);
   _Alignas(1) u8 y17_[6];
-  Q const x51 = Q_OF(y17_);
+  Q const x74 = Q_OF(y17_);
   _Alignas(1) u8 y18_[6];
-  Q const x84 = Q_OF(y18_);
+  Q const x52 = Q_OF(y18_);
   _Alignas(1) u8 y19_[6];
-  Q const x85 = Q_OF(y19_);
+  Q const x53 = Q_OF(y19_);
   _Alignas(1) u8 y20_[6];
   Q const x88 = Q_OF(y20_);
   _Alignas(1) u8 y21_[6];
   Q const x89 = Q_OF(y21_);
+  _Alignas(1) u8 y22_[6];
+  Q const x43 = Q_OF(y22_);
+  _Alignas(1) u8 y23_[6];
+  Q const x44 = Q_OF(y23_);
   MEMSET(x33, 0u, 16);
   x34 = FAR(x3, 16);
   MEMCPY(x35, x34, 16);
@@ -20820,11 +20850,11 @@ static void f235(Q x0, Q x1, u64 x2, Q x3, Q x4)
   x37 = ld8_1(x1);
   if (((u8)(x37 == 0u))) goto b0; else goto b1;
 b0:;
-  f236(x36, x1, x2, x35);
+  f231(x36, x1, x2, x35);
   goto b2;
 b1:;
-  x38 = f138(FAR(x1, 280), 0u, x35);
-  f144(x36, FAR(x1, 1312), x35, x38);
+  x38 = f132(FAR(x1, 280), 0u, x35);
+  f138(x36, FAR(x1, 1312), x35, x38);
   goto b2;
 b2:;
   x39 = ld8_1(x36);
@@ -20832,160 +20862,170 @@ b2:;
   x41 = ADD(x40, 1);
   MEMCPY(x41, ADD(x36, 1), 16);
   MEMSET(x42, 0u, 32);
+  MEMSET(x43, 0u, 6);
+  MEMSET(x44, 0u, 6);
   switch (x39) { case 0u: goto b3; case 1u: goto b4; case 2u: goto b5; default: goto b6; }
 b3:;
-  MEMSET(x43, 0u, 32);
-  x44 = ld8_1(x34);
-  x45 = ld8_1(FAR(x3, 28));
-  x46 = ld8_1(FAR(x3, 29));
-  x47 = ld8_1(FAR(x3, 30));
-  x48 = ld8_1(FAR(x3, 31));
-  if (((u8)(x44 == 255u))) goto b7; else goto b8;
+  MEMSET(x45, 0u, 32);
+  x46 = ld8_1(x34);
+  x47 = ld8_1(FAR(x3, 28));
+  x48 = ld8_1(FAR(x3, 29));
+  x49 = ld8_1(FAR(x3, 30));
+  x50 = ld8_1(FAR(x3, 31));
+  if (((u8)(x46 == 255u))) goto b7; else goto b8;
 b7:;
-  x49 = ld8_1(FAR(x1, 72));
-  st8_1(x50, 51u);
-  st8_1(ADD(x50, 1), 51u);
-  st8_1(ADD(x50, 2), x45);
-  st8_1(ADD(x50, 3), x46);
-  st8_1(ADD(x50, 4), x47);
-  st8_1(ADD(x50, 5), x48);
-  MEMCPY(x51, FAR(x1, 1), 6);
-  f239(x43, x3, x50, x51, x49);
-  x52 = ld8_1(x43);
-  if (((u8)(x52 == 0u))) goto b9; else goto b10;
+  x51 = ld8_1(FAR(x1, 72));
+  st8_1(x52, 51u);
+  st8_1(ADD(x52, 1), 51u);
+  st8_1(ADD(x52, 2), x47);
+  st8_1(ADD(x52, 3), x48);
+  st8_1(ADD(x52, 4), x49);
+  st8_1(ADD(x52, 5), x50);
+  MEMCPY(x53, FAR(x1, 1), 6);
+  f234(x45, x3, x52, x53, x51);
+  x54 = ld8_1(x45);
+  if (((u8)(x54 == 0u))) goto b9; else goto b10;
 b9:;
-  MEMSET(x53, 0u, 72);
-  MEMCPY(ADD(x53, 8), ADD(x43, 8), 24);
-  x14 = f248(x1, x2, x53, x4);
-  MEMSET(x54, 0u, 16);
-  { x15 = x14; x16 = 0u; x17 = 0u; goto b11; }
-b10:;
-  MEMSET(x54, 0u, 16);
-  { x15 = 1u; x16 = 0u; x17 = 0u; goto b11; }
-b8:;
-  st8_1(x55, x44);
-  MEMCPY(ADD(x55, 1), FAR(x3, 17), 11);
-  st8_1(ADD(x55, 12), x45);
-  st8_1(ADD(x55, 13), x46);
-  st8_1(ADD(x55, 14), x47);
-  st8_1(ADD(x55, 15), x48);
-  MEMSET(x56, 0u, 32);
-  MEMSET(x57, 0u, 32);
-  MEMSET(x58, 0u, 17);
-  x59 = ldp_8(FAR(x1, 448));
-  x60 = ld64_8(FAR(x1, 456));
-  x61 = ld64_8(FAR(x1, 616));
-  x62 = ld64_8(FAR(x1, 624));
-  x63 = f151(x59, x60, x61, x2, x55, x58, x62);
-  if (x63) goto b12; else goto b13;
-b13:;
-  MEMSET(ADD(x64, 16), 0u, 56);
-  st8_1(x64, 13u);
-  st8_1(ADD(x64, 1), 5u);
-  MEMSET(ADD(x64, 2), 0u, 16);
-  x6 = f248(x1, x2, x64, x4);
-  x65 = (u8)((x6) & 1u);
-  MEMSET(ADD(x56, 11), 0u, 15);
-  x9 = (x65 ? 0u : 2u);
-  x12 = (x65 ? 0u : 5u);
-  x66 = ADD(x56, 10);
-  st8_1(x66, 0u);
-  MEMCPY(x67, x66, 16);
-  { x7 = x6; x10 = x9; x13 = x12; goto b14; }
+  MEMSET(x55, 0u, 33);
+  MEMCPY(ADD(x55, 7), ADD(x45, 8), 24);
+  st64_8(ADD(x56, 72), 0u);
+  MEMCPY(ADD(x56, 9), x55, 33);
+  MEMSET(ADD(x56, 43), 0u, 34);
+  st64_8(x56, x2);
+  st8_1(ADD(x56, 8), 0u);
+  st8_1(ADD(x56, 42), 0u);
+  x57 = f130(x4, x56);
+  if (((u8)((x57) & 1u))) goto b11; else goto b12;
 b12:;
-  x68 = ld8_1(FAR(x1, 72));
-  MEMSET(x69, 0u, 6);
-  MEMCPY(x70, FAR(x1, 1), 6);
-  f239(x57, x3, x69, x70, x68);
-  x71 = ld8_1(x57);
-  if (((u8)(x71 == 0u))) goto b15; else goto b16;
-b15:;
-  f155(x56, x1, x2, x55, ADD(x57, 8), x4);
-  x5 = ld8_1(x56);
-  x8 = ld8_1(ADD(x56, 8));
-  x11 = ld8_1(ADD(x56, 9));
-  MEMCPY(x67, ADD(x56, 10), 16);
-  { x7 = x5; x10 = x8; x13 = x11; goto b14; }
-b16:;
-  MEMSET(x67, 0u, 16);
-  { x7 = 1u; x10 = 0u; x13 = 0u; goto b14; }
-b14:;
-  MEMCPY(x54, x67, 16);
-  { x15 = x7; x16 = x10; x17 = x13; goto b11; }
+  st64_8(FAR(x1, 64), x2);
+  MEMSET(x58, 0u, 16);
+  { x5 = 0u; goto b13; }
 b11:;
-  { x27 = x15; x28 = x16; x29 = x17; goto b17; }
-b4:;
-  MEMSET(x72, 0u, 32);
-  MEMSET(x73, 0u, 32);
-  MEMSET(x74, 0u, 17);
-  x75 = ldp_8(FAR(x1, 448));
-  x76 = ld64_8(FAR(x1, 456));
-  x77 = ld64_8(FAR(x1, 616));
-  x78 = ld64_8(FAR(x1, 624));
-  x79 = f151(x75, x76, x77, x2, x41, x74, x78);
-  if (x79) goto b18; else goto b19;
-b19:;
-  MEMSET(ADD(x80, 16), 0u, 56);
-  st8_1(x80, 13u);
-  st8_1(ADD(x80, 1), 5u);
-  MEMSET(ADD(x80, 2), 0u, 16);
-  x19 = f248(x1, x2, x80, x4);
-  x81 = (u8)((x19) & 1u);
-  MEMSET(ADD(x72, 11), 0u, 15);
-  x22 = (x81 ? 0u : 2u);
-  x25 = (x81 ? 0u : 5u);
-  x82 = ADD(x72, 10);
-  st8_1(x82, 0u);
-  MEMCPY(x54, x82, 16);
-  { x20 = x19; x23 = x22; x26 = x25; goto b20; }
+  MEMSET(x58, 0u, 16);
+  { x5 = 1u; goto b13; }
+b13:;
+  MEMCPY(x59, x58, 16);
+  { x15 = x5; x16 = 0u; x17 = 0u; goto b14; }
+b10:;
+  MEMSET(x59, 0u, 16);
+  { x15 = 1u; x16 = 0u; x17 = 0u; goto b14; }
+b8:;
+  st8_1(x60, x46);
+  MEMCPY(ADD(x60, 1), FAR(x3, 17), 11);
+  st8_1(ADD(x60, 12), x47);
+  st8_1(ADD(x60, 13), x48);
+  st8_1(ADD(x60, 14), x49);
+  st8_1(ADD(x60, 15), x50);
+  MEMSET(x61, 0u, 32);
+  MEMSET(x62, 0u, 32);
+  MEMSET(x63, 0u, 17);
+  x64 = ldp_8(FAR(x1, 448));
+  x65 = ld64_8(FAR(x1, 456));
+  x66 = ld64_8(FAR(x1, 616));
+  x67 = ld64_8(FAR(x1, 624));
+  x68 = f146(x64, x65, x66, x2, x60, x63, x67);
+  if (x68) goto b15; else goto b16;
+b16:;
+  MEMSET(x69, 0u, 32);
+  MEMSET(ADD(x70, 2), 0u, 15);
+  st8_1(x70, 5u);
+  st8_1(ADD(x70, 1), 0u);
+  f149(x69, x1, x2, x70, x4);
+  x7 = ld8_1(x69);
+  x10 = ld8_1(ADD(x69, 8));
+  x13 = ld8_1(ADD(x69, 9));
+  x71 = ADD(x61, 10);
+  MEMCPY(x71, ADD(x69, 10), 16);
+  MEMCPY(x58, x71, 16);
+  { x8 = x7; x11 = x10; x14 = x13; goto b17; }
+b15:;
+  x72 = ld8_1(FAR(x1, 72));
+  MEMSET(x73, 0u, 6);
+  MEMCPY(x74, FAR(x1, 1), 6);
+  f234(x62, x3, x73, x74, x72);
+  x75 = ld8_1(x62);
+  if (((u8)(x75 == 0u))) goto b18; else goto b19;
 b18:;
-  x83 = ld8_1(FAR(x1, 72));
-  MEMSET(x84, 0u, 6);
-  MEMCPY(x85, FAR(x1, 1), 6);
-  f239(x73, x3, x84, x85, x83);
-  x86 = ld8_1(x73);
-  if (((u8)(x86 == 0u))) goto b21; else goto b22;
-b21:;
-  f155(x72, x1, x2, x41, ADD(x73, 8), x4);
-  x18 = ld8_1(x72);
-  x21 = ld8_1(ADD(x72, 8));
-  x24 = ld8_1(ADD(x72, 9));
-  MEMCPY(x54, ADD(x72, 10), 16);
-  { x20 = x18; x23 = x21; x26 = x24; goto b20; }
+  f151(x61, x1, x2, x60, ADD(x62, 8), x4);
+  x6 = ld8_1(x61);
+  x9 = ld8_1(ADD(x61, 8));
+  x12 = ld8_1(ADD(x61, 9));
+  MEMCPY(x58, ADD(x61, 10), 16);
+  { x8 = x6; x11 = x9; x14 = x12; goto b17; }
+b19:;
+  MEMSET(x58, 0u, 16);
+  { x8 = 1u; x11 = 0u; x14 = 0u; goto b17; }
+b17:;
+  MEMCPY(x59, x58, 16);
+  { x15 = x8; x16 = x11; x17 = x14; goto b14; }
+b14:;
+  { x27 = x15; x28 = x16; x29 = x17; goto b20; }
+b4:;
+  MEMSET(x76, 0u, 32);
+  MEMSET(x77, 0u, 32);
+  MEMSET(x78, 0u, 17);
+  x79 = ldp_8(FAR(x1, 448));
+  x80 = ld64_8(FAR(x1, 456));
+  x81 = ld64_8(FAR(x1, 616));
+  x82 = ld64_8(FAR(x1, 624));
+  x83 = f146(x79, x80, x81, x2, x41, x78, x82);
+  if (x83) goto b21; else goto b22;
 b22:;
-  MEMSET(x54, 0u, 16);
-  { x20 = 1u; x23 = 0u; x26 = 0u; goto b20; }
-b20:;
-  { x27 = x20; x28 = x23; x29 = x26; goto b17; }
-b5:;
+  MEMSET(x84, 0u, 32);
+  MEMSET(ADD(x85, 2), 0u, 15);
+  st8_1(x85, 5u);
+  st8_1(ADD(x85, 1), 0u);
+  f149(x84, x1, x2, x85, x4);
+  x19 = ld8_1(x84);
+  x22 = ld8_1(ADD(x84, 8));
+  x25 = ld8_1(ADD(x84, 9));
+  x86 = ADD(x76, 10);
+  MEMCPY(x86, ADD(x84, 10), 16);
+  MEMCPY(x59, x86, 16);
+  { x20 = x19; x23 = x22; x26 = x25; goto b23; }
+b21:;
   x87 = ld8_1(FAR(x1, 72));
   MEMSET(x88, 0u, 6);
   MEMCPY(x89, FAR(x1, 1), 6);
-  f239(x42, x3, x88, x89, x87);
-  x90 = ld8_1(x42);
-  if (((u8)(x90 == 0u))) goto b23; else goto b24;
-b23:;
-  MEMSET(x91, 0u, 72);
-  MEMCPY(ADD(x91, 8), ADD(x42, 8), 24);
-  st8_1(x91, 9u);
-  st8_1(ADD(x91, 1), 3u);
-  x92 = f248(x1, x2, x91, x4);
-  if (((u8)((x92) & 1u))) goto b25; else goto b26;
+  f234(x77, x3, x88, x89, x87);
+  x90 = ld8_1(x77);
+  if (((u8)(x90 == 0u))) goto b24; else goto b25;
 b24:;
-  MEMSET(x33, 0u, 16);
-  { x30 = 1u; x31 = 0u; x32 = 0u; goto b27; }
-b26:;
-  MEMSET(x54, 0u, 16);
-  { x27 = 0u; x28 = 1u; x29 = 0u; goto b17; }
+  f151(x76, x1, x2, x41, ADD(x77, 8), x4);
+  x18 = ld8_1(x76);
+  x21 = ld8_1(ADD(x76, 8));
+  x24 = ld8_1(ADD(x76, 9));
+  MEMCPY(x59, ADD(x76, 10), 16);
+  { x20 = x18; x23 = x21; x26 = x24; goto b23; }
 b25:;
+  MEMSET(x59, 0u, 16);
+  { x20 = 1u; x23 = 0u; x26 = 0u; goto b23; }
+b23:;
+  { x27 = x20; x28 = x23; x29 = x26; goto b20; }
+b5:;
+  x91 = ld8_1(FAR(x1, 72));
+  MEMCPY(x44, FAR(x1, 1), 6);
+  f234(x42, x3, x43, x44, x91);
+  x92 = ld8_1(x42);
+  if (((u8)(x92 == 0u))) goto b26; else goto b27;
+b26:;
+  x93 = f144(x1, x2, 3u, ADD(x42, 8), x4);
+  if (((u8)((x93) & 1u))) goto b28; else goto b29;
+b27:;
   MEMSET(x33, 0u, 16);
-  { x30 = 1u; x31 = 0u; x32 = 0u; goto b27; }
-b17:;
-  MEMCPY(x33, x54, 16);
-  { x30 = x27; x31 = x28; x32 = x29; goto b27; }
+  { x30 = 1u; x31 = 0u; x32 = 0u; goto b30; }
+b29:;
+  MEMSET(x59, 0u, 16);
+  { x27 = 0u; x28 = 1u; x29 = 0u; goto b20; }
+b28:;
+  MEMSET(x33, 0u, 16);
+  { x30 = 1u; x31 = 0u; x32 = 0u; goto b30; }
+b20:;
+  MEMCPY(x33, x59, 16);
+  { x30 = x27; x31 = x28; x32 = x29; goto b30; }
 b6:;
   UNREACHABLE();
-b27:;
+b30:;
   st8_1(x0, x30);
   st8_1(FAR(x0, 8), x31);
   st8_1(FAR(x0, 9), x32);
@@ -20993,7 +21033,7 @@ b27:;
   return;
 }
 
-static void f236(Q x0, Q x1, u64 x2, Q x3)
+static void f231(Q x0, Q x1, u64 x2, Q x3)
 {
   u64 x6, x12, x13, x15, x16, x27, x48, x62, x63, x64, x5, x66, x67, x68, x4, x70;
   u8 x9, x11, x10, x26, x7, x8, x46, x47, x69;
@@ -21050,10 +21090,10 @@ static void f236(Q x0, Q x1, u64 x2, Q x3)
 b0:;
   st64_8(x21, x12);
   st64_8(ADD(x21, 8), x13);
-  f171(x22, x18, x21);
+  f167(x22, x18, x21);
   st64_8(x23, x12);
   st64_8(ADD(x23, 8), x13);
-  f172(x19, x22, x23, x17);
+  f168(x19, x22, x23, x17);
   x10 = ld8_1(x19);
   MEMCPY(x14, ADD(x19, 1), 16);
   { x11 = x10; goto b2; }
@@ -21070,7 +21110,7 @@ b5:;
 b4:;
   x28 = bswap128(u128_or(u128_shl(u128_of(0, x13), (unsigned)u128_low(u128_of(0u, 64u)) & 127u), u128_of(0, x12)));
   st128_8(x29, x28);
-  x30 = f237(x24, x29);
+  x30 = f232(x24, x29);
   if (((u8)((x30.f0) == 1u))) goto b7; else goto b8;
 b8:;
   goto b6;
@@ -21096,10 +21136,10 @@ b7:;
 b6:;
   st64_8(x41, x12);
   st64_8(ADD(x41, 8), x13);
-  f171(x42, x18, x41);
+  f167(x42, x18, x41);
   st64_8(x43, x12);
   st64_8(ADD(x43, 8), x13);
-  f172(x20, x42, x43, x17);
+  f168(x20, x42, x43, x17);
   x8 = ld8_1(x20);
   x44 = ADD(x20, 1);
   x45 = u128_and(u128_of(ldn(ADD(x44, 8), 7), ldn(x44, 8)), u128_of(UINT64_C(72057594037927935), UINT64_C(18446744073709551615)));
@@ -21112,7 +21152,7 @@ b10:;
 b11:;
   x49 = bswap128(u128_or(u128_shl(u128_of(0, x13), (unsigned)u128_low(u128_of(0u, 64u)) & 127u), u128_of(0, x12)));
   st128_8(x50, x49);
-  x51 = f237(x24, x50);
+  x51 = f232(x24, x50);
   if (((u8)((x51.f0) == 1u))) goto b13; else goto b14;
 b13:;
   x52 = x51.f1;
@@ -21146,7 +21186,7 @@ b14:;
   x68 = umin64(x66, x67);
   if (((u8)(x68 == 0u))) goto b16; else { x6 = x5; goto b17; }
 b16:;
-  x69 = f229(x24);
+  x69 = f224(x24);
   if (((u8)((x69) & 1u))) goto b18; else goto b19;
 b19:;
   x4 = ld64_8(x65);
@@ -21159,13 +21199,13 @@ b17:;
 b21:;
   x71 = ldp_1(FAR(x1, 1016));
   x72 = ldp_8(x71);
-  f100(x61, x24, x72);
+  f95(x61, x24, x72);
   x73 = ldp_8(ADD(x61, 40));
   x74 = ldp_8(ADD(x61, 48));
   st8_1(x75, x8);
   stn(ADD(x75, 1), u128_low(x45), 8); stn(ADD(ADD(x75, 1), 8), u128_high(x45), 7);
   st8_1(ADD(x75, 16), x46);
-  f233(x24, x49, x75, x73, x74);
+  f228(x24, x49, x75, x73, x74);
   goto b15;
 b22:;
   x76 = os_rattle_alloc(64u, 16u);
@@ -21175,7 +21215,7 @@ b23:;
   st8_1(x78, x8);
   stn(ADD(x78, 1), u128_low(x45), 8); stn(ADD(ADD(x78, 1), 8), u128_high(x45), 7);
   st8_1(ADD(x78, 16), x46);
-  f233(x24, x49, x78, x77, x77);
+  f228(x24, x49, x78, x77, x77);
   goto b12;
 b24:;
   goto b20;
@@ -21195,7 +21235,7 @@ b2:;
   return;
 }
 
-static s_u8_Q f237(Q x0, Q x1)
+static s_u8_Q f232(Q x0, Q x1)
 {
   u64 x4, x15, x16, x18, x19, x2, x22, x27, x3, x33;
   u32 x7, x21, x5, x25, x26, x6, x30;
@@ -21220,7 +21260,7 @@ b1:;
   { x4 = x2; goto b2; }
 b2:;
   x23 = FAR(x14, (u64)((u64)((u64)x4 << 6)));
-  x5 = f52(x23, x20);
+  x5 = f49(x23, x20);
   if (((u8)(x5 == 0u))) goto b3; else goto b4;
 b4:;
   x24 = FAR(x23, 16);
@@ -21252,7 +21292,7 @@ b0:;
   return s_u8_Q_set1(x9, x11);
 }
 
-static u8 f238(Q x0, u64 x1)
+static u8 f233(Q x0, u64 x1)
 {
   u8 x2, x13, x14;
   s_u64_u64 x5, x15, x3, x4;
@@ -21291,7 +21331,7 @@ b7:;
   { x2 = 1u; goto b0; }
 }
 
-static void f239(Q x0, Q x1, Q x2, Q x3, u8 x4)
+static void f234(Q x0, Q x1, Q x2, Q x3, u8 x4)
 {
   u8 x9, x12;
   Q x10, x13;
@@ -21316,7 +21356,7 @@ static void f239(Q x0, Q x1, Q x2, Q x3, u8 x4)
   st8_1(ADD(x5, 9), x4);
   x10 = ldp_8(FAR(x1, 40));
   x11 = ld64_8(FAR(x1, 48));
-  f149(x6, x7, x8, x5, x10, x11);
+  f143(x6, x7, x8, x5, x10, x11);
   x12 = ld8_1(x6);
   if (((u8)(x12 == 0u))) goto b0; else goto b1;
 b0:;
@@ -21346,7 +21386,7 @@ b4:;
   UNREACHABLE();
 }
 
-static void f240(Q x0, Q x1, u64 x2, Q x3, Q x4)
+static void f235(Q x0, Q x1, u64 x2, Q x3, Q x4)
 {
   u8 x7, x10, x13, x16, x17, x20, x21, x22, x23, x27, x28, x29, x30, x31, x32, x35, x36, x37, x5, x8, x11, x14, x6, x9, x12, x15, x44, x45, x46, x47;
   Q x18, x48, x49;
@@ -21383,7 +21423,7 @@ static void f240(Q x0, Q x1, u64 x2, Q x3, Q x4)
   x23 = ld8_1(ADD(x3, 15));
   MEMSET(x24, 0u, 26);
   MEMSET(ADD(x25, 18), 0u, 7);
-  f241(x26, x1);
+  f236(x26, x1);
   x27 = ld8_1(x26);
   if (((u8)(x27 == 1u))) goto b0; else goto b1;
 b2:;
@@ -21393,7 +21433,7 @@ b0:;
   st8_1(x25, 1u);
   st8_1(ADD(x25, 1), x28);
   MEMCPY(ADD(x25, 2), ADD(x26, 2), 16);
-  f242(x24, x1, x2, x25, x4);
+  f237(x24, x1, x2, x25, x4);
   x29 = ld8_1(x24);
   st8_1(x0, x29);
   x30 = ld8_1(ADD(x24, 1));
@@ -21416,11 +21456,11 @@ b1:;
   x35 = ld8_1(x1);
   if (((u8)(x35 == 0u))) goto b3; else goto b4;
 b3:;
-  f236(x34, x1, x2, x33);
+  f231(x34, x1, x2, x33);
   goto b5;
 b4:;
-  x36 = f138(FAR(x1, 280), 0u, x33);
-  f144(x34, FAR(x1, 1312), x33, x36);
+  x36 = f132(FAR(x1, 280), 0u, x33);
+  f138(x34, FAR(x1, 1312), x33, x36);
   goto b5;
 b5:;
   x37 = ld8_1(x34);
@@ -21446,7 +21486,7 @@ b10:;
   st8_1(ADD(x41, 22), x21);
   st8_1(ADD(x41, 23), x22);
   st8_1(ADD(x41, 24), x23);
-  f242(x40, x1, x2, x41, x4);
+  f237(x40, x1, x2, x41, x4);
   x5 = ld8_1(x40);
   x8 = ld8_1(ADD(x40, 1));
   x11 = ld8_1(ADD(x40, 2));
@@ -21461,7 +21501,7 @@ b11:;
   st8_1(ADD(x42, 13), x21);
   st8_1(ADD(x42, 14), x22);
   st8_1(ADD(x42, 15), x23);
-  f243(x40, x1, x2, x42, x4);
+  f238(x40, x1, x2, x42, x4);
   x6 = ld8_1(x40);
   x9 = ld8_1(ADD(x40, 1));
   x12 = ld8_1(ADD(x40, 2));
@@ -21476,11 +21516,11 @@ b12:;
   st8_1(ADD(x39, 19), x16);
   goto b13;
 b7:;
-  f243(x39, x1, x2, x38, x4);
+  f238(x39, x1, x2, x38, x4);
   goto b13;
 b8:;
   MEMSET(x43, 0u, 25);
-  f242(x39, x1, x2, x43, x4);
+  f237(x39, x1, x2, x43, x4);
   goto b13;
 b9:;
   UNREACHABLE();
@@ -21502,7 +21542,7 @@ b13:;
   goto b2;
 }
 
-static void f241(Q x0, Q x1)
+static void f236(Q x0, Q x1)
 {
   Q x2, x3, x4;
   u64 x5;
@@ -21512,7 +21552,7 @@ static void f241(Q x0, Q x1)
   x3 = FAR(x1, 286);
   x4 = ldp_8(FAR(x1, 312));
   x5 = ld64_8(FAR(x1, 320));
-  x6 = f102(x4, x5, x3);
+  x6 = f97(x4, x5, x3);
   if (((u8)((x6.f0) == 0u))) goto b0; else goto b1;
 b0:;
   x7 = ld8_1(FAR(FAR(x4, (u64)((u64)((u64)(x6.f1) * 72u))), 48));
@@ -21525,7 +21565,7 @@ b2:;
   MEMSET(FAR(x0, 2), 0u, 16);
   goto b3;
 b1:;
-  x8 = f138(x2, 1u, x3);
+  x8 = f132(x2, 1u, x3);
   if (x8) goto b4; else goto b5;
 b5:;
   st8_1(x0, 1u);
@@ -21537,7 +21577,7 @@ b4:;
   goto b3;
 }
 
-static void f242(Q x0, Q x1, u64 x2, Q x3, Q x4)
+static void f237(Q x0, Q x1, u64 x2, Q x3, Q x4)
 {
   u8 x5, x6, x8, x12;
   u64 x10, x11;
@@ -21550,11 +21590,11 @@ static void f242(Q x0, Q x1, u64 x2, Q x3, Q x4)
   MEMCPY(x7, FAR(x3, 2), 16);
   x8 = ld8_1(FAR(x3, 18));
   MEMCPY(x9, FAR(x3, 19), 6);
-  x10 = ld64_8(FAR(x4, 16));
-  x11 = ld64_8(FAR(x4, 8));
+  x10 = ld64_8(FAR(x4, 40));
+  x11 = ld64_8(FAR(x4, 32));
   if (((u8)(x10 == x11))) goto b0; else goto b1;
 b0:;
-  x12 = f83(x4, 1u);
+  x12 = f78(FAR(x4, 24), 1u);
   if (x12) goto b1; else goto b2;
 b1:;
   st64_8(FAR(x1, 64), x2);
@@ -21573,7 +21613,7 @@ b2:;
   goto b3;
 }
 
-static void f243(Q x0, Q x1, u64 x2, Q x3, Q x4)
+static void f238(Q x0, Q x1, u64 x2, Q x3, Q x4)
 {
   Q x6, x23, x25, x26, x28, x30, x5, x47, x52, x53, x54, x57, x58, x71, x73, x74, x75;
   u64 x8, x10, x13, x19, x27, x29, x31, x7, x9, x41, x42, x48, x49, x51, x55, x60, x12, x61, x11, x62, x65, x72;
@@ -21616,7 +21656,7 @@ static void f243(Q x0, Q x1, u64 x2, Q x3, Q x4)
   x29 = ld64_8(x28);
   x30 = FAR(x1, 624);
   x31 = ld64_8(x30);
-  x32 = f151(x25, x27, x29, x2, x3, x24, x31);
+  x32 = f146(x25, x27, x29, x2, x3, x24, x31);
   if (x32) goto b0; else goto b1;
 b2:;
   return;
@@ -21624,7 +21664,7 @@ b1:;
   st8_1(x22, 1u);
   st8_1(ADD(x22, 1), 5u);
   MEMSET(ADD(x22, 2), 0u, 16);
-  f242(x21, x1, x2, x22, x4);
+  f237(x21, x1, x2, x22, x4);
   x33 = ld8_1(x21);
   st8_1(x0, x33);
   x34 = ld8_1(ADD(x21, 1));
@@ -21639,7 +21679,7 @@ b1:;
 b0:;
   MEMCPY(x37, x3, 16);
   MEMSET(x38, 0u, 40);
-  f156(x38, x23, x37, x4);
+  f152(x38, x23, x37, x4);
   x39 = ld8_1(x38);
   x40 = ld8_1(ADD(x38, 8));
   if (((u8)(x39 == 0u))) goto b3; else goto b4;
@@ -21649,11 +21689,11 @@ b3:;
   x9 = ld64_8(ADD(x38, 32));
   if (((u8)(x40 == 0u))) { x6 = Q_NULL; x8 = 0u; x10 = 0u; goto b5; } else goto b6;
 b6:;
-  x41 = ld64_8(FAR(x4, 16));
-  x42 = ld64_8(FAR(x4, 8));
+  x41 = ld64_8(FAR(x4, 40));
+  x42 = ld64_8(FAR(x4, 32));
   if (((u8)(((u64)((u64)x41 - x42)) < 2u))) goto b7; else { x6 = x5; x8 = x7; x10 = x9; goto b5; }
 b7:;
-  x43 = f83(x4, 2u);
+  x43 = f78(FAR(x4, 24), 2u);
   if (x43) { x6 = x5; x8 = x7; x10 = x9; goto b5; } else goto b8;
 b8:;
   if (((u8)(x9 == 0u))) goto b4; else goto b9;
@@ -21668,7 +21708,7 @@ b5:;
   x47 = ldp_8(x23);
   x48 = ld64_8(x26);
   x49 = ld64_8(x30);
-  x50 = f152(x47, x48, x20, x49);
+  x50 = f147(x47, x48, x20, x49);
   x51 = x50.f1;
   if (((u8)((x50.f0) == 0u))) goto b10; else goto b11;
 b10:;
@@ -21701,16 +21741,16 @@ b16:;
   x11 = (u64)((ldn(FAR(x53, 34), 5)) & UINT64_C(1099511627775));
   if (((u8)(x55 == x61))) { x13 = x11; x16 = x14; goto b17; } else goto b18;
 b18:;
-  f85(x52, 1u, x55, 1u, x61, x20);
+  f80(x52, 1u, x55, 1u, x61, x20);
   { x13 = x11; x16 = x14; goto b17; }
 b11:;
   x62 = ld64_8(x28);
   if (((u8)(x48 < x62))) goto b19; else goto b20;
 b20:;
-  x63 = f153(x47, x48, x2);
+  x63 = f148(x47, x48, x2);
   if (((u8)(((x63.f0)) & 1u))) goto b19; else goto b21;
 b19:;
-  f161(x46, FAR(x1, 528));
+  f157(x46, FAR(x1, 528));
   x64 = ld8_1(x46);
   if (((u8)(x64 == 0u))) goto b22; else goto b21;
 b22:;
@@ -21724,8 +21764,8 @@ b22:;
   st8_1(ADD(x66, 35), 0u);
   st32_4(ADD(x66, 36), x45);
   MEMCPY(ADD(x66, 40), ADD(x46, 8), 32);
-  f162(x23, FAR(x1, 472), x65, x2, x51, x66);
-  f99(FAR(x1, 864));
+  f158(x23, FAR(x1, 472), x65, x2, x51, x66);
+  f94(FAR(x1, 864));
   MEMCPY(x67, FAR(x1, 1), 6);
   MEMSET(x68, 0u, 33);
   if (((u8)(x40 == 1u))) goto b23; else goto b24;
@@ -21733,11 +21773,11 @@ b23:;
   stp_8(x69, x6);
   st64_8(ADD(x69, 8), x8);
   st64_8(ADD(x69, 16), x10);
-  f122(x70, x69, x67, x44, x20);
+  f117(x70, x69, x67, x44, x20);
   MEMCPY(ADD(x68, 7), x70, 24);
-  x71 = FAR(x4, 8);
+  x71 = FAR(x4, 32);
   x72 = ld64_8(x71);
-  x73 = ldp_8(x4);
+  x73 = ldp_8(FAR(x4, 24));
   x74 = ADD(x73, (u64)((u64)((u64)x72 * 80u)));
   st64_1(x74, x2);
   st8_1(ADD(x74, 8), 0u);
@@ -21783,7 +21823,7 @@ b4:;
   goto b2;
 }
 
-static void f244(Q x0, Q x1, u64 x2, Q x3, Q x4)
+static void f239(Q x0, Q x1, u64 x2, Q x3, Q x4)
 {
   Q x6, x7, x10;
   u64 x8, x12, x13, x14;
@@ -21801,7 +21841,7 @@ static void f244(Q x0, Q x1, u64 x2, Q x3, Q x4)
   x6 = FAR(x1, 448);
   x7 = ldp_8(x6);
   x8 = ld64_8(FAR(x1, 456));
-  x9 = f102(x7, x8, x3);
+  x9 = f97(x7, x8, x3);
   if (((u8)((x9.f0) == 0u))) goto b0; else goto b1;
 b0:;
   x10 = FAR(x7, (u64)((u64)((u64)(x9.f1) * 72u)));
@@ -21809,20 +21849,20 @@ b0:;
   if (((u8)(x11 == 0u))) goto b2; else goto b1;
 b2:;
   x12 = ld64_8(FAR(x10, 56));
-  x13 = ld64_8(FAR(x4, 16));
-  x14 = ld64_8(FAR(x4, 8));
+  x13 = ld64_8(FAR(x4, 40));
+  x14 = ld64_8(FAR(x4, 32));
   if (((u8)(x12 > ((u64)((u64)x13 - x14))))) goto b3; else goto b1;
 b3:;
-  x15 = f83(x4, x12);
+  x15 = f78(FAR(x4, 24), x12);
   if (x15) goto b1; else goto b4;
 b1:;
-  f184(x16, x6, FAR(x1, 472), x5);
+  f180(x16, x6, FAR(x1, 472), x5);
   x17 = ld8_1(x16);
   MEMCPY(x18, ADD(x16, 8), 32);
-  f99(FAR(x1, 864));
+  f94(FAR(x1, 864));
   st64_8(x19, ((u64)x17));
   MEMCPY(ADD(x19, 8), x18, 32);
-  f126(x4, x2, 2u, x19);
+  f121(x4, x2, 2u, x19);
   st64_8(FAR(x1, 64), x2);
   st8_1(x0, 0u);
   MEMSET(FAR(x0, 8), 0u, 18);
@@ -21835,23 +21875,23 @@ b4:;
   goto b5;
 }
 
-static void f245(Q x0, Q x1, u64 x2, u8 x3, Q x4)
+static void f240(Q x0, Q x1, u64 x2, u8 x3, Q x4)
 {
-  u64 x6, x8, x10, x13, x18, x20, x22, x27, x30, x33, x35, x36, x37, x26, x42, x47, x49, x51, x55, x57, x59, x64, x66, x69, x11, x9, x5, x7, x76, x77, x12, x21, x17, x19, x84, x96, x32, x29, x97, x31, x28, x34, x98, x45, x48, x50, x46, x54, x105, x107, x53, x58, x56, x113, x115, x117, x62, x63, x65, x123, x126, x129, x132, x134, x68;
-  Q x16, x25, x40, x41, x61, x72, x14, x73, x39, x74, x38, x15, x80, x23, x85, x86, x87, x88, x89, x91, x92, x93, x95, x100, x101, x102, x103, x104, x106, x60, x112, x114, x116, x120, x121, x122, x125, x127, x128, x130, x131, x133, x135;
-  u8 x44, x52, x67, x75, x79, x81, x43, x94, x108, x109;
-  s_u64_u64 x82, x83, x110, x111;
+  u64 x6, x8, x10, x13, x18, x20, x22, x27, x30, x33, x35, x36, x37, x26, x42, x47, x49, x51, x55, x57, x59, x64, x66, x69, x11, x9, x5, x7, x76, x77, x12, x21, x17, x19, x84, x96, x32, x29, x97, x31, x28, x34, x98, x45, x48, x50, x46, x54, x106, x108, x53, x58, x56, x114, x116, x118, x62, x63, x65, x125, x128, x131, x134, x136, x68;
+  Q x16, x25, x40, x41, x61, x72, x14, x73, x39, x74, x38, x15, x80, x23, x85, x86, x87, x88, x89, x91, x92, x93, x95, x100, x101, x102, x103, x104, x105, x107, x60, x113, x115, x117, x121, x122, x123, x124, x127, x129, x130, x132, x133, x135, x137;
+  u8 x44, x52, x67, x75, x79, x81, x43, x94, x109, x110;
+  s_u64_u64 x82, x83, x111, x112;
   _Alignas(8) u8 y0_[72];
   Q const x78 = Q_OF(y0_);
-  Q const x119 = Q_OF(y0_);
+  Q const x120 = Q_OF(y0_);
   _Alignas(8) u8 y1_[32];
   Q const x90 = Q_OF(y1_);
   _Alignas(1) u8 y2_[30];
   Q const x99 = Q_OF(y2_);
   _Alignas(1) u8 y3_[17];
-  Q const x124 = Q_OF(y3_);
+  Q const x126 = Q_OF(y3_);
   _Alignas(1) u8 y4_[17];
-  Q const x118 = Q_OF(y4_);
+  Q const x119 = Q_OF(y4_);
   _Alignas(2) u8 y5_[16];
   Q const x71 = Q_OF(y5_);
   _Alignas(2) u8 y6_[16];
@@ -21870,7 +21910,7 @@ b0:;
   x11 = ld64_8(x73);
   if (((u8)(x11 == 0u))) goto b6; else { x6 = 0u; x8 = 0u; goto b7; }
 b6:;
-  x39 = FAR(x4, 8);
+  x39 = FAR(x4, 32);
   { x40 = x39; x41 = x24; x42 = 0u; x44 = 1u; goto b8; }
 b7:;
   x74 = FAR(x14, (u64)((u64)((u64)x8 * 72u)));
@@ -21884,15 +21924,15 @@ b10:;
   x7 = (u64)((u64)x8 + 1u);
   if (((u8)(x7 == x11))) goto b11; else { x6 = x5; x8 = x7; goto b7; }
 b11:;
-  x76 = ld64_8(FAR(x4, 16));
-  x38 = FAR(x4, 8);
+  x76 = ld64_8(FAR(x4, 40));
+  x38 = FAR(x4, 32);
   x77 = ld64_8(x38);
   if (((u8)(x5 > ((u64)((u64)x76 - x77))))) goto b12; else goto b13;
 b13:;
   MEMSET(x78, 0u, 72);
   { x13 = x11; x16 = x14; goto b14; }
 b12:;
-  x79 = f83(x4, x5);
+  x79 = f78(FAR(x4, 24), x5);
   if (x79) goto b15; else goto b16;
 b15:;
   x12 = ld64_8(x73);
@@ -21936,7 +21976,7 @@ b21:;
   x93 = ADD(x90, 24);
   { x27 = 0u; goto b26; }
 b26:;
-  f103(x78, x72, 0u);
+  f98(x78, x72, 0u);
   x94 = ld8_1(x85);
   x95 = ldp_8(x86);
   x96 = ld64_8(x87);
@@ -21959,7 +21999,7 @@ b29:;
   st64_8(x91, x96);
   st64_8(x92, 0u);
   st64_8(x93, x37);
-  f133(x90);
+  f128(x90);
   { x26 = x36; goto b31; }
 b31:;
   x98 = ld64_8(x73);
@@ -21968,26 +22008,27 @@ b16:;
   MEMSET(x70, 0u, 16);
   { x52 = 1u; goto b32; }
 b8:;
-  f246(FAR(x1, 472));
-  f99(FAR(x1, 864));
+  f241(FAR(x1, 472));
+  f94(FAR(x1, 864));
   MEMSET(x99, 0u, 6);
   if (((u8)(x42 == 0u))) goto b33; else goto b34;
 b34:;
   x100 = ADD(x99, 6);
+  x101 = FAR(x4, 24);
   x45 = ld64_8(x40);
   { x47 = x45; x49 = 0u; x51 = x42; goto b35; }
 b35:;
   x48 = (u64)((u64)x49 + 1u);
   x50 = (u64)((u64)x51 + UINT64_C(18446744073709551615));
   MEMCPY(x100, ADD(x41, (u64)((u64)((u64)x49 * 24u))), 24);
-  x101 = ldp_8(x4);
-  x102 = ADD(x101, (u64)((u64)((u64)x47 * 80u)));
-  st64_1(x102, x2);
-  st8_1(ADD(x102, 8), 9u);
-  st8_1(ADD(x102, 9), 2u);
-  MEMCPY(ADD(x102, 10), x99, 30);
+  x102 = ldp_8(x101);
+  x103 = ADD(x102, (u64)((u64)((u64)x47 * 80u)));
+  st64_1(x103, x2);
+  st8_1(ADD(x103, 8), 9u);
+  st8_1(ADD(x103, 9), 2u);
+  MEMCPY(ADD(x103, 10), x99, 30);
   x46 = (u64)((u64)x47 + 1u);
-  MEMSET(ADD(x102, 40), 0u, 40);
+  MEMSET(ADD(x103, 40), 0u, 40);
   st64_8(x40, x46);
   if (((u8)(x50 == 0u))) goto b33; else { x47 = x46; x49 = x48; x51 = x50; goto b35; }
 b33:;
@@ -22009,85 +22050,86 @@ b32:;
   MEMCPY(FAR(x0, 10), x70, 16);
   goto b38;
 b1:;
-  x103 = FAR(x1, 112);
-  x104 = FAR(x1, 120);
-  x54 = ld64_8(x104);
-  x105 = ld64_8(FAR(x4, 16));
-  x106 = FAR(x4, 8);
-  x107 = ld64_8(x106);
-  if (((u8)(x54 > ((u64)((u64)x105 - x107))))) goto b39; else { x55 = x54; goto b40; }
+  x104 = FAR(x1, 112);
+  x105 = FAR(x1, 120);
+  x54 = ld64_8(x105);
+  x106 = ld64_8(FAR(x4, 40));
+  x107 = FAR(x4, 32);
+  x108 = ld64_8(x107);
+  if (((u8)(x54 > ((u64)((u64)x106 - x108))))) goto b39; else { x55 = x54; goto b40; }
 b39:;
-  x108 = f83(x4, x54);
-  if (x108) goto b41; else goto b42;
+  x109 = f78(FAR(x4, 24), x54);
+  if (x109) goto b41; else goto b42;
 b41:;
-  x53 = ld64_8(x104);
+  x53 = ld64_8(x105);
   { x55 = x53; goto b40; }
 b40:;
-  x109 = (u8)(x55 == 0u);
-  if (x109) { x59 = 0u; x61 = x24; goto b43; } else goto b44;
+  x110 = (u8)(x55 == 0u);
+  if (x110) { x59 = 0u; x61 = x24; goto b43; } else goto b44;
 b44:;
   if (((u8)(x55 < UINT64_C(576460752303423488)))) goto b45; else goto b46;
 b45:;
-  x110 = os_rattle_alloc(((u64)((u64)x55 << 4)), 1u);
-  x111 = s_u64_u64_frozen(x110);
-  if (((u8)(((x111.f0)) & 1u))) goto b47; else goto b46;
+  x111 = os_rattle_alloc(((u64)((u64)x55 << 4)), 1u);
+  x112 = s_u64_u64_frozen(x111);
+  if (((u8)(((x112.f0)) & 1u))) goto b47; else goto b46;
 b47:;
-  x60 = (Q)(u64)(x111.f1);
-  x58 = ld64_8(x104);
-  x112 = ldp_8(x103);
+  x60 = (Q)(u64)(x112.f1);
+  x58 = ld64_8(x105);
+  x113 = ldp_8(x104);
   if (((u8)(x58 == 0u))) { x59 = 0u; x61 = x60; goto b43; } else { x57 = 0u; goto b48; }
 b48:;
-  MEMMOVE(ADD(x60, (u64)((u64)((u64)x57 << 4))), FAR(x112, (u64)((u64)((u64)x57 << 5))), 16);
+  MEMMOVE(ADD(x60, (u64)((u64)((u64)x57 << 4))), FAR(x113, (u64)((u64)((u64)x57 << 5))), 16);
   x56 = (u64)((u64)x57 + 1u);
   if (((u8)(x56 == x58))) goto b49; else { x57 = x56; goto b48; }
 b49:;
-  x113 = ld64_8(x104);
-  if (((u8)(x113 == 0u))) { x59 = x58; x61 = x60; goto b43; } else goto b50;
+  x114 = ld64_8(x105);
+  if (((u8)(x114 == 0u))) { x59 = x58; x61 = x60; goto b43; } else goto b50;
 b50:;
-  st64_8(x104, 0u);
+  st64_8(x105, 0u);
   { x59 = x58; x61 = x60; goto b43; }
 b43:;
-  x114 = FAR(x1, 144);
-  x115 = ld64_8(x114);
-  if (((u8)(x115 == 0u))) goto b51; else goto b52;
+  x115 = FAR(x1, 144);
+  x116 = ld64_8(x115);
+  if (((u8)(x116 == 0u))) goto b51; else goto b52;
 b52:;
-  st64_8(x114, 0u);
+  st64_8(x115, 0u);
   goto b51;
 b51:;
-  f246(FAR(x1, 160));
-  x116 = FAR(x1, 224);
-  x117 = ld64_8(x116);
-  if (((u8)(x117 == 0u))) goto b53; else goto b54;
+  f241(FAR(x1, 160));
+  x117 = FAR(x1, 224);
+  x118 = ld64_8(x117);
+  if (((u8)(x118 == 0u))) goto b53; else goto b54;
 b54:;
-  st64_8(x116, 0u);
+  st64_8(x117, 0u);
   goto b53;
 b42:;
   MEMSET(x70, 0u, 16);
   { x67 = 1u; goto b55; }
 b53:;
-  MEMSET(x118, 0u, 17);
-  f98(FAR(x1, 696), x118);
-  f99(FAR(x1, 864));
-  MEMSET(ADD(x119, 16), 0u, 17);
+  MEMSET(x119, 0u, 17);
+  f93(FAR(x1, 696), x119);
+  f94(FAR(x1, 864));
+  MEMSET(ADD(x120, 16), 0u, 17);
   if (((u8)(x59 == 0u))) goto b56; else goto b57;
 b57:;
-  x62 = ld64_8(x106);
+  x121 = FAR(x4, 24);
+  x62 = ld64_8(x107);
   { x64 = x62; x66 = 0u; goto b58; }
 b58:;
-  MEMCPY(x119, FAR(x61, (u64)((u64)((u64)x66 << 4))), 16);
-  x120 = ldp_8(x4);
-  x121 = ADD(x120, (u64)((u64)((u64)x64 * 80u)));
-  st64_1(x121, x2);
-  st8_1(ADD(x121, 8), 7u);
-  MEMCPY(ADD(x121, 9), x119, 33);
+  MEMCPY(x120, FAR(x61, (u64)((u64)((u64)x66 << 4))), 16);
+  x122 = ldp_8(x121);
+  x123 = ADD(x122, (u64)((u64)((u64)x64 * 80u)));
+  st64_1(x123, x2);
+  st8_1(ADD(x123, 8), 7u);
+  MEMCPY(ADD(x123, 9), x120, 33);
   x63 = (u64)((u64)x64 + 1u);
-  MEMSET(ADD(x121, 42), 0u, 38);
-  st64_8(x106, x63);
+  MEMSET(ADD(x123, 42), 0u, 38);
+  st64_8(x107, x63);
   x65 = (u64)((u64)x66 + 1u);
   if (((u8)(x65 == x59))) goto b56; else { x64 = x63; x66 = x65; goto b58; }
 b56:;
   st64_8(FAR(x1, 64), x2);
-  if (x109) goto b59; else goto b60;
+  if (x110) goto b59; else goto b60;
 b60:;
   os_rattle_dealloc(x61);
   goto b59;
@@ -22104,54 +22146,54 @@ b55:;
   MEMCPY(FAR(x0, 10), x70, 16);
   goto b38;
 b2:;
-  x122 = FAR(x1, 264);
-  x123 = ld64_8(x122);
-  if (((u8)(x123 == 0u))) goto b61; else goto b62;
+  x124 = FAR(x1, 264);
+  x125 = ld64_8(x124);
+  if (((u8)(x125 == 0u))) goto b61; else goto b62;
 b62:;
-  st64_8(x122, 0u);
+  st64_8(x124, 0u);
   goto b61;
 b61:;
-  f99(FAR(x1, 864));
+  f94(FAR(x1, 864));
   MEMSET(FAR(x1, 1032), 0u, 16);
   goto b63;
 b3:;
-  MEMSET(x124, 0u, 17);
-  f98(FAR(x1, 696), x124);
-  f99(FAR(x1, 864));
+  MEMSET(x126, 0u, 17);
+  f93(FAR(x1, 696), x126);
+  f94(FAR(x1, 864));
   goto b63;
 b4:;
-  x125 = FAR(x1, 656);
-  x126 = ld64_8(x125);
-  if (((u8)(x126 == 0u))) goto b64; else goto b65;
+  x127 = FAR(x1, 656);
+  x128 = ld64_8(x127);
+  if (((u8)(x128 == 0u))) goto b64; else goto b65;
 b65:;
-  st64_8(x125, 0u);
+  st64_8(x127, 0u);
   goto b64;
 b64:;
-  x127 = FAR(x1, 672);
-  x128 = FAR(x1, 680);
-  x129 = ld64_8(x128);
-  if (((u8)(x129 == 0u))) goto b63; else goto b66;
+  x129 = FAR(x1, 672);
+  x130 = FAR(x1, 680);
+  x131 = ld64_8(x130);
+  if (((u8)(x131 == 0u))) goto b63; else goto b66;
 b66:;
-  x130 = ldp_8(x127);
-  x131 = FAR(x1, 688);
-  x132 = ld64_8(x131);
-  MEMSET(x128, 0u, 16);
+  x132 = ldp_8(x129);
+  x133 = FAR(x1, 688);
+  x134 = ld64_8(x133);
+  MEMSET(x130, 0u, 16);
   { x69 = 0u; goto b67; }
 b67:;
-  x133 = ADD(x130, (u64)((u64)((u64)x69 * 40u)));
-  x134 = ld64_1(ADD(x133, 16));
-  if (((u8)(x134 == 0u))) goto b68; else goto b69;
+  x135 = ADD(x132, (u64)((u64)((u64)x69 * 40u)));
+  x136 = ld64_1(ADD(x135, 16));
+  if (((u8)(x136 == 0u))) goto b68; else goto b69;
 b69:;
-  x135 = ldp_1(x133);
-  os_rattle_dealloc(x135);
+  x137 = ldp_1(x135);
+  os_rattle_dealloc(x137);
   goto b68;
 b68:;
   x68 = (u64)((u64)x69 + 1u);
-  if (((u8)(x68 == x129))) goto b70; else { x69 = x68; goto b67; }
+  if (((u8)(x68 == x131))) goto b70; else { x69 = x68; goto b67; }
 b70:;
-  stp_8(x127, x130);
-  st64_8(x128, 0u);
-  st64_8(x131, x132);
+  stp_8(x129, x132);
+  st64_8(x130, 0u);
+  st64_8(x133, x134);
   goto b63;
 b63:;
   st64_8(FAR(x1, 64), x2);
@@ -22162,7 +22204,7 @@ b5:;
   UNREACHABLE();
 }
 
-static void f246(Q x0)
+static void f241(Q x0)
 {
   u64 x3, x1, x6, x2, x11;
   Q x4, x5, x7, x9, x10;
@@ -22179,7 +22221,7 @@ b2:;
   st64_8(x4, x6);
   x7 = ldp_8(x0);
   MEMCPY(x8, ADD(x7, (u64)((u64)((u64)x6 * 24u))), 24);
-  f93(x5, x8);
+  f88(x5, x8);
   x2 = ld64_8(x4);
   if (((u8)(x2 > 1u))) { x3 = x2; goto b2; } else goto b1;
 b1:;
@@ -22194,125 +22236,45 @@ b3:;
   return;
 }
 
-static void f247(Q x0, Q x1, u64 x2)
+static void f242(Q x0, Q x1, u64 x2, Q x3, Q x4)
 {
-  u8 x4, x5, x6, x9, x14, x8, x7, x17, x18, x20, x3;
-  u64 x11, x13, x19, x21, x22, x10, x12;
-  Q x16;
-  _Alignas(1) u8 y0_[6];
-  Q const x15 = Q_OF(y0_);
-  x14 = ld8_1(FAR(x1, 32));
-  if (((u8)(x14 == 0u))) goto b0; else goto b1;
-b0:;
-  MEMSET(x15, 0u, 6);
-  x8 = ld8_1(FAR(x1, 16));
-  { x6 = 0u; x9 = x8; x11 = 0u; x13 = 0u; goto b2; }
-b1:;
-  MEMCPY(x15, FAR(x1, 33), 6);
-  x7 = ld8_1(FAR(x1, 16));
-  x16 = FAR(x1, 48);
-  x17 = ld8_1(FAR(x1, 39));
-  x18 = (u8)((x17) & 1u);
-  if (x18) goto b3; else goto b4;
-b3:;
-  x19 = ld64_8(FAR(x1, 40));
-  if (((u8)(x2 < x19))) goto b5; else goto b4;
-b4:;
-  x20 = ld8_1(x16);
-  if (((u8)(x20 == 0u))) { x4 = 2u; goto b6; } else goto b7;
-b7:;
-  x21 = ld64_8(FAR(x1, 56));
-  x3 = (((u8)(x2 < x21)) ? 3u : 4u);
-  { x4 = x3; goto b6; }
-b6:;
-  if (((u8)(x14 == 1u))) goto b8; else { x6 = x4; x9 = x7; x11 = 0u; x13 = 0u; goto b2; }
-b5:;
-  if (((u8)(x14 == 1u))) { x5 = 1u; goto b9; } else { x6 = 1u; x9 = x7; x11 = 0u; x13 = 0u; goto b2; }
-b8:;
-  if (x18) { x5 = x4; goto b9; } else { x6 = x4; x9 = x7; x11 = 0u; x13 = 0u; goto b2; }
-b9:;
-  x22 = ld64_8(FAR(x1, 40));
-  x10 = usub_sat64(x22, x2);
-  x12 = (u64)((u8)(x2 < x22));
-  { x6 = x5; x9 = x7; x11 = x10; x13 = x12; goto b2; }
-b2:;
-  MEMMOVE(x0, x1, 16);
-  st8_1(ADD(x0, 16), x14);
-  MEMCPY(ADD(x0, 17), x15, 6);
-  st8_1(ADD(x0, 23), x9);
-  st8_1(ADD(x0, 24), x6);
-  MEMSET(ADD(x0, 25), 0u, 7);
-  st64_1(ADD(x0, 32), x13);
-  st64_1(ADD(x0, 40), x11);
-  return;
-}
-
-static u8 f248(Q x0, u64 x1, Q x2, Q x3)
-{
-  u8 x4, x5, x8;
-  _Alignas(8) u8 y0_[88];
-  Q const x6 = Q_OF(y0_);
-  _Alignas(8) u8 y1_[80];
-  Q const x7 = Q_OF(y1_);
-  x4 = ld8_1(x2);
-  x5 = ld8_1(FAR(x2, 34));
-  MEMSET(x6, 0u, 88);
-  st64_8(ADD(x7, 72), 0u);
-  MEMCPY(ADD(x7, 9), FAR(x2, 1), 33);
-  MEMCPY(ADD(x7, 43), FAR(x2, 35), 34);
-  st64_8(x7, x1);
-  st8_1(ADD(x7, 8), x4);
-  st8_1(ADD(x7, 42), x5);
-  f135(x6, x3, x7);
-  x8 = ld8_1(x6);
-  if (((u8)(x8 == 0u))) goto b0; else goto b1;
-b0:;
-  st64_8(FAR(x0, 64), x1);
-  goto b2;
-b1:;
-  f136(ADD(x6, 8));
-  goto b2;
-b2:;
-  return x8;
-}
-
-static void f249(Q x0, Q x1, u64 x2, Q x3, Q x4)
-{
-  u8 x5, x7, x10;
-  Q x9;
-  _Alignas(8) u8 y0_[72];
-  Q const x6 = Q_OF(y0_);
+  u8 x7, x8, x9, x10, x12;
+  Q x11;
+  _Alignas(8) u8 y0_[32];
+  Q const x5 = Q_OF(y0_);
   _Alignas(8) u8 y1_[24];
-  Q const x11 = Q_OF(y1_);
-  _Alignas(2) u8 y2_[16];
-  Q const x8 = Q_OF(y2_);
-  x5 = ld8_1(x1);
-  if (((u8)(x5 == 0u))) goto b0; else goto b1;
+  Q const x13 = Q_OF(y1_);
+  _Alignas(1) u8 y2_[17];
+  Q const x6 = Q_OF(y2_);
+  MEMSET(x5, 0u, 32);
+  MEMSET(ADD(x6, 1), 0u, 16);
+  x7 = ld8_1(x1);
+  if (((u8)(x7 == 0u))) goto b0; else goto b1;
 b2:;
   return;
 b0:;
-  MEMSET(ADD(x6, 16), 0u, 56);
-  st8_1(x6, 13u);
-  MEMSET(ADD(x6, 1), 0u, 17);
-  x7 = f248(x1, x2, x6, x4);
-  MEMSET(x8, 0u, 16);
-  st8_1(x0, x7);
-  st8_1(FAR(x0, 8), ((u8)(((u8)((u32)x7 << 1)) ^ 2u)));
-  st8_1(FAR(x0, 9), 0u);
-  MEMCPY(FAR(x0, 10), x8, 16);
+  st8_1(x6, 0u);
+  f149(x5, x1, x2, x6, x4);
+  x8 = ld8_1(x5);
+  st8_1(x0, x8);
+  x9 = ld8_1(ADD(x5, 8));
+  st8_1(FAR(x0, 8), x9);
+  x10 = ld8_1(ADD(x5, 9));
+  st8_1(FAR(x0, 9), x10);
+  MEMCPY(FAR(x0, 10), ADD(x5, 10), 16);
   goto b2;
 b1:;
-  x9 = FAR(x1, 1112);
-  x10 = ld8_1(x9);
-  if (((u8)(x10 == 1u))) goto b3; else goto b4;
+  x11 = FAR(x1, 1112);
+  x12 = ld8_1(x11);
+  if (((u8)(x12 == 1u))) goto b3; else goto b4;
 b3:;
   MEMMOVE(FAR(x1, 1128), x3, 24);
   goto b5;
 b4:;
-  MEMCPY(x11, x3, 24);
-  st64_1(x9, 1u);
+  MEMCPY(x13, x3, 24);
+  st64_1(x11, 1u);
   st64_1(FAR(x1, 1120), x2);
-  MEMCPY(FAR(x1, 1128), x11, 24);
+  MEMCPY(FAR(x1, 1128), x13, 24);
   MEMSET(FAR(x1, 1152), 0u, 40);
   goto b5;
 b5:;
@@ -22322,206 +22284,209 @@ b5:;
   goto b2;
 }
 
-static void f250(Q x0, Q x1, u64 x2, Q x3, Q x4)
+static void f243(Q x0, Q x1, u64 x2, Q x3, Q x4)
 {
-  u64 x7, x13, x28, x42, x46, x49, x52, x5, x55, x60, x6, x65, x67, x11, x73, x78, x12, x83, x84, x85, x86, x87, x88, x91, x94;
-  u32 x10, x16, x25, x26, x29, x31, x32, x54, x8, x58, x59, x9, x62, x68, x72, x14, x76, x77, x15, x80;
-  u8 x18, x20, x22, x24, x27, x30, x35, x37, x51, x53, x61, x71, x79, x89, x19, x98, x17, x21, x23;
-  Q x39, x41, x44, x45, x47, x48, x56, x57, x63, x64, x74, x75, x81, x82, x92, x93, x95, x96;
-  _Alignas(8) u8 y0_[72];
-  Q const x97 = Q_OF(y0_);
-  Q const x36 = Q_OF(y0_);
-  _Alignas(8) u8 y1_[24];
-  Q const x70 = Q_OF(y1_);
+  u64 x7, x13, x26, x43, x47, x50, x53, x5, x56, x61, x6, x66, x68, x11, x74, x79, x12, x84, x85, x86, x87, x88, x89, x92, x95;
+  u32 x10, x16, x23, x24, x27, x29, x30, x55, x8, x59, x60, x9, x63, x69, x73, x14, x77, x78, x15, x81;
+  u8 x18, x20, x22, x25, x28, x36, x37, x38, x39, x52, x54, x62, x72, x80, x90, x21, x19, x17;
+  Q x40, x42, x45, x46, x48, x49, x57, x58, x64, x65, x75, x76, x82, x83, x93, x94, x96, x97;
+  _Alignas(8) u8 y0_[32];
+  Q const x31 = Q_OF(y0_);
+  _Alignas(8) u8 y1_[32];
+  Q const x33 = Q_OF(y1_);
   _Alignas(8) u8 y2_[24];
-  Q const x50 = Q_OF(y2_);
-  _Alignas(1) u8 y3_[17];
-  Q const x90 = Q_OF(y3_);
+  Q const x71 = Q_OF(y2_);
+  _Alignas(8) u8 y3_[24];
+  Q const x51 = Q_OF(y3_);
   _Alignas(1) u8 y4_[17];
-  Q const x66 = Q_OF(y4_);
-  _Alignas(4) u8 y5_[17];
-  Q const x40 = Q_OF(y5_);
-  _Alignas(1) u8 y6_[15];
-  Q const x38 = Q_OF(y6_);
-  _Alignas(1) u8 y7_[15];
-  Q const x33 = Q_OF(y7_);
-  _Alignas(1) u8 y8_[15];
-  Q const x34 = Q_OF(y8_);
-  _Alignas(8) u8 y9_[8];
-  Q const x69 = Q_OF(y9_);
+  Q const x91 = Q_OF(y4_);
+  _Alignas(1) u8 y5_[17];
+  Q const x67 = Q_OF(y5_);
+  _Alignas(4) u8 y6_[17];
+  Q const x41 = Q_OF(y6_);
+  _Alignas(1) u8 y7_[17];
+  Q const x32 = Q_OF(y7_);
+  _Alignas(1) u8 y8_[17];
+  Q const x35 = Q_OF(y8_);
+  _Alignas(2) u8 y9_[16];
+  Q const x34 = Q_OF(y9_);
   _Alignas(8) u8 y10_[8];
-  Q const x43 = Q_OF(y10_);
-  x25 = ld32_1(x3);
-  x26 = ld32_1(ADD(x3, 4));
-  x27 = ld8_1(ADD(x3, 8));
-  x28 = (u64)((ldn(ADD(x3, 9), 7)) & UINT64_C(72057594037927935));
-  x29 = ld32_1(ADD(x3, 16));
-  x30 = ld8_1(ADD(x3, 20));
-  x31 = (u32)((ldn(ADD(x3, 21), 3)) & 16777215u);
-  x32 = ld32_1(ADD(x3, 24));
-  MEMSET(x33, 0u, 15);
-  MEMSET(x34, 0u, 15);
-  x35 = ld8_1(x1);
-  if (((u8)(x35 == 0u))) goto b0; else goto b1;
+  Q const x70 = Q_OF(y10_);
+  _Alignas(8) u8 y11_[8];
+  Q const x44 = Q_OF(y11_);
+  x23 = ld32_1(x3);
+  x24 = ld32_1(ADD(x3, 4));
+  x25 = ld8_1(ADD(x3, 8));
+  x26 = (u64)((ldn(ADD(x3, 9), 7)) & UINT64_C(72057594037927935));
+  x27 = ld32_1(ADD(x3, 16));
+  x28 = ld8_1(ADD(x3, 20));
+  x29 = (u32)((ldn(ADD(x3, 21), 3)) & 16777215u);
+  x30 = ld32_1(ADD(x3, 24));
+  MEMSET(x31, 0u, 32);
+  MEMSET(ADD(x32, 1), 0u, 16);
+  MEMSET(x33, 0u, 32);
+  MEMSET(x34, 0u, 16);
+  MEMSET(ADD(x35, 2), 0u, 15);
+  x36 = ld8_1(x1);
+  if (((u8)(x36 == 0u))) goto b0; else goto b1;
 b2:;
   return;
 b0:;
-  MEMSET(ADD(x36, 16), 0u, 56);
-  st8_1(x36, 13u);
-  MEMSET(ADD(x36, 1), 0u, 17);
-  x37 = f248(x1, x2, x36, x4);
-  MEMSET(x38, 0u, 15);
+  st8_1(x32, 0u);
+  f149(x31, x1, x2, x32, x4);
+  x37 = ld8_1(x31);
   st8_1(x0, x37);
-  st8_1(FAR(x0, 8), ((u8)(((u8)((u32)x37 << 1)) ^ 2u)));
-  st8_1(FAR(x0, 9), 0u);
-  st8_1(FAR(x0, 10), 0u);
-  MEMCPY(FAR(x0, 11), x38, 15);
+  x38 = ld8_1(ADD(x31, 8));
+  st8_1(FAR(x0, 8), x38);
+  x39 = ld8_1(ADD(x31, 9));
+  st8_1(FAR(x0, 9), x39);
+  MEMCPY(FAR(x0, 10), ADD(x31, 10), 16);
   goto b2;
 b1:;
-  x39 = FAR(x1, 1192);
-  st32_4(x40, x25);
-  st32_4(ADD(x40, 4), x26);
-  st8_1(ADD(x40, 8), x27);
-  stn(ADD(x40, 9), x28, 7);
-  st8_1(ADD(x40, 16), ((u8)(x29)));
-  x41 = FAR(x1, 1200);
-  x42 = f251(FAR(x1, 1304), x40);
-  stp_8(x43, x40);
-  x44 = ldp_8(x41);
-  x45 = FAR(x1, 1208);
-  x46 = ld64_8(x45);
-  x47 = FAR(x1, 1248);
-  x48 = ldp_8(x47);
-  x49 = ld64_8(FAR(x1, 1256));
-  stp_8(x50, x43);
-  stp_8(ADD(x50, 8), x44);
-  st64_8(ADD(x50, 16), x46);
-  x51 = (u8)(x49 == 0u);
-  if (x51) goto b3; else goto b4;
+  x40 = FAR(x1, 1192);
+  st32_4(x41, x23);
+  st32_4(ADD(x41, 4), x24);
+  st8_1(ADD(x41, 8), x25);
+  stn(ADD(x41, 9), x26, 7);
+  st8_1(ADD(x41, 16), ((u8)(x27)));
+  x42 = FAR(x1, 1200);
+  x43 = f244(FAR(x1, 1304), x41);
+  stp_8(x44, x41);
+  x45 = ldp_8(x42);
+  x46 = FAR(x1, 1208);
+  x47 = ld64_8(x46);
+  x48 = FAR(x1, 1248);
+  x49 = ldp_8(x48);
+  x50 = ld64_8(FAR(x1, 1256));
+  stp_8(x51, x44);
+  stp_8(ADD(x51, 8), x45);
+  st64_8(ADD(x51, 16), x47);
+  x52 = (u8)(x50 == 0u);
+  if (x52) goto b3; else goto b4;
 b4:;
-  x52 = (((u64)((u64)x42 >> 32)) ^ x42);
-  x53 = umax8(((u8)(((u64)((u64)x52 >> 24)))), 1u);
-  x5 = ((x52 & 4294967295u) & ((u64)((u64)x49 + 4294967295u)));
-  x54 = (u32)((u32)1u << (((u32)((u8)(x53 & 31u))) & 31u));
-  x55 = (u64)((u64)x49 + UINT64_C(18446744073709551615));
+  x53 = (((u64)((u64)x43 >> 32)) ^ x43);
+  x54 = umax8(((u8)(((u64)((u64)x53 >> 24)))), 1u);
+  x5 = ((x53 & 4294967295u) & ((u64)((u64)x50 + 4294967295u)));
+  x55 = (u32)((u32)1u << (((u32)((u8)(x54 & 31u))) & 31u));
+  x56 = (u64)((u64)x50 + UINT64_C(18446744073709551615));
   { x7 = x5; goto b5; }
 b5:;
-  x56 = FAR(x48, (u64)((u64)((u64)x7 << 6)));
-  x8 = f52(x56, x53);
+  x57 = FAR(x49, (u64)((u64)((u64)x7 << 6)));
+  x8 = f49(x57, x54);
   if (((u8)(x8 == 0u))) goto b6; else goto b7;
 b7:;
-  x57 = FAR(x56, 16);
+  x58 = FAR(x57, 16);
   { x10 = x8; goto b8; }
 b8:;
-  x58 = cttz32(x10);
-  x59 = ld32_4(ADD(x57, (u64)((u64)((u32)((u32)x58 << 2)))));
-  x60 = (u64)x59;
-  x61 = f252(x50, x60);
-  if (x61) goto b9; else goto b10;
+  x59 = cttz32(x10);
+  x60 = ld32_4(ADD(x58, (u64)((u64)((u32)((u32)x59 << 2)))));
+  x61 = (u64)x60;
+  x62 = f245(x51, x61);
+  if (x62) goto b9; else goto b10;
 b10:;
-  x9 = (((u32)((u32)x10 + 4095u)) & x10);
+  x9 = (((u32)((u32)x10 + 4294967295u)) & x10);
   if (((u8)(x9 == 0u))) goto b6; else { x10 = x9; goto b8; }
 b6:;
-  x62 = ld32_1(ADD(x56, 12));
-  if (((u8)((x62 & x54) == 0u))) goto b3; else goto b11;
+  x63 = ld32_1(ADD(x57, 12));
+  if (((u8)((x63 & x55) == 0u))) goto b3; else goto b11;
 b11:;
-  x6 = (((u64)((u64)x7 + 1u)) & x55);
+  x6 = (((u64)((u64)x7 + 1u)) & x56);
   if (((u8)(x6 == x5))) goto b3; else { x7 = x6; goto b5; }
 b9:;
-  x63 = ldp_8(FAR(x1, 1224));
-  x64 = FAR(x63, (u64)((u64)((u64)x60 * 28u)));
-  st32_1(x64, x25);
-  st32_1(ADD(x64, 4), x26);
-  st8_1(ADD(x64, 8), x27);
-  stn(ADD(x64, 9), x28, 7);
-  st32_1(ADD(x64, 16), x29);
-  st8_1(ADD(x64, 20), x30);
-  stn(ADD(x64, 21), x31, 3);
-  st32_1(ADD(x64, 24), x32);
+  x64 = ldp_8(FAR(x1, 1224));
+  x65 = FAR(x64, (u64)((u64)((u64)x61 * 28u)));
+  st32_1(x65, x23);
+  st32_1(ADD(x65, 4), x24);
+  st8_1(ADD(x65, 8), x25);
+  stn(ADD(x65, 9), x26, 7);
+  st32_1(ADD(x65, 16), x27);
+  st8_1(ADD(x65, 20), x28);
+  stn(ADD(x65, 21), x29, 3);
+  st32_1(ADD(x65, 24), x30);
   goto b12;
 b3:;
-  x65 = ld64_8(x39);
-  if (((u8)(x65 > x46))) goto b13; else goto b14;
+  x66 = ld64_8(x40);
+  if (((u8)(x66 > x47))) goto b13; else goto b14;
 b13:;
-  MEMCPY(x66, x40, 17);
-  x67 = (((u64)((u64)x42 >> 32)) ^ x42);
-  x68 = (u32)(x67);
-  stp_8(x69, x66);
-  stp_8(x70, x69);
-  stp_8(ADD(x70, 8), x44);
-  st64_8(ADD(x70, 16), x46);
-  if (x51) goto b15; else goto b16;
+  MEMCPY(x67, x41, 17);
+  x68 = (((u64)((u64)x43 >> 32)) ^ x43);
+  x69 = (u32)(x68);
+  stp_8(x70, x67);
+  stp_8(x71, x70);
+  stp_8(ADD(x71, 8), x45);
+  st64_8(ADD(x71, 16), x47);
+  if (x52) goto b15; else goto b16;
 b16:;
-  x71 = umax8(((u8)(((u64)((u64)x67 >> 24)))), 1u);
-  x11 = ((x67 & 4294967295u) & ((u64)((u64)x49 + 4294967295u)));
-  x72 = (u32)((u32)1u << (((u32)((u8)(x71 & 31u))) & 31u));
-  x73 = (u64)((u64)x49 + UINT64_C(18446744073709551615));
+  x72 = umax8(((u8)(((u64)((u64)x68 >> 24)))), 1u);
+  x11 = ((x68 & 4294967295u) & ((u64)((u64)x50 + 4294967295u)));
+  x73 = (u32)((u32)1u << (((u32)((u8)(x72 & 31u))) & 31u));
+  x74 = (u64)((u64)x50 + UINT64_C(18446744073709551615));
   { x13 = x11; goto b17; }
 b17:;
-  x74 = FAR(x48, (u64)((u64)((u64)x13 << 6)));
-  x14 = f52(x74, x71);
+  x75 = FAR(x49, (u64)((u64)((u64)x13 << 6)));
+  x14 = f49(x75, x72);
   if (((u8)(x14 == 0u))) goto b18; else goto b19;
 b19:;
-  x75 = FAR(x74, 16);
+  x76 = FAR(x75, 16);
   { x16 = x14; goto b20; }
 b20:;
-  x76 = cttz32(x16);
-  x77 = ld32_4(ADD(x75, (u64)((u64)((u32)((u32)x76 << 2)))));
-  x78 = (u64)x77;
-  x79 = f252(x70, x78);
-  if (x79) goto b21; else goto b22;
+  x77 = cttz32(x16);
+  x78 = ld32_4(ADD(x76, (u64)((u64)((u32)((u32)x77 << 2)))));
+  x79 = (u64)x78;
+  x80 = f245(x71, x79);
+  if (x80) goto b21; else goto b22;
 b22:;
-  x15 = (((u32)((u32)x16 + 4095u)) & x16);
+  x15 = (((u32)((u32)x16 + 4294967295u)) & x16);
   if (((u8)(x15 == 0u))) goto b18; else { x16 = x15; goto b20; }
 b18:;
-  x80 = ld32_1(ADD(x74, 12));
-  if (((u8)((x80 & x72) == 0u))) goto b15; else goto b23;
+  x81 = ld32_1(ADD(x75, 12));
+  if (((u8)((x81 & x73) == 0u))) goto b15; else goto b23;
 b23:;
-  x12 = (((u64)((u64)x13 + 1u)) & x73);
+  x12 = (((u64)((u64)x13 + 1u)) & x74);
   if (((u8)(x12 == x11))) goto b15; else { x13 = x12; goto b17; }
 b21:;
-  x81 = ldp_8(FAR(x1, 1224));
-  x82 = FAR(x81, (u64)((u64)((u64)x78 * 28u)));
-  st32_1(x82, x25);
-  st32_1(ADD(x82, 4), x26);
-  st8_1(ADD(x82, 8), x27);
-  stn(ADD(x82, 9), x28, 7);
-  st32_1(ADD(x82, 16), x29);
-  st8_1(ADD(x82, 20), x30);
-  stn(ADD(x82, 21), x31, 3);
-  st32_1(ADD(x82, 24), x32);
+  x82 = ldp_8(FAR(x1, 1224));
+  x83 = FAR(x82, (u64)((u64)((u64)x79 * 28u)));
+  st32_1(x83, x23);
+  st32_1(ADD(x83, 4), x24);
+  st8_1(ADD(x83, 8), x25);
+  stn(ADD(x83, 9), x26, 7);
+  st32_1(ADD(x83, 16), x27);
+  st8_1(ADD(x83, 20), x28);
+  stn(ADD(x83, 21), x29, 3);
+  st32_1(ADD(x83, 24), x30);
   goto b24;
 b15:;
-  x83 = ld64_8(FAR(x1, 1216));
-  x84 = ld64_8(FAR(x1, 1240));
-  x85 = umin64(x84, x83);
-  x86 = usub_sat64(x85, x46);
-  x87 = ld64_8(FAR(x1, 1296));
-  x88 = umin64(x86, x87);
-  if (((u8)(x88 == 0u))) goto b25; else goto b26;
+  x84 = ld64_8(FAR(x1, 1216));
+  x85 = ld64_8(FAR(x1, 1240));
+  x86 = umin64(x85, x84);
+  x87 = usub_sat64(x86, x47);
+  x88 = ld64_8(FAR(x1, 1296));
+  x89 = umin64(x87, x88);
+  if (((u8)(x89 == 0u))) goto b25; else goto b26;
 b25:;
-  x89 = f253(x41);
-  if (((u8)(x89 == 0u))) goto b26; else goto b27;
+  x90 = f246(x42);
+  if (((u8)(x90 == 0u))) goto b26; else goto b27;
 b26:;
-  MEMCPY(x90, x66, 17);
-  f256(x47, x68);
-  x91 = ld64_8(x45);
-  x92 = ldp_8(x41);
-  MEMCPY(ADD(x92, (u64)((u64)((u64)x91 * 17u))), x90, 17);
-  st64_8(x45, ((u64)((u64)x91 + 1u)));
-  x93 = FAR(x1, 1232);
-  x94 = ld64_8(x93);
-  x95 = ldp_8(FAR(x1, 1224));
-  x96 = ADD(x95, (u64)((u64)((u64)x94 * 28u)));
-  st32_1(x96, x25);
-  st32_1(ADD(x96, 4), x26);
-  st8_1(ADD(x96, 8), x27);
-  stn(ADD(x96, 9), x28, 7);
-  st32_1(ADD(x96, 16), x29);
-  st8_1(ADD(x96, 20), x30);
-  stn(ADD(x96, 21), x31, 3);
-  st32_1(ADD(x96, 24), x32);
-  st64_8(x93, ((u64)((u64)x94 + 1u)));
+  MEMCPY(x91, x67, 17);
+  f249(x48, x69);
+  x92 = ld64_8(x46);
+  x93 = ldp_8(x42);
+  MEMCPY(ADD(x93, (u64)((u64)((u64)x92 * 17u))), x91, 17);
+  st64_8(x46, ((u64)((u64)x92 + 1u)));
+  x94 = FAR(x1, 1232);
+  x95 = ld64_8(x94);
+  x96 = ldp_8(FAR(x1, 1224));
+  x97 = ADD(x96, (u64)((u64)((u64)x95 * 28u)));
+  st32_1(x97, x23);
+  st32_1(ADD(x97, 4), x24);
+  st8_1(ADD(x97, 8), x25);
+  stn(ADD(x97, 9), x26, 7);
+  st32_1(ADD(x97, 16), x27);
+  st8_1(ADD(x97, 20), x28);
+  stn(ADD(x97, 21), x29, 3);
+  st32_1(ADD(x97, 24), x30);
+  st64_8(x94, ((u64)((u64)x95 + 1u)));
   goto b24;
 b24:;
   goto b12;
@@ -22530,31 +22495,25 @@ b27:;
   UNREACHABLE();
 b12:;
   st64_8(FAR(x1, 64), x2);
-  MEMCPY(x33, x34, 15);
-  { x18 = 0u; x20 = 0u; x22 = 0u; x24 = 0u; goto b28; }
+  MEMCPY(ADD(x33, 10), x34, 16);
+  { x18 = 0u; x20 = 0u; x22 = 0u; goto b28; }
 b14:;
-  MEMSET(ADD(x97, 16), 0u, 56);
-  st8_1(x97, 13u);
-  st8_1(ADD(x97, 1), 5u);
-  st8_1(ADD(x97, 2), 6u);
-  MEMSET(ADD(x97, 3), 0u, 15);
-  x19 = f248(x1, x2, x97, x4);
-  x98 = (u8)((x19) & 1u);
-  MEMSET(x33, 0u, 15);
-  x17 = (x98 ? 0u : 6u);
-  x21 = (x98 ? 0u : 2u);
-  x23 = (x98 ? 0u : 5u);
-  { x18 = x17; x20 = x19; x22 = x21; x24 = x23; goto b28; }
+  st8_1(x35, 5u);
+  st8_1(ADD(x35, 1), 6u);
+  f149(x33, x1, x2, x35, x4);
+  x21 = ld8_1(x33);
+  x19 = ld8_1(ADD(x33, 8));
+  x17 = ld8_1(ADD(x33, 9));
+  { x18 = x17; x20 = x19; x22 = x21; goto b28; }
 b28:;
-  st8_1(x0, x20);
-  st8_1(FAR(x0, 8), x22);
-  st8_1(FAR(x0, 9), x24);
-  st8_1(FAR(x0, 10), x18);
-  MEMCPY(FAR(x0, 11), x33, 15);
+  st8_1(x0, x22);
+  st8_1(FAR(x0, 8), x20);
+  st8_1(FAR(x0, 9), x18);
+  MEMCPY(FAR(x0, 10), ADD(x33, 10), 16);
   goto b2;
 }
 
-static u64 f251(Q x0, Q x1)
+static u64 f244(Q x0, Q x1)
 {
   u64 x4, x6, x7, x3, x2, x5;
   u128 x8, x10, x12;
@@ -22575,7 +22534,7 @@ b1:;
   return ((u64)(u128_low(u128_xor(u128_lshr(x12, (unsigned)u128_low(u128_of(0u, 64u)) & 127u), x12))));
 }
 
-static u8 f252(Q x0, u64 x1)
+static u8 f245(Q x0, u64 x1)
 {
   u8 x3, x8, x9, x2;
   Q x4, x5, x6, x7;
@@ -22598,7 +22557,7 @@ b1:;
   return x3;
 }
 
-static u8 f253(Q x0)
+static u8 f246(Q x0)
 {
   u64 x3, x2, x1, x12, x14, x15;
   s_u64_u64 x6, x4, x17, x5;
@@ -22608,13 +22567,13 @@ static u8 f253(Q x0)
   x2 = ld64_8(x8);
   if (((u8)(x2 == 0u))) goto b0; else { x3 = x2; goto b1; }
 b0:;
-  x9 = f254(FAR(x0, 48));
+  x9 = f247(FAR(x0, 48));
   if (((u8)((x9) & 1u))) { x7 = 1u; goto b2; } else goto b3;
 b3:;
   x1 = ld64_8(x8);
   { x3 = x1; goto b1; }
 b1:;
-  x10 = f255(x0, x3);
+  x10 = f248(x0, x3);
   if (((u8)((x10) & 1u))) { x7 = 1u; goto b2; } else goto b4;
 b4:;
   x11 = FAR(x0, 24);
@@ -22645,7 +22604,7 @@ b2:;
   return x7;
 }
 
-static u8 f254(Q x0)
+static u8 f247(Q x0)
 {
   u64 x2, x8, x10, x13, x15, x20, x24, x7, x26, x27, x30, x31, x1, x32, x34, x6, x37, x39, x9, x12, x14, x11, x19, x43;
   s_u64_u64 x5, x3, x36, x4;
@@ -22669,7 +22628,7 @@ b5:;
   memset_n(x28, 0u, ((u64)((u64)x7 << 6)));
   goto b4;
 b4:;
-  f50(x28, x7, x29, x24);
+  f47(x28, x7, x29, x24);
   st64_8(FAR(x0, 48), ((u64)((u64)x26 - x24)));
   { x21 = 0u; goto b0; }
 b3:;
@@ -22709,7 +22668,7 @@ b9:;
 b14:;
   if (((u8)(x37 > (x8 ^ UINT64_C(18446744073709551615))))) { x21 = 1u; goto b0; } else goto b16;
 b16:;
-  x40 = f53(x0, ((u64)((u64)x37 + x8)));
+  x40 = f50(x0, ((u64)((u64)x37 + x8)));
   if (x40) goto b17; else { x21 = 1u; goto b0; }
 b17:;
   x9 = ld64_8(x25);
@@ -22728,7 +22687,7 @@ b21:;
   x12 = ld64_8(x38);
   if (((u8)(x2 > x12))) goto b23; else { x13 = x12; x15 = 0u; goto b24; }
 b23:;
-  x41 = f54(x0, x2);
+  x41 = f51(x0, x2);
   if (x41) goto b25; else goto b26;
 b25:;
   x14 = ld64_8(x25);
@@ -22752,14 +22711,14 @@ b26:;
 b22:;
   x42 = ldp_8(x22);
   x43 = ld64_8(x23);
-  f50(x18, x20, x42, x43);
+  f47(x18, x20, x42, x43);
   st64_8(FAR(x0, 48), x32);
   { x21 = 0u; goto b0; }
 b0:;
   return x21;
 }
 
-static u8 f255(Q x0, u64 x1)
+static u8 f248(Q x0, u64 x1)
 {
   s_u64_u64 x4, x2, x11, x3;
   u8 x5;
@@ -22792,7 +22751,7 @@ b1:;
   return x5;
 }
 
-static void f256(Q x0, u32 x1)
+static void f249(Q x0, u32 x1)
 {
   Q x2, x4, x8, x9;
   u64 x3, x5, x7, x10;
@@ -22801,7 +22760,7 @@ static void f256(Q x0, u32 x1)
   x3 = ld64_8(FAR(x0, 8));
   x4 = FAR(x0, 32);
   x5 = ld64_8(x4);
-  x6 = f51(x2, x3, x5, x1);
+  x6 = f48(x2, x3, x5, x1);
   x7 = ld64_8(x4);
   x8 = ldp_8(FAR(x0, 24));
   st64_1(ADD(x8, (u64)((u64)((u64)x7 << 3))), (((u64)((u64)((u64)(x6.f1)) << 32)) | ((u64)(x6.f0))));
@@ -22812,202 +22771,205 @@ static void f256(Q x0, u32 x1)
   return;
 }
 
-static void f257(Q x0, Q x1, u64 x2, Q x3, Q x4)
+static void f250(Q x0, Q x1, u64 x2, Q x3, Q x4)
 {
-  u64 x7, x13, x27, x41, x45, x48, x51, x5, x54, x59, x6, x64, x66, x11, x72, x77, x12, x82, x83, x84, x85, x86, x87, x90, x93;
-  u32 x10, x16, x26, x53, x8, x57, x58, x9, x61, x67, x71, x14, x75, x76, x15, x79;
-  u8 x18, x20, x22, x24, x25, x28, x29, x30, x31, x34, x36, x50, x52, x60, x70, x78, x88, x19, x97, x17, x21, x23;
-  Q x38, x39, x43, x44, x46, x47, x55, x56, x62, x63, x73, x74, x80, x81, x91, x92, x94, x95;
-  _Alignas(8) u8 y0_[72];
-  Q const x96 = Q_OF(y0_);
-  Q const x35 = Q_OF(y0_);
-  _Alignas(8) u8 y1_[24];
-  Q const x49 = Q_OF(y1_);
+  u64 x7, x13, x25, x42, x46, x49, x52, x5, x55, x60, x6, x65, x67, x11, x73, x78, x12, x83, x84, x85, x86, x87, x88, x91, x94;
+  u32 x10, x16, x24, x54, x8, x58, x59, x9, x62, x68, x72, x14, x76, x77, x15, x80;
+  u8 x18, x20, x22, x23, x26, x27, x28, x29, x35, x36, x37, x38, x51, x53, x61, x71, x79, x89, x21, x19, x17;
+  Q x39, x40, x44, x45, x47, x48, x56, x57, x63, x64, x74, x75, x81, x82, x92, x93, x95, x96;
+  _Alignas(8) u8 y0_[32];
+  Q const x30 = Q_OF(y0_);
+  _Alignas(8) u8 y1_[32];
+  Q const x32 = Q_OF(y1_);
   _Alignas(8) u8 y2_[24];
-  Q const x69 = Q_OF(y2_);
-  _Alignas(1) u8 y3_[17];
-  Q const x89 = Q_OF(y3_);
+  Q const x50 = Q_OF(y2_);
+  _Alignas(8) u8 y3_[24];
+  Q const x70 = Q_OF(y3_);
   _Alignas(1) u8 y4_[17];
-  Q const x40 = Q_OF(y4_);
+  Q const x90 = Q_OF(y4_);
   _Alignas(1) u8 y5_[17];
-  Q const x65 = Q_OF(y5_);
-  _Alignas(1) u8 y6_[15];
-  Q const x37 = Q_OF(y6_);
-  _Alignas(1) u8 y7_[15];
-  Q const x32 = Q_OF(y7_);
-  _Alignas(1) u8 y8_[15];
-  Q const x33 = Q_OF(y8_);
-  _Alignas(8) u8 y9_[8];
-  Q const x42 = Q_OF(y9_);
+  Q const x41 = Q_OF(y5_);
+  _Alignas(1) u8 y6_[17];
+  Q const x66 = Q_OF(y6_);
+  _Alignas(1) u8 y7_[17];
+  Q const x31 = Q_OF(y7_);
+  _Alignas(1) u8 y8_[17];
+  Q const x34 = Q_OF(y8_);
+  _Alignas(2) u8 y9_[16];
+  Q const x33 = Q_OF(y9_);
   _Alignas(8) u8 y10_[8];
-  Q const x68 = Q_OF(y10_);
-  x25 = ld8_1(FAR(x3, 17));
-  x26 = ld32_1(FAR(x3, 18));
-  x27 = ld64_1(FAR(x3, 22));
-  x28 = ld8_1(FAR(x3, 30));
-  x29 = ld8_1(FAR(x3, 31));
-  x30 = ld8_1(FAR(x3, 32));
-  x31 = ld8_1(FAR(x3, 33));
-  MEMSET(x32, 0u, 15);
-  MEMSET(x33, 0u, 15);
-  x34 = ld8_1(x1);
-  if (((u8)(x34 == 0u))) goto b0; else goto b1;
+  Q const x43 = Q_OF(y10_);
+  _Alignas(8) u8 y11_[8];
+  Q const x69 = Q_OF(y11_);
+  x23 = ld8_1(FAR(x3, 17));
+  x24 = ld32_1(FAR(x3, 18));
+  x25 = ld64_1(FAR(x3, 22));
+  x26 = ld8_1(FAR(x3, 30));
+  x27 = ld8_1(FAR(x3, 31));
+  x28 = ld8_1(FAR(x3, 32));
+  x29 = ld8_1(FAR(x3, 33));
+  MEMSET(x30, 0u, 32);
+  MEMSET(ADD(x31, 1), 0u, 16);
+  MEMSET(x32, 0u, 32);
+  MEMSET(x33, 0u, 16);
+  MEMSET(ADD(x34, 2), 0u, 15);
+  x35 = ld8_1(x1);
+  if (((u8)(x35 == 0u))) goto b0; else goto b1;
 b2:;
   return;
 b0:;
-  MEMSET(ADD(x35, 16), 0u, 56);
-  st8_1(x35, 13u);
-  MEMSET(ADD(x35, 1), 0u, 17);
-  x36 = f248(x1, x2, x35, x4);
-  MEMSET(x37, 0u, 15);
+  st8_1(x31, 0u);
+  f149(x30, x1, x2, x31, x4);
+  x36 = ld8_1(x30);
   st8_1(x0, x36);
-  st8_1(FAR(x0, 8), ((u8)(((u8)((u32)x36 << 1)) ^ 2u)));
-  st8_1(FAR(x0, 9), 0u);
-  st8_1(FAR(x0, 10), 0u);
-  MEMCPY(FAR(x0, 11), x37, 15);
+  x37 = ld8_1(ADD(x30, 8));
+  st8_1(FAR(x0, 8), x37);
+  x38 = ld8_1(ADD(x30, 9));
+  st8_1(FAR(x0, 9), x38);
+  MEMCPY(FAR(x0, 10), ADD(x30, 10), 16);
   goto b2;
 b1:;
-  x38 = FAR(x1, 1312);
-  x39 = FAR(x1, 1320);
-  MEMCPY(x40, x3, 17);
-  x41 = f251(FAR(x1, 1424), x3);
-  stp_8(x42, x40);
-  x43 = ldp_8(x39);
-  x44 = FAR(x1, 1328);
-  x45 = ld64_8(x44);
-  x46 = FAR(x1, 1368);
-  x47 = ldp_8(x46);
-  x48 = ld64_8(FAR(x1, 1376));
-  stp_8(x49, x42);
-  stp_8(ADD(x49, 8), x43);
-  st64_8(ADD(x49, 16), x45);
-  x50 = (u8)(x48 == 0u);
-  if (x50) goto b3; else goto b4;
+  x39 = FAR(x1, 1312);
+  x40 = FAR(x1, 1320);
+  MEMCPY(x41, x3, 17);
+  x42 = f244(FAR(x1, 1424), x3);
+  stp_8(x43, x41);
+  x44 = ldp_8(x40);
+  x45 = FAR(x1, 1328);
+  x46 = ld64_8(x45);
+  x47 = FAR(x1, 1368);
+  x48 = ldp_8(x47);
+  x49 = ld64_8(FAR(x1, 1376));
+  stp_8(x50, x43);
+  stp_8(ADD(x50, 8), x44);
+  st64_8(ADD(x50, 16), x46);
+  x51 = (u8)(x49 == 0u);
+  if (x51) goto b3; else goto b4;
 b4:;
-  x51 = (((u64)((u64)x41 >> 32)) ^ x41);
-  x52 = umax8(((u8)(((u64)((u64)x51 >> 24)))), 1u);
-  x5 = ((x51 & 4294967295u) & ((u64)((u64)x48 + 4294967295u)));
-  x53 = (u32)((u32)1u << (((u32)((u8)(x52 & 31u))) & 31u));
-  x54 = (u64)((u64)x48 + UINT64_C(18446744073709551615));
+  x52 = (((u64)((u64)x42 >> 32)) ^ x42);
+  x53 = umax8(((u8)(((u64)((u64)x52 >> 24)))), 1u);
+  x5 = ((x52 & 4294967295u) & ((u64)((u64)x49 + 4294967295u)));
+  x54 = (u32)((u32)1u << (((u32)((u8)(x53 & 31u))) & 31u));
+  x55 = (u64)((u64)x49 + UINT64_C(18446744073709551615));
   { x7 = x5; goto b5; }
 b5:;
-  x55 = FAR(x47, (u64)((u64)((u64)x7 << 6)));
-  x8 = f52(x55, x52);
+  x56 = FAR(x48, (u64)((u64)((u64)x7 << 6)));
+  x8 = f49(x56, x53);
   if (((u8)(x8 == 0u))) goto b6; else goto b7;
 b7:;
-  x56 = FAR(x55, 16);
+  x57 = FAR(x56, 16);
   { x10 = x8; goto b8; }
 b8:;
-  x57 = cttz32(x10);
-  x58 = ld32_4(ADD(x56, (u64)((u64)((u32)((u32)x57 << 2)))));
-  x59 = (u64)x58;
-  x60 = f252(x49, x59);
-  if (x60) goto b9; else goto b10;
+  x58 = cttz32(x10);
+  x59 = ld32_4(ADD(x57, (u64)((u64)((u32)((u32)x58 << 2)))));
+  x60 = (u64)x59;
+  x61 = f245(x50, x60);
+  if (x61) goto b9; else goto b10;
 b10:;
-  x9 = (((u32)((u32)x10 + 4095u)) & x10);
+  x9 = (((u32)((u32)x10 + 4294967295u)) & x10);
   if (((u8)(x9 == 0u))) goto b6; else { x10 = x9; goto b8; }
 b6:;
-  x61 = ld32_1(ADD(x55, 12));
-  if (((u8)((x61 & x53) == 0u))) goto b3; else goto b11;
+  x62 = ld32_1(ADD(x56, 12));
+  if (((u8)((x62 & x54) == 0u))) goto b3; else goto b11;
 b11:;
-  x6 = (((u64)((u64)x7 + 1u)) & x54);
+  x6 = (((u64)((u64)x7 + 1u)) & x55);
   if (((u8)(x6 == x5))) goto b3; else { x7 = x6; goto b5; }
 b9:;
-  if (((u8)(x45 > x59))) goto b12; else goto b13;
+  if (((u8)(x46 > x60))) goto b12; else goto b13;
 b12:;
-  x62 = ldp_8(FAR(x1, 1344));
-  x63 = FAR(x62, (u64)((u64)((u64)x59 * 17u)));
-  st8_1(x63, x25);
-  st32_1(FAR(x63, 1), x26);
-  st64_1(FAR(x63, 5), x27);
-  st8_1(FAR(x63, 13), x28);
-  st8_1(FAR(x63, 14), x29);
-  st8_1(FAR(x63, 15), x30);
-  st8_1(FAR(x63, 16), x31);
+  x63 = ldp_8(FAR(x1, 1344));
+  x64 = FAR(x63, (u64)((u64)((u64)x60 * 17u)));
+  st8_1(x64, x23);
+  st32_1(FAR(x64, 1), x24);
+  st64_1(FAR(x64, 5), x25);
+  st8_1(FAR(x64, 13), x26);
+  st8_1(FAR(x64, 14), x27);
+  st8_1(FAR(x64, 15), x28);
+  st8_1(FAR(x64, 16), x29);
   goto b13;
 b13:;
   goto b14;
 b3:;
-  x64 = ld64_8(x38);
-  if (((u8)(x64 > x45))) goto b15; else goto b16;
+  x65 = ld64_8(x39);
+  if (((u8)(x65 > x46))) goto b15; else goto b16;
 b15:;
-  MEMCPY(x65, x3, 17);
-  x66 = (((u64)((u64)x41 >> 32)) ^ x41);
-  x67 = (u32)(x66);
-  stp_8(x68, x65);
-  stp_8(x69, x68);
-  stp_8(ADD(x69, 8), x43);
-  st64_8(ADD(x69, 16), x45);
-  if (x50) goto b17; else goto b18;
+  MEMCPY(x66, x3, 17);
+  x67 = (((u64)((u64)x42 >> 32)) ^ x42);
+  x68 = (u32)(x67);
+  stp_8(x69, x66);
+  stp_8(x70, x69);
+  stp_8(ADD(x70, 8), x44);
+  st64_8(ADD(x70, 16), x46);
+  if (x51) goto b17; else goto b18;
 b18:;
-  x70 = umax8(((u8)(((u64)((u64)x66 >> 24)))), 1u);
-  x11 = ((x66 & 4294967295u) & ((u64)((u64)x48 + 4294967295u)));
-  x71 = (u32)((u32)1u << (((u32)((u8)(x70 & 31u))) & 31u));
-  x72 = (u64)((u64)x48 + UINT64_C(18446744073709551615));
+  x71 = umax8(((u8)(((u64)((u64)x67 >> 24)))), 1u);
+  x11 = ((x67 & 4294967295u) & ((u64)((u64)x49 + 4294967295u)));
+  x72 = (u32)((u32)1u << (((u32)((u8)(x71 & 31u))) & 31u));
+  x73 = (u64)((u64)x49 + UINT64_C(18446744073709551615));
   { x13 = x11; goto b19; }
 b19:;
-  x73 = FAR(x47, (u64)((u64)((u64)x13 << 6)));
-  x14 = f52(x73, x70);
+  x74 = FAR(x48, (u64)((u64)((u64)x13 << 6)));
+  x14 = f49(x74, x71);
   if (((u8)(x14 == 0u))) goto b20; else goto b21;
 b21:;
-  x74 = FAR(x73, 16);
+  x75 = FAR(x74, 16);
   { x16 = x14; goto b22; }
 b22:;
-  x75 = cttz32(x16);
-  x76 = ld32_4(ADD(x74, (u64)((u64)((u32)((u32)x75 << 2)))));
-  x77 = (u64)x76;
-  x78 = f252(x69, x77);
-  if (x78) goto b23; else goto b24;
+  x76 = cttz32(x16);
+  x77 = ld32_4(ADD(x75, (u64)((u64)((u32)((u32)x76 << 2)))));
+  x78 = (u64)x77;
+  x79 = f245(x70, x78);
+  if (x79) goto b23; else goto b24;
 b24:;
-  x15 = (((u32)((u32)x16 + 4095u)) & x16);
+  x15 = (((u32)((u32)x16 + 4294967295u)) & x16);
   if (((u8)(x15 == 0u))) goto b20; else { x16 = x15; goto b22; }
 b20:;
-  x79 = ld32_1(ADD(x73, 12));
-  if (((u8)((x79 & x71) == 0u))) goto b17; else goto b25;
+  x80 = ld32_1(ADD(x74, 12));
+  if (((u8)((x80 & x72) == 0u))) goto b17; else goto b25;
 b25:;
-  x12 = (((u64)((u64)x13 + 1u)) & x72);
+  x12 = (((u64)((u64)x13 + 1u)) & x73);
   if (((u8)(x12 == x11))) goto b17; else { x13 = x12; goto b19; }
 b23:;
-  x80 = ldp_8(FAR(x1, 1344));
-  x81 = FAR(x80, (u64)((u64)((u64)x77 * 17u)));
-  st8_1(x81, x25);
-  st32_1(FAR(x81, 1), x26);
-  st64_1(FAR(x81, 5), x27);
-  st8_1(FAR(x81, 13), x28);
-  st8_1(FAR(x81, 14), x29);
-  st8_1(FAR(x81, 15), x30);
-  st8_1(FAR(x81, 16), x31);
+  x81 = ldp_8(FAR(x1, 1344));
+  x82 = FAR(x81, (u64)((u64)((u64)x78 * 17u)));
+  st8_1(x82, x23);
+  st32_1(FAR(x82, 1), x24);
+  st64_1(FAR(x82, 5), x25);
+  st8_1(FAR(x82, 13), x26);
+  st8_1(FAR(x82, 14), x27);
+  st8_1(FAR(x82, 15), x28);
+  st8_1(FAR(x82, 16), x29);
   goto b26;
 b17:;
-  x82 = ld64_8(FAR(x1, 1336));
-  x83 = ld64_8(FAR(x1, 1360));
-  x84 = umin64(x83, x82);
-  x85 = usub_sat64(x84, x45);
-  x86 = ld64_8(FAR(x1, 1416));
-  x87 = umin64(x85, x86);
-  if (((u8)(x87 == 0u))) goto b27; else goto b28;
+  x83 = ld64_8(FAR(x1, 1336));
+  x84 = ld64_8(FAR(x1, 1360));
+  x85 = umin64(x84, x83);
+  x86 = usub_sat64(x85, x46);
+  x87 = ld64_8(FAR(x1, 1416));
+  x88 = umin64(x86, x87);
+  if (((u8)(x88 == 0u))) goto b27; else goto b28;
 b27:;
-  x88 = f258(x39);
-  if (((u8)(x88 == 0u))) goto b28; else goto b29;
+  x89 = f251(x40);
+  if (((u8)(x89 == 0u))) goto b28; else goto b29;
 b28:;
-  MEMCPY(x89, x65, 17);
-  f256(x46, x67);
-  x90 = ld64_8(x44);
-  x91 = ldp_8(x39);
-  MEMCPY(ADD(x91, (u64)((u64)((u64)x90 * 17u))), x89, 17);
-  st64_8(x44, ((u64)((u64)x90 + 1u)));
-  x92 = FAR(x1, 1352);
-  x93 = ld64_8(x92);
-  x94 = ldp_8(FAR(x1, 1344));
-  x95 = ADD(x94, (u64)((u64)((u64)x93 * 17u)));
-  st8_1(x95, x25);
-  st32_1(FAR(x95, 1), x26);
-  st64_1(FAR(x95, 5), x27);
-  st8_1(FAR(x95, 13), x28);
-  st8_1(FAR(x95, 14), x29);
-  st8_1(FAR(x95, 15), x30);
-  st8_1(FAR(x95, 16), x31);
-  st64_8(x92, ((u64)((u64)x93 + 1u)));
+  MEMCPY(x90, x66, 17);
+  f249(x47, x68);
+  x91 = ld64_8(x45);
+  x92 = ldp_8(x40);
+  MEMCPY(ADD(x92, (u64)((u64)((u64)x91 * 17u))), x90, 17);
+  st64_8(x45, ((u64)((u64)x91 + 1u)));
+  x93 = FAR(x1, 1352);
+  x94 = ld64_8(x93);
+  x95 = ldp_8(FAR(x1, 1344));
+  x96 = ADD(x95, (u64)((u64)((u64)x94 * 17u)));
+  st8_1(x96, x23);
+  st32_1(FAR(x96, 1), x24);
+  st64_1(FAR(x96, 5), x25);
+  st8_1(FAR(x96, 13), x26);
+  st8_1(FAR(x96, 14), x27);
+  st8_1(FAR(x96, 15), x28);
+  st8_1(FAR(x96, 16), x29);
+  st64_8(x93, ((u64)((u64)x94 + 1u)));
   goto b26;
 b26:;
   goto b14;
@@ -23016,31 +22978,25 @@ b29:;
   UNREACHABLE();
 b14:;
   st64_8(FAR(x1, 64), x2);
-  MEMCPY(x32, x33, 15);
-  { x18 = 0u; x20 = 0u; x22 = 0u; x24 = 0u; goto b30; }
+  MEMCPY(ADD(x32, 10), x33, 16);
+  { x18 = 0u; x20 = 0u; x22 = 0u; goto b30; }
 b16:;
-  MEMSET(ADD(x96, 16), 0u, 56);
-  st8_1(x96, 13u);
-  st8_1(ADD(x96, 1), 5u);
-  st8_1(ADD(x96, 2), 7u);
-  MEMSET(ADD(x96, 3), 0u, 15);
-  x19 = f248(x1, x2, x96, x4);
-  x97 = (u8)((x19) & 1u);
-  MEMSET(x32, 0u, 15);
-  x17 = (x97 ? 0u : 7u);
-  x21 = (x97 ? 0u : 2u);
-  x23 = (x97 ? 0u : 5u);
-  { x18 = x17; x20 = x19; x22 = x21; x24 = x23; goto b30; }
+  st8_1(x34, 5u);
+  st8_1(ADD(x34, 1), 7u);
+  f149(x32, x1, x2, x34, x4);
+  x21 = ld8_1(x32);
+  x19 = ld8_1(ADD(x32, 8));
+  x17 = ld8_1(ADD(x32, 9));
+  { x18 = x17; x20 = x19; x22 = x21; goto b30; }
 b30:;
-  st8_1(x0, x20);
-  st8_1(FAR(x0, 8), x22);
-  st8_1(FAR(x0, 9), x24);
-  st8_1(FAR(x0, 10), x18);
-  MEMCPY(FAR(x0, 11), x32, 15);
+  st8_1(x0, x22);
+  st8_1(FAR(x0, 8), x20);
+  st8_1(FAR(x0, 9), x18);
+  MEMCPY(FAR(x0, 10), ADD(x32, 10), 16);
   goto b2;
 }
 
-static u8 f258(Q x0)
+static u8 f251(Q x0)
 {
   u64 x3, x2, x1, x12, x14, x15;
   s_u64_u64 x6, x4, x17, x5;
@@ -23050,13 +23006,13 @@ static u8 f258(Q x0)
   x2 = ld64_8(x8);
   if (((u8)(x2 == 0u))) goto b0; else { x3 = x2; goto b1; }
 b0:;
-  x9 = f254(FAR(x0, 48));
+  x9 = f247(FAR(x0, 48));
   if (((u8)((x9) & 1u))) { x7 = 1u; goto b2; } else goto b3;
 b3:;
   x1 = ld64_8(x8);
   { x3 = x1; goto b1; }
 b1:;
-  x10 = f255(x0, x3);
+  x10 = f248(x0, x3);
   if (((u8)((x10) & 1u))) { x7 = 1u; goto b2; } else goto b4;
 b4:;
   x11 = FAR(x0, 24);
@@ -23087,321 +23043,143 @@ b2:;
   return x7;
 }
 
-static void f259(Q x0, Q x1, u64 x2, Q x3)
+static void f252(Q x0, Q x1, u64 x2, Q x3, Q x4)
 {
-  Q x5, x15, x24, x34, x35, x40, x4, x44, x50, x51;
-  u64 x7, x9, x36, x38, x41, x6, x8, x43, x45, x49;
-  u8 x11, x13, x25, x26, x27, x28, x29, x39, x46, x47, x48;
-  u32 x30, x31, x32;
-  _Alignas(8) u8 y0_[624];
-  Q const x18 = Q_OF(y0_);
-  Q const x12 = Q_OF(y0_);
-  _Alignas(1) u8 y1_[591];
-  Q const x33 = Q_OF(y1_);
-  _Alignas(8) u8 y2_[584];
-  Q const x23 = Q_OF(y2_);
-  Q const x37 = Q_OF(y2_);
-  _Alignas(8) u8 y3_[576];
-  Q const x21 = Q_OF(y3_);
-  _Alignas(1) u8 y4_[31];
-  Q const x20 = Q_OF(y4_);
-  _Alignas(8) u8 y5_[24];
-  Q const x19 = Q_OF(y5_);
-  _Alignas(8) u8 y6_[24];
-  Q const x42 = Q_OF(y6_);
-  _Alignas(1) u8 y7_[16];
-  Q const x17 = Q_OF(y7_);
-  _Alignas(2) u8 y8_[16];
-  Q const x14 = Q_OF(y8_);
-  _Alignas(2) u8 y9_[16];
-  Q const x10 = Q_OF(y9_);
-  _Alignas(1) u8 y10_[6];
-  Q const x22 = Q_OF(y10_);
-  _Alignas(1) u8 y11_[6];
-  Q const x16 = Q_OF(y11_);
-  MEMSET(x10, 0u, 16);
-  x11 = ld8_1(x1);
-  if (((u8)(x11 == 0u))) goto b0; else goto b1;
-b2:;
-  return;
-b0:;
-  MEMSET(ADD(x12, 16), 0u, 56);
-  st8_1(x12, 13u);
-  MEMSET(ADD(x12, 1), 0u, 17);
-  x13 = f248(x1, x2, x12, x3);
-  MEMSET(x14, 0u, 16);
-  st8_1(x0, x13);
-  st8_1(FAR(x0, 8), ((u8)(((u8)((u32)x13 << 1)) ^ 2u)));
-  st8_1(FAR(x0, 9), 0u);
-  MEMCPY(FAR(x0, 10), x14, 16);
-  goto b2;
-b1:;
-  x15 = FAR(x1, 1);
-  MEMCPY(x16, x15, 6);
-  MEMCPY(x17, FAR(x1, 286), 16);
-  st64_8(ADD(x18, 32), 0u);
-  MEMSET(x19, 0u, 24);
-  MEMSET(x20, 0u, 31);
-  MEMSET(x21, 0u, 576);
-  MEMCPY(x22, x15, 6);
-  MEMSET(x23, 0u, 584);
-  x24 = FAR(x1, 1112);
-  x25 = ld8_1(x24);
-  x26 = (u8)(x25 != 1u);
-  if (x26) goto b3; else goto b4;
-b4:;
-  x27 = ld8_1(FAR(x1, 1132));
-  x28 = ld8_1(FAR(x1, 1133));
-  x29 = ld8_1(FAR(x1, 1134));
-  x30 = ld32_1(FAR(x1, 1140));
-  x31 = ld32_1(FAR(x1, 1144));
-  x32 = ld32_1(FAR(x1, 1148));
-  f127(x23, FAR(x1, 1080), x22, x32);
-  x34 = ADD(x33, 7);
-  MEMCPY(x34, x23, 584);
-  st8_1(x18, 1u);
-  MEMSET(ADD(x18, 1), 0u, 3);
-  st8_1(ADD(x18, 4), x27);
-  st8_1(ADD(x18, 5), ((u8)(x28 & 1u)));
-  st8_1(ADD(x18, 6), ((u8)(x29 & 1u)));
-  st8_1(ADD(x18, 7), 1u);
-  st16_2(ADD(x18, 8), 0u);
-  st16_2(ADD(x18, 10), 0u);
-  st32_4(ADD(x18, 12), x30);
-  st32_4(ADD(x18, 16), x31);
-  MEMSET(ADD(x18, 20), 0u, 13);
-  x35 = ADD(x18, 40);
-  MEMCPY(x35, x34, 584);
-  x36 = ld64_8(FAR(x1, 1192));
-  MEMSET(x37, 0u, 32);
-  x38 = umax64(((u64)((u64)((u64)((u64)x36 << 5)) + 32u)), 32u);
-  f75(x37, ((u64)((u64)x38 + 54u)));
-  x39 = ld8_1(x37);
-  if (((u8)(x39 == 0u))) goto b5; else goto b6;
-b3:;
-  { x5 = Q_NULL; x7 = 0u; x9 = 0u; goto b7; }
-b5:;
-  x40 = ADD(x20, 7);
-  MEMCPY(x40, ADD(x37, 8), 24);
-  x41 = ld64_8(ADD(x18, 616));
-  MEMCPY(x42, x40, 24);
-  f129(x19, x42, x16, x17, x18, x35, x41);
-  f130(x35);
-  x4 = ldp_8(x19);
-  x6 = ld64_8(ADD(x19, 8));
-  x8 = ld64_8(ADD(x19, 16));
-  { x5 = x4; x7 = x6; x9 = x8; goto b7; }
-b7:;
-  x43 = ld64_8(FAR(x3, 16));
-  x44 = FAR(x3, 8);
-  x45 = ld64_8(x44);
-  if (((u8)(x43 == x45))) goto b8; else goto b9;
-b8:;
-  x46 = f83(x3, 1u);
-  if (x46) goto b9; else goto b10;
-b6:;
-  MEMCPY(x21, x34, 576);
-  f130(x21);
-  st8_1(x0, 1u);
-  MEMSET(FAR(x0, 8), 0u, 18);
-  goto b2;
-b9:;
-  x47 = ld8_1(x24);
-  if (((u8)(x47 == 1u))) goto b11; else goto b12;
-b11:;
-  x48 = ld8_1(FAR(x1, 1152));
-  if (((u8)(x48 == 0u))) goto b12; else goto b13;
-b10:;
-  if ((x26 ? 1u : ((u8)(x9 == 0u)))) goto b14; else goto b15;
-b15:;
-  os_rattle_dealloc(x5);
-  goto b14;
-b14:;
-  st8_1(x0, 1u);
-  MEMSET(FAR(x0, 8), 0u, 18);
-  goto b2;
-b13:;
-  st64_1(FAR(x1, 1096), 1u);
-  st64_1(FAR(x1, 1104), x2);
-  MEMSET(x24, 0u, 80);
-  st64_8(FAR(x1, 64), x2);
-  if (x26) goto b16; else goto b17;
-b17:;
-  x49 = ld64_8(x44);
-  x50 = ldp_8(x3);
-  x51 = ADD(x50, (u64)((u64)((u64)x49 * 80u)));
-  st64_1(x51, x2);
-  st64_1(ADD(x51, 8), 0u);
-  stp_1(ADD(x51, 16), x5);
-  st64_1(ADD(x51, 24), x7);
-  st64_1(ADD(x51, 32), x9);
-  MEMSET(ADD(x51, 40), 0u, 40);
-  st64_8(x44, ((u64)((u64)x49 + 1u)));
-  goto b16;
-b12:;
-  MEMSET(x24, 0u, 80);
-  st64_8(FAR(x1, 64), x2);
-  if ((x26 ? 1u : ((u8)(x9 == 0u)))) goto b16; else goto b18;
-b18:;
-  os_rattle_dealloc(x5);
-  goto b16;
-b16:;
-  st8_1(x0, 0u);
-  st8_1(FAR(x0, 8), 0u);
-  st8_1(FAR(x0, 9), 0u);
-  MEMCPY(FAR(x0, 10), x10, 16);
-  goto b2;
-}
-
-static void f260(Q x0, Q x1, u64 x2, Q x3, Q x4)
-{
-  u8 x6, x7, x8, x10, x12, x14, x16, x18, x20, x9, x5, x23, x31, x43, x47, x49, x52, x54, x56, x13, x60, x11, x15, x17;
-  Q x21, x32, x33, x34, x37, x41, x42, x44;
-  u32 x25, x46, x48, x53, x55;
-  u64 x27, x28, x29, x30, x35, x38, x40, x45, x50, x51;
-  s_u8_u64 x39;
+  u8 x6, x8, x10, x15, x16, x18, x19, x20, x27, x39, x43, x45, x48, x50, x52, x9, x7, x5;
+  u32 x21, x42, x44, x49, x51;
+  u64 x23, x24, x25, x26, x31, x34, x36, x41, x46, x47;
+  Q x28, x29, x30, x33, x37, x38, x40;
+  s_u8_u64 x35;
   _Alignas(8) u8 y0_[72];
-  Q const x59 = Q_OF(y0_);
-  Q const x57 = Q_OF(y0_);
-  Q const x22 = Q_OF(y0_);
-  _Alignas(1) u8 y1_[18];
-  Q const x19 = Q_OF(y1_);
-  _Alignas(1) u8 y2_[16];
-  Q const x36 = Q_OF(y2_);
-  _Alignas(8) u8 y3_[16];
-  Q const x26 = Q_OF(y3_);
-  _Alignas(1) u8 y4_[15];
-  Q const x24 = Q_OF(y4_);
-  _Alignas(1) u8 y5_[15];
-  Q const x58 = Q_OF(y5_);
-  f241(x19, x1);
-  x20 = ld8_1(x19);
-  if (((u8)(x20 == 1u))) goto b0; else goto b1;
-b5:;
+  Q const x53 = Q_OF(y0_);
+  _Alignas(8) u8 y1_[32];
+  Q const x11 = Q_OF(y1_);
+  _Alignas(8) u8 y2_[32];
+  Q const x12 = Q_OF(y2_);
+  _Alignas(1) u8 y3_[18];
+  Q const x14 = Q_OF(y3_);
+  _Alignas(1) u8 y4_[17];
+  Q const x17 = Q_OF(y4_);
+  _Alignas(1) u8 y5_[17];
+  Q const x13 = Q_OF(y5_);
+  _Alignas(1) u8 y6_[16];
+  Q const x32 = Q_OF(y6_);
+  _Alignas(8) u8 y7_[16];
+  Q const x22 = Q_OF(y7_);
+  MEMSET(x11, 0u, 32);
+  MEMSET(x12, 0u, 32);
+  MEMSET(ADD(x13, 2), 0u, 15);
+  f236(x14, x1);
+  x15 = ld8_1(x14);
+  if (((u8)(x15 == 1u))) goto b0; else goto b1;
+b2:;
   return;
 b0:;
-  x9 = ld8_1(ADD(x19, 1));
-  x5 = ld8_1(ADD(x19, 2));
-  x21 = ADD(x19, 3);
-  MEMSET(ADD(x22, 16), 0u, 56);
-  st8_1(x22, 13u);
-  st8_1(ADD(x22, 1), x9);
-  st8_1(ADD(x22, 2), x5);
-  MEMCPY(ADD(x22, 3), x21, 15);
-  x23 = f248(x1, x2, x22, x4);
-  if (((u8)((x23) & 1u))) goto b2; else goto b3;
-b3:;
-  MEMCPY(x24, x21, 15);
-  { x6 = x5; x7 = 0u; x8 = 2u; x10 = x9; goto b4; }
-b2:;
-  MEMSET(x24, 0u, 15);
-  { x6 = 0u; x7 = 1u; x8 = 0u; x10 = 0u; goto b4; }
-b4:;
-  st8_1(x0, x7);
-  st8_1(FAR(x0, 8), x8);
-  st8_1(FAR(x0, 9), x10);
-  st8_1(FAR(x0, 10), x6);
-  MEMCPY(FAR(x0, 11), x24, 15);
-  goto b5;
+  x16 = ld8_1(ADD(x14, 1));
+  st8_1(x17, x16);
+  MEMCPY(ADD(x17, 1), ADD(x14, 2), 16);
+  f149(x11, x1, x2, x17, x4);
+  x18 = ld8_1(x11);
+  st8_1(x0, x18);
+  x19 = ld8_1(ADD(x11, 8));
+  st8_1(FAR(x0, 8), x19);
+  x20 = ld8_1(ADD(x11, 9));
+  st8_1(FAR(x0, 9), x20);
+  MEMCPY(FAR(x0, 10), ADD(x11, 10), 16);
+  goto b2;
 b1:;
-  x25 = ld32_4(FAR(x1, 96));
-  MEMCPY(x26, x3, 16);
-  x27 = ld64_2(FAR(x1, 286));
-  x28 = ld64_2(FAR(x1, 294));
-  x29 = ld64_8(x26);
-  x30 = ld64_8(ADD(x26, 8));
-  x31 = (u8)u128_eq(u128_or(u128_shl(u128_of(0, x30), (unsigned)u128_low(u128_of(0u, 64u)) & 127u), u128_of(0, x29)), u128_or(u128_shl(u128_of(0, x28), (unsigned)u128_low(u128_of(0u, 64u)) & 127u), u128_of(0, x27)));
-  if (x31) goto b6; else goto b7;
-b6:;
-  goto b8;
-b7:;
-  x32 = FAR(x1, 312);
-  x33 = FAR(x1, 336);
-  x34 = FAR(x1, 392);
-  x35 = ld64_8(FAR(x1, 304));
-  MEMCPY(x36, x3, 16);
-  x37 = ldp_8(x32);
-  x38 = ld64_8(FAR(x1, 320));
-  x39 = f102(x37, x38, x26);
-  x40 = x39.f1;
-  if (((u8)((x39.f0) == 0u))) goto b9; else goto b10;
-b9:;
-  x41 = FAR(x37, (u64)((u64)((u64)x40 * 72u)));
-  x42 = FAR(x41, 32);
-  x43 = ld8_1(x42);
-  x44 = FAR(x41, 40);
-  x45 = ld64_1(x44);
-  x46 = ld32_4(FAR(x3, 20));
-  x47 = (u8)(x46 != 4294967295u);
-  st64_1(FAR(x41, 16), ((u64)x47));
-  st64_1(FAR(x41, 24), (x47 ? ((u64)((u64)((u64)((u64)((u64)x46) * 1000u)) + x2)) : 0u));
-  x48 = ld32_4(FAR(x3, 16));
-  x49 = (u8)(x48 != 4294967295u);
-  x50 = (u64)((u64)((u64)((u64)((u64)x48) * 1000u)) + x2);
-  x51 = (x49 ? x50 : 0u);
-  st64_1(x42, ((u64)x49));
-  st64_1(x44, x51);
-  st8_1(FAR(x41, 64), 1u);
-  x52 = (u8)x49;
-  if (((u8)(x43 == 1u))) goto b11; else goto b12;
-b11:;
-  if ((x49 ? ((u8)(x45 == x50)) : 0u)) goto b13; else goto b14;
-b12:;
-  if (x49) goto b14; else goto b13;
-b14:;
-  f85(x33, x43, x45, x52, x51, x36);
-  goto b13;
-b10:;
-  if (((u8)(x35 > x38))) goto b15; else goto b16;
-b15:;
-  x53 = ld32_4(FAR(x3, 20));
-  x54 = (u8)(x53 != 4294967295u);
-  x55 = ld32_4(FAR(x3, 16));
-  x56 = (u8)(x55 != 4294967295u);
-  MEMCPY(x57, x3, 16);
-  st64_8(ADD(x57, 16), ((u64)x54));
-  st64_8(ADD(x57, 24), (x54 ? ((u64)((u64)((u64)((u64)((u64)x53) * 1000u)) + x2)) : 0u));
-  st64_8(ADD(x57, 32), ((u64)x56));
-  st64_8(ADD(x57, 40), (x56 ? ((u64)((u64)((u64)((u64)((u64)x55) * 1000u)) + x2)) : 0u));
-  st8_1(ADD(x57, 48), 0u);
-  st8_1(ADD(x57, 49), 0u);
-  st16_2(ADD(x57, 50), 0u);
-  st32_4(ADD(x57, 52), x25);
-  st64_8(ADD(x57, 56), x2);
-  st8_1(ADD(x57, 64), 1u);
-  MEMSET(ADD(x57, 65), 0u, 7);
-  f220(x32, x33, x34, x40, x57);
-  goto b13;
-b13:;
-  goto b8;
-b8:;
-  f99(FAR(x1, 864));
-  st64_8(FAR(x1, 64), x2);
-  MEMSET(x58, 0u, 15);
-  { x12 = 0u; x14 = 0u; x16 = 0u; x18 = 0u; goto b17; }
-b16:;
-  MEMSET(ADD(x59, 16), 0u, 56);
-  st8_1(x59, 13u);
-  st8_1(ADD(x59, 1), 5u);
-  st8_1(ADD(x59, 2), 3u);
-  MEMSET(ADD(x59, 3), 0u, 15);
-  x13 = f248(x1, x2, x59, x4);
-  x60 = (u8)((x13) & 1u);
-  MEMSET(x58, 0u, 15);
-  x11 = (x60 ? 0u : 3u);
-  x15 = (x60 ? 0u : 2u);
-  x17 = (x60 ? 0u : 5u);
-  { x12 = x11; x14 = x13; x16 = x15; x18 = x17; goto b17; }
-b17:;
-  st8_1(x0, x14);
-  st8_1(FAR(x0, 8), x16);
-  st8_1(FAR(x0, 9), x18);
-  st8_1(FAR(x0, 10), x12);
-  MEMCPY(FAR(x0, 11), x58, 15);
+  x21 = ld32_4(FAR(x1, 96));
+  MEMCPY(x22, x3, 16);
+  x23 = ld64_2(FAR(x1, 286));
+  x24 = ld64_2(FAR(x1, 294));
+  x25 = ld64_8(x22);
+  x26 = ld64_8(ADD(x22, 8));
+  x27 = (u8)u128_eq(u128_or(u128_shl(u128_of(0, x26), (unsigned)u128_low(u128_of(0u, 64u)) & 127u), u128_of(0, x25)), u128_or(u128_shl(u128_of(0, x24), (unsigned)u128_low(u128_of(0u, 64u)) & 127u), u128_of(0, x23)));
+  if (x27) goto b3; else goto b4;
+b3:;
   goto b5;
+b4:;
+  x28 = FAR(x1, 312);
+  x29 = FAR(x1, 336);
+  x30 = FAR(x1, 392);
+  x31 = ld64_8(FAR(x1, 304));
+  MEMCPY(x32, x3, 16);
+  x33 = ldp_8(x28);
+  x34 = ld64_8(FAR(x1, 320));
+  x35 = f97(x33, x34, x22);
+  x36 = x35.f1;
+  if (((u8)((x35.f0) == 0u))) goto b6; else goto b7;
+b6:;
+  x37 = FAR(x33, (u64)((u64)((u64)x36 * 72u)));
+  x38 = FAR(x37, 32);
+  x39 = ld8_1(x38);
+  x40 = FAR(x37, 40);
+  x41 = ld64_1(x40);
+  x42 = ld32_4(FAR(x3, 20));
+  x43 = (u8)(x42 != 4294967295u);
+  st64_1(FAR(x37, 16), ((u64)x43));
+  st64_1(FAR(x37, 24), (x43 ? ((u64)((u64)((u64)((u64)((u64)x42) * 1000u)) + x2)) : 0u));
+  x44 = ld32_4(FAR(x3, 16));
+  x45 = (u8)(x44 != 4294967295u);
+  x46 = (u64)((u64)((u64)((u64)((u64)x44) * 1000u)) + x2);
+  x47 = (x45 ? x46 : 0u);
+  st64_1(x38, ((u64)x45));
+  st64_1(x40, x47);
+  st8_1(FAR(x37, 64), 1u);
+  x48 = (u8)x45;
+  if (((u8)(x39 == 1u))) goto b8; else goto b9;
+b8:;
+  if ((x45 ? ((u8)(x41 == x46)) : 0u)) goto b10; else goto b11;
+b9:;
+  if (x45) goto b11; else goto b10;
+b11:;
+  f80(x29, x39, x41, x48, x47, x32);
+  goto b10;
+b7:;
+  if (((u8)(x31 > x34))) goto b12; else goto b13;
+b12:;
+  x49 = ld32_4(FAR(x3, 20));
+  x50 = (u8)(x49 != 4294967295u);
+  x51 = ld32_4(FAR(x3, 16));
+  x52 = (u8)(x51 != 4294967295u);
+  MEMCPY(x53, x3, 16);
+  st64_8(ADD(x53, 16), ((u64)x50));
+  st64_8(ADD(x53, 24), (x50 ? ((u64)((u64)((u64)((u64)((u64)x49) * 1000u)) + x2)) : 0u));
+  st64_8(ADD(x53, 32), ((u64)x52));
+  st64_8(ADD(x53, 40), (x52 ? ((u64)((u64)((u64)((u64)((u64)x51) * 1000u)) + x2)) : 0u));
+  st8_1(ADD(x53, 48), 0u);
+  st8_1(ADD(x53, 49), 0u);
+  st16_2(ADD(x53, 50), 0u);
+  st32_4(ADD(x53, 52), x21);
+  st64_8(ADD(x53, 56), x2);
+  st8_1(ADD(x53, 64), 1u);
+  MEMSET(ADD(x53, 65), 0u, 7);
+  f215(x28, x29, x30, x36, x53);
+  goto b10;
+b10:;
+  goto b5;
+b5:;
+  f94(FAR(x1, 864));
+  st64_8(FAR(x1, 64), x2);
+  MEMSET(ADD(x12, 8), 0u, 18);
+  { x6 = 0u; x8 = 0u; x10 = 0u; goto b14; }
+b13:;
+  st8_1(x13, 5u);
+  st8_1(ADD(x13, 1), 3u);
+  f149(x12, x1, x2, x13, x4);
+  x9 = ld8_1(x12);
+  x7 = ld8_1(ADD(x12, 8));
+  x5 = ld8_1(ADD(x12, 9));
+  { x6 = x5; x8 = x7; x10 = x9; goto b14; }
+b14:;
+  st8_1(x0, x10);
+  st8_1(FAR(x0, 8), x8);
+  st8_1(FAR(x0, 9), x6);
+  MEMCPY(FAR(x0, 10), ADD(x12, 10), 16);
+  goto b2;
 }
 
-static void f261(Q x0, Q x1, u64 x2, Q x3, Q x4)
+static void f253(Q x0, Q x1, u64 x2, Q x3, Q x4)
 {
   u64 x7, x9, x12, x13, x14, x15, x19, x22;
   Q x8, x17, x18, x23, x24;
@@ -23417,12 +23195,12 @@ static void f261(Q x0, Q x1, u64 x2, Q x3, Q x4)
   Q const x5 = Q_OF(y3_);
   MEMCPY(x5, x3, 16);
   MEMSET(ADD(x6, 16), 0u, 17);
-  x7 = ld64_8(FAR(x4, 16));
-  x8 = FAR(x4, 8);
+  x7 = ld64_8(FAR(x4, 40));
+  x8 = FAR(x4, 32);
   x9 = ld64_8(x8);
   if (((u8)(x7 == x9))) goto b0; else goto b1;
 b0:;
-  x10 = f83(x4, 1u);
+  x10 = f78(FAR(x4, 24), 1u);
   if (x10) goto b1; else goto b2;
 b1:;
   MEMCPY(x11, x5, 16);
@@ -23438,7 +23216,7 @@ b4:;
   x17 = FAR(x1, 312);
   x18 = ldp_8(x17);
   x19 = ld64_8(FAR(x1, 320));
-  x20 = f102(x18, x19, x11);
+  x20 = f97(x18, x19, x11);
   if (((u8)((x20.f0) == 0u))) goto b6; else goto b7;
 b7:;
   goto b5;
@@ -23454,11 +23232,11 @@ b5:;
   MEMSET(FAR(x0, 8), 0u, 18);
   goto b8;
 b6:;
-  f101(x21, x17, FAR(x1, 336), FAR(x1, 392), (x20.f1));
-  f99(FAR(x1, 864));
+  f96(x21, x17, FAR(x1, 336), FAR(x1, 392), (x20.f1));
+  f94(FAR(x1, 864));
   MEMCPY(x6, x5, 16);
   x22 = ld64_8(x8);
-  x23 = ldp_8(x4);
+  x23 = ldp_8(FAR(x4, 24));
   x24 = ADD(x23, (u64)((u64)((u64)x22 * 80u)));
   st64_1(x24, x2);
   st8_1(ADD(x24, 8), 6u);
@@ -23471,132 +23249,124 @@ b6:;
   goto b8;
 }
 
-static void f262(Q x0, Q x1, u64 x2, Q x3, Q x4, u8 x5, Q x6, u64 x7, Q x8)
+static void f254(Q x0, Q x1, u64 x2, Q x3, Q x4, u8 x5, Q x6, u64 x7, Q x8)
 {
-  u8 x9, x10, x11, x12, x24, x26, x30, x32, x33, x37, x38, x39;
-  Q x20, x21, x31, x34, x36, x41;
-  u64 x22, x28, x35, x40;
-  s_u8_u64 x23;
-  u32 x27;
-  _Alignas(8) u8 y0_[72];
-  Q const x29 = Q_OF(y0_);
-  _Alignas(8) u8 y1_[64];
-  Q const x17 = Q_OF(y1_);
+  u8 x9, x21, x23, x27, x28, x29, x30, x31, x35, x36, x37;
+  Q x17, x18, x32, x34, x39;
+  u64 x19, x25, x33, x38;
+  s_u8_u64 x20;
+  u32 x24;
+  _Alignas(8) u8 y0_[64];
+  Q const x14 = Q_OF(y0_);
+  _Alignas(8) u8 y1_[32];
+  Q const x12 = Q_OF(y1_);
   _Alignas(8) u8 y2_[32];
   Q const x15 = Q_OF(y2_);
-  _Alignas(8) u8 y3_[32];
-  Q const x18 = Q_OF(y3_);
-  _Alignas(8) u8 y4_[24];
-  Q const x16 = Q_OF(y4_);
+  _Alignas(8) u8 y3_[24];
+  Q const x13 = Q_OF(y3_);
+  _Alignas(1) u8 y4_[17];
+  Q const x26 = Q_OF(y4_);
   _Alignas(1) u8 y5_[16];
-  Q const x19 = Q_OF(y5_);
+  Q const x16 = Q_OF(y5_);
   _Alignas(1) u8 y6_[16];
-  Q const x13 = Q_OF(y6_);
+  Q const x10 = Q_OF(y6_);
   _Alignas(1) u8 y7_[16];
-  Q const x14 = Q_OF(y7_);
+  Q const x11 = Q_OF(y7_);
   _Alignas(1) u8 y8_[16];
-  Q const x25 = Q_OF(y8_);
-  MEMCPY(x13, x3, 16);
-  MEMCPY(x14, x4, 16);
+  Q const x22 = Q_OF(y8_);
+  MEMCPY(x10, x3, 16);
+  MEMCPY(x11, x4, 16);
+  MEMSET(x12, 0u, 32);
+  MEMSET(x13, 0u, 24);
+  MEMSET(x14, 0u, 64);
   MEMSET(x15, 0u, 32);
-  MEMSET(x16, 0u, 24);
-  MEMSET(x17, 0u, 64);
-  MEMSET(x18, 0u, 32);
-  MEMCPY(x19, x3, 16);
-  x20 = FAR(x1, 280);
-  x21 = ldp_8(FAR(x1, 312));
-  x22 = ld64_8(FAR(x1, 320));
-  x23 = f102(x21, x22, FAR(x1, 286));
-  if (((u8)((x23.f0) == 0u))) goto b0; else goto b1;
+  MEMCPY(x16, x3, 16);
+  x17 = FAR(x1, 280);
+  x18 = ldp_8(FAR(x1, 312));
+  x19 = ld64_8(FAR(x1, 320));
+  x20 = f97(x18, x19, FAR(x1, 286));
+  if (((u8)((x20.f0) == 0u))) goto b0; else goto b1;
 b0:;
-  x24 = ld8_1(FAR(FAR(x21, (u64)((u64)((u64)(x23.f1) * 72u))), 48));
-  if (((u8)(x24 == 1u))) goto b2; else goto b1;
+  x21 = ld8_1(FAR(FAR(x18, (u64)((u64)((u64)(x20.f1) * 72u))), 48));
+  if (((u8)(x21 == 1u))) goto b2; else goto b1;
 b2:;
-  MEMSET(x25, 0u, 16);
+  MEMSET(x22, 0u, 16);
   { x9 = 1u; goto b3; }
 b1:;
-  x26 = f138(x20, 1u, x19);
-  if (x26) goto b4; else goto b5;
+  x23 = f132(x17, 1u, x16);
+  if (x23) goto b4; else goto b5;
 b5:;
-  MEMCPY(x25, x3, 16);
+  MEMCPY(x22, x3, 16);
   { x9 = 3u; goto b3; }
 b4:;
-  x27 = ld32_4(FAR(x1, 76));
-  x28 = uadd_sat64(x7, 40u);
-  if (((u8)(x28 > ((u64)x27)))) goto b6; else goto b7;
+  x24 = ld32_4(FAR(x1, 76));
+  x25 = uadd_sat64(x7, 40u);
+  if (((u8)(x25 > ((u64)x24)))) goto b6; else goto b7;
 b6:;
-  MEMSET(x25, 0u, 16);
+  MEMSET(x22, 0u, 16);
   { x9 = 4u; goto b3; }
-b11:;
+b8:;
   return;
 b3:;
-  MEMSET(ADD(x29, 16), 0u, 56);
-  st8_1(x29, 13u);
-  st8_1(ADD(x29, 1), x9);
-  MEMCPY(ADD(x29, 2), x25, 16);
-  x30 = f248(x1, x2, x29, x8);
-  x31 = ADD(x15, 10);
-  if (((u8)((x30) & 1u))) goto b8; else goto b9;
-b9:;
-  MEMCPY(x31, x25, 16);
-  { x10 = 0u; x11 = 2u; x12 = x9; goto b10; }
-b8:;
-  MEMSET(x31, 0u, 16);
-  { x10 = 1u; x11 = 0u; x12 = 0u; goto b10; }
-b10:;
-  st8_1(x0, x10);
-  st8_1(FAR(x0, 8), x11);
-  st8_1(FAR(x0, 9), x12);
-  MEMCPY(FAR(x0, 10), x31, 16);
-  goto b11;
+  st8_1(x26, x9);
+  MEMCPY(ADD(x26, 1), x22, 16);
+  f149(x12, x1, x2, x26, x8);
+  x27 = ld8_1(x12);
+  st8_1(x0, x27);
+  x28 = ld8_1(ADD(x12, 8));
+  st8_1(FAR(x0, 8), x28);
+  x29 = ld8_1(ADD(x12, 9));
+  st8_1(FAR(x0, 9), x29);
+  MEMCPY(FAR(x0, 10), ADD(x12, 10), 16);
+  goto b8;
 b7:;
-  f75(x18, x7);
-  x32 = ld8_1(x18);
-  if (((u8)(x32 == 0u))) goto b12; else goto b13;
+  f72(x15, x7);
+  x30 = ld8_1(x15);
+  if (((u8)(x30 == 0u))) goto b9; else goto b10;
+b9:;
+  MEMCPY(x13, ADD(x15, 8), 24);
+  x31 = f107(x13, x6, x7);
+  if (((u8)((x31) & 1u))) goto b11; else goto b12;
+b10:;
+  st8_1(x0, 1u);
+  MEMSET(FAR(x0, 8), 0u, 18);
+  goto b8;
 b12:;
-  MEMCPY(x16, ADD(x18, 8), 24);
-  x33 = f112(x16, x6, x7);
-  if (((u8)((x33) & 1u))) goto b14; else goto b15;
-b13:;
-  st8_1(x0, 1u);
-  MEMSET(FAR(x0, 8), 0u, 18);
-  goto b11;
-b15:;
-  MEMCPY(x17, x13, 16);
-  MEMCPY(ADD(x17, 16), x14, 16);
-  st8_1(ADD(x17, 32), x5);
-  x34 = ADD(x17, 40);
-  MEMCPY(x34, x16, 24);
-  f235(x15, x1, x2, x17, x8);
-  x35 = ld64_8(ADD(x17, 56));
-  if (((u8)(x35 == 0u))) goto b16; else goto b17;
-b17:;
-  x36 = ldp_8(x34);
-  os_rattle_dealloc(x36);
-  goto b16;
-b16:;
-  x37 = ld8_1(x15);
-  st8_1(x0, x37);
-  x38 = ld8_1(ADD(x15, 8));
-  st8_1(FAR(x0, 8), x38);
-  x39 = ld8_1(ADD(x15, 9));
-  st8_1(FAR(x0, 9), x39);
-  MEMCPY(FAR(x0, 10), ADD(x15, 10), 16);
-  goto b11;
+  MEMCPY(x14, x10, 16);
+  MEMCPY(ADD(x14, 16), x11, 16);
+  st8_1(ADD(x14, 32), x5);
+  x32 = ADD(x14, 40);
+  MEMCPY(x32, x13, 24);
+  f230(x12, x1, x2, x14, x8);
+  x33 = ld64_8(ADD(x14, 56));
+  if (((u8)(x33 == 0u))) goto b13; else goto b14;
 b14:;
-  x40 = ld64_8(ADD(x16, 16));
-  if (((u8)(x40 == 0u))) goto b18; else goto b19;
-b19:;
-  x41 = ldp_8(x16);
-  os_rattle_dealloc(x41);
-  goto b18;
-b18:;
+  x34 = ldp_8(x32);
+  os_rattle_dealloc(x34);
+  goto b13;
+b13:;
+  x35 = ld8_1(x12);
+  st8_1(x0, x35);
+  x36 = ld8_1(ADD(x12, 8));
+  st8_1(FAR(x0, 8), x36);
+  x37 = ld8_1(ADD(x12, 9));
+  st8_1(FAR(x0, 9), x37);
+  MEMCPY(FAR(x0, 10), ADD(x12, 10), 16);
+  goto b8;
+b11:;
+  x38 = ld64_8(ADD(x13, 16));
+  if (((u8)(x38 == 0u))) goto b15; else goto b16;
+b16:;
+  x39 = ldp_8(x13);
+  os_rattle_dealloc(x39);
+  goto b15;
+b15:;
   st8_1(x0, 1u);
   MEMSET(FAR(x0, 8), 0u, 18);
-  goto b11;
+  goto b8;
 }
 
-static u32 f263(Q x0)
+static u32 f255(Q x0)
 {
   u32 x1, x3, x5, x2, x4;
   u8 x6, x7, x8;
@@ -23632,91 +23402,7 @@ b4:;
   UNREACHABLE();
 }
 
-static u8 f264(Q x0, u64 x1)
-{
-  u8 x2;
-  s_u64_u64 x5, x3, x10, x4;
-  Q x6, x9;
-  u64 x7, x8;
-  if (((u8)((int64_t)x1 > (int64_t)UINT64_C(18446744073709551615)))) goto b0; else { x2 = 0u; goto b1; }
-b1:;
-  return x2;
-b0:;
-  x6 = FAR(x0, 16);
-  x7 = ld64_8(x6);
-  if (((u8)(x7 == 0u))) goto b2; else goto b3;
-b3:;
-  x8 = ld64_8(FAR(x0, 8));
-  x9 = ldp_8(x0);
-  x3 = os_rattle_realloc(x9, x8, x1, 1u);
-  if (((u8)(((x3.f0)) & 1u))) { x5 = x3; goto b4; } else { x2 = 0u; goto b1; }
-b2:;
-  x10 = os_rattle_alloc(x1, 1u);
-  x4 = s_u64_u64_frozen(x10);
-  if (((u8)(((x4.f0)) & 1u))) { x5 = x4; goto b4; } else { x2 = 0u; goto b1; }
-b4:;
-  stp_8(x0, ((Q)(u64)(x5.f1)));
-  st64_8(x6, x1);
-  { x2 = 1u; goto b1; }
-}
-
-static void f265(Q x0, Q x1, u64 x2)
-{
-  u64 x5, x8, x10, x4, x7, x6, x3, x9;
-  Q x11, x12, x14, x15;
-  u8 x13, x16;
-  x11 = FAR(x0, 16);
-  x4 = ld64_8(x11);
-  x12 = FAR(x0, 8);
-  x7 = ld64_8(x12);
-  if (((u8)(x2 > ((u64)((u64)x4 - x7))))) goto b0; else { x5 = x4; x8 = x7; goto b1; }
-b0:;
-  x13 = f266(x0, x2);
-  if (x13) goto b2; else goto b3;
-b2:;
-  x6 = ld64_8(x12);
-  x3 = ld64_8(x11);
-  { x5 = x3; x8 = x6; goto b1; }
-b1:;
-  x14 = ldp_8(x0);
-  MEMSET(x12, 0u, 16);
-  x15 = FAR(x14, (u64)x8);
-  if (((u8)(((u64)((u64)((u64)((u64)x15)) - ((u64)((u64)x1)))) < x2))) { x10 = 0u; goto b4; } else goto b5;
-b5:;
-  memmove_n(x15, x1, x2);
-  goto b6;
-b4:;
-  x16 = ld8_1(ADD(x1, (u64)x10));
-  st8_1(ADD(x15, (u64)x10), x16);
-  x9 = (u64)((u64)x10 + 1u);
-  if (((u8)(x9 == x2))) goto b6; else { x10 = x9; goto b4; }
-b3:;
-  TRAP();
-  UNREACHABLE();
-b6:;
-  stp_8(x0, x14);
-  st64_8(x12, ((u64)((u64)x8 + x2)));
-  st64_8(x11, x5);
-  return;
-}
-
-static u8 f266(Q x0, u64 x1)
-{
-  u8 x3, x2;
-  u64 x4, x5, x6, x7;
-  x4 = ld64_8(FAR(x0, 8));
-  if (((u8)(x1 > (x4 ^ UINT64_C(18446744073709551615))))) { x3 = 0u; goto b0; } else goto b1;
-b0:;
-  return x3;
-b1:;
-  x5 = ld64_8(FAR(x0, 16));
-  x6 = umax64(((u64)((u64)x4 + x1)), 8u);
-  x7 = umax64(x6, ((u64)((u64)x5 << 1)));
-  x2 = f264(x0, (((u8)(x5 < UINT64_C(4611686018427387904))) ? x7 : x6));
-  { x3 = x2; goto b0; }
-}
-
-static void f267(Q x0, Q x1, u64 x2, Q x3)
+static void f256(Q x0, Q x1, u64 x2, Q x3)
 {
   u8 x6, x7, x8;
   _Alignas(1) u8 y0_[17];
@@ -23728,11 +23414,11 @@ static void f267(Q x0, Q x1, u64 x2, Q x3)
   x6 = ld8_1(x1);
   if (((u8)(x6 == 0u))) goto b0; else goto b1;
 b0:;
-  f170(x5, x1, x2, x4);
+  f166(x5, x1, x2, x4);
   goto b2;
 b1:;
-  x7 = f138(FAR(x1, 280), 0u, x4);
-  f144(x5, FAR(x1, 1312), x4, x7);
+  x7 = f132(FAR(x1, 280), 0u, x4);
+  f138(x5, FAR(x1, 1312), x4, x7);
   goto b2;
 b2:;
   x8 = ld8_1(x5);
@@ -23741,31 +23427,82 @@ b2:;
   return;
 }
 
-static void f268(Q x0, Q x1, u64 x2, Q x3)
+static void f257(Q x0, Q x1, u64 x2, Q x3)
 {
-  u64 x4, x6, x7;
-  Q x5;
-  s_u8_u64 x8;
-  _Alignas(8) u8 y0_[48];
-  Q const x9 = Q_OF(y0_);
-  x5 = ldp_8(x1);
-  x6 = ld64_8(FAR(x1, 8));
-  x7 = ld64_8(FAR(x1, 176));
-  x8 = f152(x5, x6, x3, x7);
-  if (((u8)((x8.f0) == 0u))) goto b0; else goto b1;
+  u8 x5, x9, x10, x13, x23, x12, x11, x26, x27, x28, x4;
+  u64 x8, x15, x17, x19, x20, x7, x29, x6, x14, x16;
+  Q x18, x22, x25;
+  s_u8_u64 x21;
+  _Alignas(8) u8 y0_[16];
+  Q const x31 = Q_OF(y0_);
+  _Alignas(1) u8 y1_[6];
+  Q const x24 = Q_OF(y1_);
+  _Alignas(1) u8 y2_[6];
+  Q const x30 = Q_OF(y2_);
+  x18 = ldp_8(x1);
+  x19 = ld64_8(FAR(x1, 8));
+  x20 = ld64_8(FAR(x1, 176));
+  x21 = f147(x18, x19, x3, x20);
+  x22 = FAR(x18, (u64)((u64)((u64)(x21.f1) * 72u)));
+  if (((u8)((x21.f0) == 0u))) goto b0; else goto b1;
 b0:;
-  f247(x9, FAR(x5, (u64)((u64)((u64)(x8.f1) * 72u))), x2);
-  MEMCPY(FAR(x0, 8), x9, 48);
-  { x4 = 1u; goto b2; }
+  x23 = ld8_1(FAR(x22, 32));
+  if (((u8)(x23 == 0u))) goto b2; else goto b3;
 b2:;
-  st64_1(x0, x4);
+  MEMSET(x24, 0u, 6);
+  x12 = ld8_1(FAR(x22, 16));
+  { x10 = 0u; x13 = x12; x15 = 0u; x17 = 0u; goto b4; }
+b3:;
+  MEMCPY(x24, FAR(x22, 33), 6);
+  x11 = ld8_1(FAR(x22, 16));
+  x25 = FAR(x22, 48);
+  x26 = ld8_1(FAR(x22, 39));
+  x27 = (u8)((x26) & 1u);
+  if (x27) goto b5; else goto b6;
+b5:;
+  x7 = ld64_8(FAR(x22, 40));
+  if (((u8)(x2 < x7))) goto b7; else goto b6;
+b6:;
+  x28 = ld8_1(x25);
+  if (((u8)(x28 == 0u))) { x5 = 2u; goto b8; } else goto b9;
+b9:;
+  x29 = ld64_8(FAR(x22, 56));
+  x4 = (((u8)(x2 < x29)) ? 3u : 4u);
+  { x5 = x4; goto b8; }
+b8:;
+  if (((u8)(x23 == 1u))) goto b10; else { x10 = x5; x13 = x11; x15 = 0u; x17 = 0u; goto b4; }
+b7:;
+  if (((u8)(x23 == 1u))) { x8 = x7; x9 = 1u; goto b11; } else { x10 = 1u; x13 = x11; x15 = 0u; x17 = 0u; goto b4; }
+b10:;
+  if (x27) goto b12; else { x10 = x5; x13 = x11; x15 = 0u; x17 = 0u; goto b4; }
+b12:;
+  x6 = ld64_8(FAR(x22, 40));
+  { x8 = x6; x9 = x5; goto b11; }
+b11:;
+  x14 = usub_sat64(x8, x2);
+  x16 = (u64)((u8)(x2 < x8));
+  { x10 = x9; x13 = x11; x15 = x14; x17 = x16; goto b4; }
+b4:;
+  MEMCPY(x30, x24, 6);
+  MEMCPY(x31, x22, 16);
+  st64_1(x0, 1u);
+  MEMCPY(FAR(x0, 8), x31, 16);
+  st8_1(FAR(x0, 24), x23);
+  MEMCPY(FAR(x0, 25), x30, 6);
+  st8_1(FAR(x0, 31), x13);
+  st8_1(FAR(x0, 32), x10);
+  MEMSET(FAR(x0, 33), 0u, 7);
+  st64_1(FAR(x0, 40), x17);
+  st64_1(FAR(x0, 48), x15);
+  goto b13;
+b13:;
   return;
 b1:;
-  MEMSET(FAR(x0, 8), 0u, 48);
-  { x4 = 0u; goto b2; }
+  MEMSET(x0, 0u, 56);
+  goto b13;
 }
 
-static void f269(Q x0, Q x1, u64 x2, Q x3)
+static void f258(Q x0, Q x1, u64 x2, Q x3)
 {
   u8 x6, x10, x12, x14, x16, x19, x20, x21, x22, x36, x5, x38, x39, x4, x40, x41, x42, x48, x49, x11, x50, x56, x58, x13, x15;
   u64 x9, x18, x23, x8, x37, x7, x43, x45, x47, x59, x17;
@@ -23814,7 +23551,7 @@ static void f269(Q x0, Q x1, u64 x2, Q x3)
   MEMCPY(x33, x3, 16);
   MEMSET(x34, 0u, 64);
   MEMSET(x35, 0u, 64);
-  f270(x34, x1, x2, x33);
+  f259(x34, x1, x2, x33);
   x36 = ld8_1(x34);
   if (((u8)(x36 == 1u))) goto b0; else goto b1;
 b0:;
@@ -23826,10 +23563,10 @@ b1:;
   x37 = f16(x1);
   if (((u8)(x2 < x37))) goto b3; else goto b4;
 b4:;
-  x38 = f80(x1, x2);
+  x38 = f76(x1, x2);
   if (((u8)((x38) & 1u))) goto b5; else goto b3;
 b3:;
-  f270(x35, x1, x2, x33);
+  f259(x35, x1, x2, x33);
   x39 = ld8_1(x35);
   if (((u8)(x39 == 1u))) goto b6; else goto b7;
 b6:;
@@ -23844,7 +23581,7 @@ b2:;
   MEMCPY(x27, ADD(x28, 7), 40);
   st64_8(ADD(x27, 40), ((u64)x6));
   st64_8(ADD(x27, 48), x9);
-  f272(x29, x1, x2, x24, x27);
+  f261(x29, x1, x2, x24, x27);
   x40 = ld8_1(x29);
   if (((u8)(x40 == 1u))) goto b8; else goto b9;
 b10:;
@@ -23871,21 +23608,21 @@ b8:;
   st64_1(ADD(x0, 40), x43);
   goto b10;
 b9:;
-  x44 = FAR(x1, 1584);
+  x44 = FAR(x1, 1560);
   x45 = ld64_8(x44);
   if (((u8)(x45 == UINT64_C(18446744073709551615)))) goto b11; else goto b12;
 b12:;
   st64_8(x44, ((u64)((u64)x45 + 1u)));
   goto b11;
 b11:;
-  x46 = FAR(x1, 1576);
+  x46 = FAR(x1, 1552);
   x47 = ld64_8(x46);
   if (((u8)(x47 == UINT64_C(18446744073709551615)))) goto b13; else goto b14;
 b14:;
   st64_8(x46, ((u64)((u64)x47 + 1u)));
   goto b13;
 b13:;
-  f240(x30, x1, x2, x24, FAR(x1, 1496));
+  f235(x30, x1, x2, x24, FAR(x1, 1448));
   x48 = ld8_1(x30);
   x49 = ld8_1(ADD(x30, 2));
   x11 = ld8_1(ADD(x30, 19));
@@ -23901,7 +23638,7 @@ b17:;
   MEMCPY(x55, x52, 16);
   { x10 = 1u; x12 = 0u; x14 = 0u; x16 = 0u; x18 = 0u; goto b19; }
 b18:;
-  f270(x54, x1, x2, x24);
+  f259(x54, x1, x2, x24);
   x56 = ld8_1(x54);
   if (((u8)(x56 == 1u))) goto b20; else goto b21;
 b20:;
@@ -23910,7 +23647,7 @@ b20:;
   st64_8(ADD(x57, 40), ((u64)x58));
   x59 = ld64_8(ADD(x54, 56));
   st64_8(ADD(x57, 48), x59);
-  f272(x60, x1, x2, x24, x57);
+  f261(x60, x1, x2, x24, x57);
   x13 = ld8_1(ADD(x57, 24));
   x15 = ld8_1(ADD(x57, 25));
   x17 = ld64_8(ADD(x57, 32));
@@ -23944,7 +23681,7 @@ b16:;
   goto b10;
 }
 
-static void f270(Q x0, Q x1, u64 x2, Q x3)
+static void f259(Q x0, Q x1, u64 x2, Q x3)
 {
   u8 x5, x7, x9, x12, x15, x18, x21, x34, x43, x11, x14, x17, x20, x46, x4, x6, x8, x10, x13, x16, x19, x49;
   u64 x23, x26, x28, x30, x32, x37, x39, x25, x22, x24, x29, x27;
@@ -23973,7 +23710,7 @@ b1:;
   MEMSET(x0, 0u, 64);
   goto b2;
 b0:;
-  f267(x33, x1, x2, x31);
+  f256(x33, x1, x2, x31);
   x34 = ld8_1(x33);
   switch (x34) { case 0u: goto b3; case 1u: goto b4; case 2u: goto b5; default: goto b6; }
 b3:;
@@ -23989,7 +23726,7 @@ b7:;
   x37 = ld64_8(FAR(x1, 456));
   x38 = FAR(x1, 624);
   x39 = ld64_8(x38);
-  x40 = f152(x36, x37, x35, x39);
+  x40 = f147(x36, x37, x35, x39);
   if (((u8)((x40.f0) == 0u))) goto b8; else goto b5;
 b8:;
   st64_8(x38, (x40.f1));
@@ -24005,7 +23742,7 @@ b5:;
   x17 = ld8_1(ADD(x31, 14));
   x20 = ld8_1(ADD(x31, 15));
   MEMSET(x45, 0u, 56);
-  x46 = f138(FAR(x1, 280), 1u, FAR(x1, 286));
+  x46 = f132(FAR(x1, 280), 1u, FAR(x1, 286));
   switch (x34) { case 2u: goto b9; case 1u: goto b10; case 0u: goto b11; default: goto b12; }
 b9:;
   st8_1(x45, 2u);
@@ -24015,7 +23752,7 @@ b9:;
   MEMSET(ADD(x45, 40), 0u, 16);
   goto b13;
 b10:;
-  f271(x45, x1, x46, x2, x32, x41, x42);
+  f260(x45, x1, x46, x2, x32, x41, x42);
   goto b13;
 b11:;
   if (((u8)(x43 == 255u))) goto b14; else goto b15;
@@ -24030,7 +23767,7 @@ b15:;
   st8_1(ADD(x48, 13), x14);
   st8_1(ADD(x48, 14), x17);
   st8_1(ADD(x48, 15), x20);
-  f271(x45, x1, x46, x2, x32, x41, x48);
+  f260(x45, x1, x46, x2, x32, x41, x48);
   goto b13;
 b13:;
   x4 = ld8_1(ADD(x45, 17));
@@ -24066,7 +23803,7 @@ b16:;
   goto b2;
 }
 
-static void f271(Q x0, Q x1, u8 x2, u64 x3, u64 x4, Q x5, Q x6)
+static void f260(Q x0, Q x1, u8 x2, u64 x3, u64 x4, Q x5, Q x6)
 {
   u8 x8, x9, x10, x14, x18, x25, x26, x28, x29, x31, x7, x13, x35, x39;
   u64 x12, x17, x21, x22, x30, x32, x33, x11, x34, x16, x41, x15;
@@ -24083,7 +23820,7 @@ static void f271(Q x0, Q x1, u8 x2, u64 x3, u64 x4, Q x5, Q x6)
   x20 = ldp_8(FAR(x1, 448));
   x21 = ld64_8(FAR(x1, 456));
   x22 = ld64_8(FAR(x1, 624));
-  x23 = f152(x20, x21, x6, x22);
+  x23 = f147(x20, x21, x6, x22);
   x24 = FAR(x20, (u64)((u64)((u64)(x23.f1) * 72u)));
   if (((u8)((x23.f0) == 0u))) goto b0; else goto b1;
 b0:;
@@ -24140,7 +23877,7 @@ b13:;
   x39 = ld8_1(x1);
   if (((u8)(x39 == 0u))) goto b15; else { x17 = x16; goto b14; }
 b15:;
-  x40 = f223(FAR(x1, 248), x3);
+  x40 = f218(FAR(x1, 248), x3);
   x41 = umin64(x16, (x40.f1));
   x15 = (((u8)((x40.f0) == 1u)) ? x41 : x16);
   { x17 = x15; goto b14; }
@@ -24159,7 +23896,7 @@ b14:;
   goto b12;
 }
 
-static void f272(Q x0, Q x1, u64 x2, Q x3, Q x4)
+static void f261(Q x0, Q x1, u64 x2, Q x3, Q x4)
 {
   u64 x7, x10, x12, x14, x17, x18, x23, x24, x25, x26, x28, x30, x6, x9, x5, x8, x27, x35, x11, x41, x43, x44, x50, x52, x29, x55, x56, x16, x15, x59, x60, x61, x62, x13;
   u8 x20, x22, x31, x32, x21, x19, x34, x47, x49, x51;
@@ -24225,7 +23962,7 @@ b12:;
   x42 = ldp_8(FAR(x1, 448));
   x43 = ld64_8(FAR(x1, 456));
   x44 = ld64_8(FAR(x1, 624));
-  x45 = f152(x42, x43, x40, x44);
+  x45 = f147(x42, x43, x40, x44);
   x46 = FAR(x42, (u64)((u64)((u64)(x45.f1) * 72u)));
   if (((u8)((x45.f0) == 0u))) goto b14; else goto b15;
 b14:;
@@ -24253,13 +23990,13 @@ b15:;
 b13:;
   MEMCPY(x37, x40, 16);
   MEMCPY(ADD(x37, 16), x39, 6);
-  x29 = ld64_8(FAR(x1, 1576));
+  x29 = ld64_8(FAR(x1, 1552));
   x53 = u128_or(u128_shl(u128_of(0, x9), (unsigned)u128_low(u128_of(0u, 64u)) & 127u), u128_of(0, x6));
   x54 = bswap128(x53);
   x55 = (u64)(u128_low(u128_lshr(u128_mul(x54, u128_of(UINT64_C(11400714819323198485), UINT64_C(17554116967691831349))), (unsigned)u128_low(u128_of(0u, 120u)) & 127u)));
-  x56 = ld64_8(FAR(x1, 1560));
+  x56 = ld64_8(FAR(x1, 1536));
   x16 = (((u64)((u64)x56 + 255u)) & x55);
-  x57 = ldp_8(FAR(x1, 1552));
+  x57 = ldp_8(FAR(x1, 1528));
   { x14 = 0u; goto b20; }
 b20:;
   x15 = (x14 ^ x16);
@@ -24310,7 +24047,7 @@ b28:;
   goto b11;
 }
 
-static u64 f273(Q x0)
+static u64 f262(Q x0)
 {
   u64 x2, x4, x6, x8, x10, x21, x1, x22, x3, x23, x5, x7, x9, x24, x25;
   u16 x11, x12, x13, x14, x15, x16, x17, x18, x19, x20;
@@ -24367,6 +24104,90 @@ b11:;
   x24 = (u64)((u64)((u64)((u64)((u64)((u64)((u64)((u64)((u64)((u64)x22 * 65u)) + 9344u)) + ((u64)((u64)((u64)x13) * 40u)))) + ((u64)((u64)((u64)x15) << 5)))) + ((u64)((u64)((u64)((u64)x23 + x21)) * 72u)));
   x25 = (u64)((u64)((u64)((u64)((u64)((u64)((u64)((u64)x24 + ((u64)((u64)((u64)x16) * 295u)))) + ((u64)((u64)((u64)x17) << 6)))) + ((u64)((u64)((u64)x18) * 136u)))) + ((u64)((u64)((u64)x19) * 87u)));
   return ((u64)((u64)((u64)((u64)((u64)((u64)((u64)((u64)((u64)((u64)((u64)((u64)x25 + ((u64)((u64)((u64)x20) * 84u)))) + x2)) + x4)) + x6)) + x8)) + x10));
+}
+
+static u8 f263(Q x0, u64 x1)
+{
+  u8 x2;
+  s_u64_u64 x5, x3, x10, x4;
+  Q x6, x9;
+  u64 x7, x8;
+  if (((u8)((int64_t)x1 > (int64_t)UINT64_C(18446744073709551615)))) goto b0; else { x2 = 0u; goto b1; }
+b1:;
+  return x2;
+b0:;
+  x6 = FAR(x0, 16);
+  x7 = ld64_8(x6);
+  if (((u8)(x7 == 0u))) goto b2; else goto b3;
+b3:;
+  x8 = ld64_8(FAR(x0, 8));
+  x9 = ldp_8(x0);
+  x3 = os_rattle_realloc(x9, x8, x1, 1u);
+  if (((u8)(((x3.f0)) & 1u))) { x5 = x3; goto b4; } else { x2 = 0u; goto b1; }
+b2:;
+  x10 = os_rattle_alloc(x1, 1u);
+  x4 = s_u64_u64_frozen(x10);
+  if (((u8)(((x4.f0)) & 1u))) { x5 = x4; goto b4; } else { x2 = 0u; goto b1; }
+b4:;
+  stp_8(x0, ((Q)(u64)(x5.f1)));
+  st64_8(x6, x1);
+  { x2 = 1u; goto b1; }
+}
+
+static void f264(Q x0, Q x1, u64 x2)
+{
+  u64 x5, x8, x10, x4, x7, x6, x3, x9;
+  Q x11, x12, x14, x15;
+  u8 x13, x16;
+  x11 = FAR(x0, 16);
+  x4 = ld64_8(x11);
+  x12 = FAR(x0, 8);
+  x7 = ld64_8(x12);
+  if (((u8)(x2 > ((u64)((u64)x4 - x7))))) goto b0; else { x5 = x4; x8 = x7; goto b1; }
+b0:;
+  x13 = f265(x0, x2);
+  if (x13) goto b2; else goto b3;
+b2:;
+  x6 = ld64_8(x12);
+  x3 = ld64_8(x11);
+  { x5 = x3; x8 = x6; goto b1; }
+b1:;
+  x14 = ldp_8(x0);
+  MEMSET(x12, 0u, 16);
+  x15 = FAR(x14, (u64)x8);
+  if (((u8)(((u64)((u64)((u64)((u64)x15)) - ((u64)((u64)x1)))) < x2))) { x10 = 0u; goto b4; } else goto b5;
+b5:;
+  memmove_n(x15, x1, x2);
+  goto b6;
+b4:;
+  x16 = ld8_1(ADD(x1, (u64)x10));
+  st8_1(ADD(x15, (u64)x10), x16);
+  x9 = (u64)((u64)x10 + 1u);
+  if (((u8)(x9 == x2))) goto b6; else { x10 = x9; goto b4; }
+b3:;
+  TRAP();
+  UNREACHABLE();
+b6:;
+  stp_8(x0, x14);
+  st64_8(x12, ((u64)((u64)x8 + x2)));
+  st64_8(x11, x5);
+  return;
+}
+
+static u8 f265(Q x0, u64 x1)
+{
+  u8 x3, x2;
+  u64 x4, x5, x6, x7;
+  x4 = ld64_8(FAR(x0, 8));
+  if (((u8)(x1 > (x4 ^ UINT64_C(18446744073709551615))))) { x3 = 0u; goto b0; } else goto b1;
+b0:;
+  return x3;
+b1:;
+  x5 = ld64_8(FAR(x0, 16));
+  x6 = umax64(((u64)((u64)x4 + x1)), 8u);
+  x7 = umax64(x6, ((u64)((u64)x5 << 1)));
+  x2 = f263(x0, (((u8)(x5 < UINT64_C(4611686018427387904))) ? x7 : x6));
+  { x3 = x2; goto b0; }
 }
 
 static u32 m_nd_addresses(Q x0, u64 x1, Q x2, u64 x3, Q x4)
@@ -24464,25 +24285,25 @@ static void m_nd_close(Q x0)
   Q const x24 = Q_OF(y1_);
   _Alignas(8) u8 y2_[168];
   Q const x25 = Q_OF(y2_);
-  _Alignas(8) u8 y3_[96];
-  Q const x36 = Q_OF(y3_);
-  _Alignas(8) u8 y4_[88];
-  Q const x16 = Q_OF(y4_);
-  _Alignas(8) u8 y5_[72];
-  Q const x43 = Q_OF(y5_);
+  _Alignas(8) u8 y3_[88];
+  Q const x16 = Q_OF(y3_);
+  _Alignas(8) u8 y4_[72];
+  Q const x36 = Q_OF(y4_);
+  _Alignas(8) u8 y5_[56];
+  Q const x14 = Q_OF(y5_);
   _Alignas(8) u8 y6_[56];
-  Q const x14 = Q_OF(y6_);
+  Q const x15 = Q_OF(y6_);
   _Alignas(8) u8 y7_[56];
-  Q const x15 = Q_OF(y7_);
+  Q const x30 = Q_OF(y7_);
   _Alignas(8) u8 y8_[56];
-  Q const x30 = Q_OF(y8_);
-  _Alignas(8) u8 y9_[56];
-  Q const x35 = Q_OF(y9_);
+  Q const x35 = Q_OF(y8_);
+  _Alignas(8) u8 y9_[48];
+  Q const x48 = Q_OF(y9_);
+  Q const x44 = Q_OF(y9_);
+  Q const x50 = Q_OF(y9_);
+  Q const x49 = Q_OF(y9_);
   _Alignas(8) u8 y10_[48];
-  Q const x48 = Q_OF(y10_);
-  Q const x44 = Q_OF(y10_);
-  Q const x50 = Q_OF(y10_);
-  Q const x49 = Q_OF(y10_);
+  Q const x43 = Q_OF(y10_);
   _Alignas(1) u8 y11_[39];
   Q const x18 = Q_OF(y11_);
   _Alignas(1) u8 y12_[39];
@@ -24527,15 +24348,15 @@ b0:;
   x33 = ldp_1(ADD(x2, 1344));
   x34 = ld64_1(ADD(x2, 1360));
   MEMCPY(x35, ADD(x2, 1368), 56);
-  MEMCPY(x36, ADD(x2, 1424), 96);
-  x37 = ld8_1(ADD(x2, 1520));
-  x38 = ldp_1(ADD(x2, 1528));
-  x39 = ld64_1(ADD(x2, 1544));
-  x40 = ldp_1(ADD(x2, 1552));
-  x41 = ld64_1(ADD(x2, 1568));
+  MEMCPY(x36, ADD(x2, 1424), 72);
+  x37 = ld8_1(ADD(x2, 1496));
+  x38 = ldp_1(ADD(x2, 1504));
+  x39 = ld64_1(ADD(x2, 1520));
+  x40 = ldp_1(ADD(x2, 1528));
+  x41 = ld64_1(ADD(x2, 1544));
   os_rattle_dealloc(x2);
   x42 = ADD(x36, 24);
-  MEMCPY(x43, x42, 72);
+  MEMCPY(x43, x42, 48);
   if (((u8)(x4 == 0u))) goto b2; else goto b3;
 b3:;
   os_rattle_dealloc(x3);
@@ -24547,8 +24368,8 @@ b5:;
   goto b4;
 b4:;
   MEMCPY(x44, x7, 48);
-  f37(x7);
-  f37(ADD(x44, 24));
+  f34(x7);
+  f34(ADD(x44, 24));
   if (((u8)(x9 == 0u))) goto b6; else goto b7;
 b7:;
   os_rattle_dealloc(x8);
@@ -24565,26 +24386,26 @@ b11:;
   goto b10;
 b10:;
   MEMCPY(x45, x14, 48);
-  f37(x14);
-  f37(ADD(x45, 24));
+  f34(x14);
+  f34(ADD(x45, 24));
   MEMCPY(x46, x15, 48);
-  f37(x15);
-  f37(ADD(x46, 24));
+  f34(x15);
+  f34(ADD(x46, 24));
   MEMCPY(x47, x16, 80);
-  f60(x16);
+  f57(x16);
   MEMCPY(x48, ADD(x16, 24), 48);
-  f37(ADD(x47, 24));
-  f37(ADD(x48, 24));
+  f34(ADD(x47, 24));
+  f34(ADD(x48, 24));
   if (((u8)(x17 == 0u))) goto b12; else goto b13;
 b13:;
   MEMCPY(x49, ADD(x18, 7), 32);
-  f133(x49);
+  f128(x49);
   goto b12;
 b12:;
   if (((u8)(x19 == 0u))) goto b14; else goto b15;
 b15:;
   MEMCPY(x50, ADD(x20, 7), 32);
-  f133(x50);
+  f128(x50);
   goto b14;
 b14:;
   if (((u8)(x22 == 0u))) goto b16; else goto b17;
@@ -24592,7 +24413,7 @@ b17:;
   os_rattle_dealloc(x21);
   goto b16;
 b16:;
-  f59(x23);
+  f56(x23);
   MEMCPY(x51, x24, 168);
   x52 = ADD(x51, 168);
   MEMCPY(x52, x25, 168);
@@ -24622,7 +24443,6 @@ b24:;
   f4(x35);
   f5(x42);
   f5(ADD(x43, 24));
-  f5(ADD(x43, 48));
   if ((((u8)(x37 == 0u)) ? 1u : ((u8)(x39 == 0u)))) goto b26; else goto b27;
 b27:;
   os_rattle_dealloc(x38);
@@ -24858,7 +24678,7 @@ b0:;
   x4 = FAR(x0, 8);
   x5 = ldp_1(x4);
   MEMSET(x0, 0u, 16);
-  x1 = ld64_8(FAR(x5, 1584));
+  x1 = ld64_8(FAR(x5, 1560));
   st8_1(x0, 1u);
   stp_1(x4, x5);
   { x2 = x1; goto b1; }
@@ -25133,294 +24953,296 @@ b0:;
 
 static u32 m_nd_poll(Q x0, Q x1, Q x2, u64 x3)
 {
-  u32 x4, x9, x11, x12, x13, x14, x18, x20, x49, x50, x8, x15, x16, x17, x10, x19;
-  u8 x7, x28, x52, x61, x5, x6, x63, x64, x65, x67, x68, x74, x24, x23, x26, x27, x25, x99, x102;
-  u64 x22, x34, x40, x48, x59, x69, x73, x21, x76, x77, x36, x30, x82, x83, x35, x29, x86, x91, x38, x32, x39, x33, x94, x95, x37, x31, x100, x47, x103, x104, x108;
-  Q x46, x51, x53, x54, x55, x57, x58, x72, x75, x78, x79, x42, x80, x81, x84, x85, x41, x87, x89, x90, x92, x44, x93, x45, x96, x97, x43, x101, x105, x106, x107;
-  s_u8_Q x56;
-  s_Q_u64 x60, x71;
+  Q x6, x45, x50, x52, x53, x54, x55, x56, x5, x4, x59, x73, x78, x79, x41, x80, x85, x86, x88, x43, x92, x44, x95, x96, x42, x100, x104, x105, x106;
+  u32 x7, x12, x14, x15, x16, x17, x21, x23, x48, x49, x11, x18, x19, x20, x13, x22;
+  u8 x10, x30, x51, x62, x8, x9, x64, x65, x66, x68, x69, x75, x26, x28, x29, x27, x98, x101;
+  u64 x25, x35, x40, x47, x57, x58, x60, x70, x74, x24, x76, x77, x36, x31, x81, x82, x83, x87, x38, x33, x89, x90, x39, x34, x93, x94, x37, x32, x99, x46, x102, x103, x107;
+  s_Q_u64 x61, x72;
   _Alignas(8) u8 y0_[24];
-  Q const x88 = Q_OF(y0_);
+  Q const x91 = Q_OF(y0_);
   _Alignas(8) u8 y1_[24];
-  Q const x98 = Q_OF(y1_);
-  _Alignas(1) u8 y2_[16];
-  Q const x66 = Q_OF(y2_);
-  _Alignas(8) u8 y3_[16];
-  Q const x62 = Q_OF(y3_);
+  Q const x84 = Q_OF(y1_);
+  _Alignas(8) u8 y2_[24];
+  Q const x97 = Q_OF(y2_);
+  _Alignas(1) u8 y3_[16];
+  Q const x67 = Q_OF(y3_);
   _Alignas(8) u8 y4_[16];
-  Q const x70 = Q_OF(y4_);
-  x51 = FAR(x2, (u64)(((u8)((u64)x2 == 0u)) ? 4096u : 0u));
-  x52 = ld8_1(x0);
-  if (((u8)((x52) & 1u))) goto b0; else { x50 = 4294967294u; goto b1; }
+  Q const x63 = Q_OF(y4_);
+  _Alignas(8) u8 y5_[16];
+  Q const x71 = Q_OF(y5_);
+  x50 = FAR(x2, (u64)(((u8)((u64)x2 == 0u)) ? 4096u : 0u));
+  x51 = ld8_1(x0);
+  if (((u8)((x51) & 1u))) goto b0; else { x49 = 4294967294u; goto b1; }
 b0:;
-  x53 = FAR(x0, 8);
-  x54 = ldp_1(x53);
+  x52 = FAR(x0, 8);
+  x53 = ldp_1(x52);
   MEMSET(x0, 0u, 16);
-  x55 = FAR(x54, 1448);
-  x56 = f19(x55);
-  if (((u8)((x56.f0) == 1u))) goto b2; else { x49 = 1u; goto b3; }
+  x54 = FAR(x53, 1448);
+  x55 = ldp_8(x54);
+  x56 = FAR(x53, 1456);
+  x57 = ld64_8(x56);
+  x5 = FAR(FAR(x55, (u64)((u64)((u64)x57 * 80u))), -80);
+  if (((u8)(x57 == 0u))) goto b2; else { x6 = x5; goto b3; }
 b2:;
-  x57 = x56.f1;
-  x58 = FAR(x57, 8);
-  x59 = ld64_8(x57);
-  x60 = f20(x58);
-  x61 = ld8_1(x58);
-  switch (x61) { case 1u: goto b4; case 4u: goto b5; case 5u: goto b5; case 6u: goto b5; case 7u: goto b6; case 8u: goto b6; case 0u: { x4 = 0u; goto b7; } case 2u: { x4 = 0u; goto b7; } case 3u: { x4 = 0u; goto b7; } case 9u: { x4 = 0u; goto b7; } case 10u: { x4 = 0u; goto b7; } case 11u: { x4 = 0u; goto b7; } case 12u: { x4 = 0u; goto b7; } case 13u: { x4 = 0u; goto b7; } case 14u: { x4 = 0u; goto b7; } case 15u: { x4 = 0u; goto b7; } default: goto b8; }
-b4:;
-  x5 = ld8_1(FAR(x57, 44));
-  x8 = ld32_4(ADD(Q_OF(g7), (u64)((u64)x5) * 4u));
-  { x7 = x5; x9 = x8; goto b9; }
-b6:;
-  { x4 = 33u; goto b7; }
-b5:;
-  { x4 = 4u; goto b7; }
-b8:;
-  UNREACHABLE();
-b7:;
-  switch (x61) { case 0u: goto b10; case 1u: goto b11; case 2u: goto b12; case 3u: goto b13; case 4u: goto b14; case 5u: goto b15; case 6u: goto b16; case 7u: goto b17; case 8u: goto b18; case 9u: goto b19; case 13u: goto b20; case 14u: goto b21; case 11u: goto b22; case 10u: goto b23; case 12u: goto b23; case 15u: goto b23; default: goto b24; }
-b11:;
-  x6 = ld8_1(FAR(x57, 44));
-  { x7 = x6; x9 = x4; goto b9; }
-b10:;
-  MEMSET(x62, 0u, 16);
-  { x13 = x4; x14 = 1u; x18 = 0u; x20 = 0u; goto b25; }
-b9:;
-  x15 = (u32)((u8)((u32)x7 + 133u));
-  MEMCPY(x62, FAR(x57, 9), 16);
-  { x13 = x9; x14 = 2u; x18 = x15; x20 = 0u; goto b25; }
-b12:;
-  x63 = ld8_1(FAR(x57, 9));
-  x16 = (u32)((u8)((u32)x63 + 1u));
-  MEMSET(x62, 0u, 16);
-  { x13 = x4; x14 = 3u; x18 = x16; x20 = 0u; goto b25; }
-b13:;
-  MEMSET(x62, 0u, 16);
-  { x13 = x4; x14 = 4u; x18 = 0u; x20 = 0u; goto b25; }
-b14:;
-  MEMCPY(x62, FAR(x57, 9), 16);
-  { x13 = x4; x14 = 5u; x18 = 0u; x20 = 0u; goto b25; }
-b15:;
-  MEMCPY(x62, FAR(x57, 9), 16);
-  { x13 = x4; x14 = 6u; x18 = 0u; x20 = 0u; goto b25; }
-b16:;
-  MEMCPY(x62, FAR(x57, 9), 16);
-  { x13 = x4; x14 = 7u; x18 = 0u; x20 = 0u; goto b25; }
-b17:;
-  MEMCPY(x62, FAR(x57, 9), 16);
-  { x13 = x4; x14 = 8u; x18 = 0u; x20 = 0u; goto b25; }
-b18:;
-  MEMCPY(x62, FAR(x57, 9), 16);
-  { x13 = x4; x14 = 9u; x18 = 0u; x20 = 0u; goto b25; }
-b19:;
-  x64 = ld8_1(FAR(x57, 9));
-  x17 = (u32)((u32)((u32)x64) + 1u);
-  MEMSET(x62, 0u, 16);
-  { x13 = x4; x14 = 10u; x18 = x17; x20 = 0u; goto b25; }
-b20:;
-  x65 = ld8_1(FAR(x57, 9));
-  if (((u8)(x65 == 3u))) goto b26; else goto b27;
-b26:;
-  MEMCPY(x66, FAR(x57, 10), 16);
-  { x11 = 0u; x12 = 3u; goto b28; }
-b27:;
-  MEMSET(x66, 0u, 16);
-  switch (x65) { case 5u: goto b29; case 0u: { x11 = 0u; x12 = 1u; goto b28; } case 1u: goto b30; case 2u: goto b31; case 4u: goto b32; default: goto b33; }
-b29:;
-  x67 = ld8_1(FAR(x57, 10));
-  x10 = (u32)((u32)((u32)x67) + 1u);
-  { x11 = x10; x12 = 5u; goto b28; }
-b30:;
-  { x11 = 0u; x12 = 2u; goto b28; }
-b31:;
-  { x11 = 0u; x12 = 8u; goto b28; }
-b32:;
-  { x11 = 0u; x12 = 4u; goto b28; }
-b33:;
-  UNREACHABLE();
-b28:;
-  MEMCPY(x62, x66, 16);
-  { x13 = x4; x14 = 11u; x18 = x12; x20 = x11; goto b25; }
-b21:;
-  x68 = ld8_1(FAR(x57, 9));
-  x19 = (u32)((u32)((u32)x68) + 1u);
-  MEMSET(x62, 0u, 16);
-  { x13 = x4; x14 = 14u; x18 = 0u; x20 = x19; goto b25; }
-b22:;
-  MEMCPY(x62, FAR(x57, 9), 16);
-  { x13 = x4; x14 = 13u; x18 = 0u; x20 = 0u; goto b25; }
-b23:;
-  MEMSET(x62, 0u, 16);
-  { x13 = x4; x14 = 0u; x18 = 0u; x20 = 0u; goto b25; }
-b24:;
-  UNREACHABLE();
-b25:;
-  x69 = x60.f1;
-  MEMCPY(x70, x62, 16);
-  st64_1(x1, x59);
-  st64_1(ADD(x1, 8), x69);
-  st32_1(ADD(x1, 16), x14);
-  st32_1(ADD(x1, 20), x18);
-  st32_1(ADD(x1, 24), x20);
-  st32_1(ADD(x1, 28), x13);
-  MEMCPY(ADD(x1, 32), x70, 16);
-  if (((u8)(x3 < x69))) { x49 = 4294967291u; goto b3; } else goto b34;
-b34:;
-  if (((u8)(x69 == 0u))) goto b35; else goto b36;
-b36:;
-  x71 = f20(x58);
-  x72 = x71.f0;
-  x73 = x71.f1;
-  if (((u8)(((u64)((u64)((u64)((u64)x51)) - ((u64)((u64)x72)))) < x73))) { x22 = 0u; goto b37; } else goto b38;
-b38:;
-  memmove_n(x51, x72, x73);
-  goto b35;
-b37:;
-  x74 = ld8_1(ADD(x72, (u64)x22));
-  st8_1(ADD(x51, (u64)x22), x74);
-  x21 = (u64)((u64)x22 + 1u);
-  if (((u8)(x21 == x73))) goto b35; else { x22 = x21; goto b37; }
-b35:;
-  x75 = FAR(x54, 1456);
-  x76 = ld64_8(x75);
-  if (((u8)(x76 == 0u))) goto b39; else goto b40;
-b40:;
-  x77 = (u64)((u64)x76 + UINT64_C(18446744073709551615));
-  st64_8(x75, x77);
-  x78 = ldp_8(x55);
-  x79 = ADD(x78, (u64)((u64)((u64)x77 * 80u)));
-  x24 = ld8_1(ADD(x79, 8));
-  x42 = ldp_1(ADD(x79, 16));
-  x36 = ld64_1(ADD(x79, 24));
-  x30 = ld64_1(ADD(x79, 32));
-  { x28 = x24; x34 = x30; x40 = x36; x46 = x42; goto b41; }
-b39:;
-  x80 = FAR(x54, 1472);
-  x81 = FAR(x54, 1480);
-  x82 = ld64_8(x81);
-  if (((u8)(x82 == 0u))) goto b42; else goto b43;
-b43:;
-  x83 = (u64)((u64)x82 + UINT64_C(18446744073709551615));
-  st64_8(x81, x83);
-  x84 = ldp_8(x80);
-  x85 = ADD(x84, (u64)((u64)((u64)x83 * 80u)));
-  x23 = ld8_1(ADD(x85, 8));
-  x41 = ldp_1(ADD(x85, 16));
-  x35 = ld64_1(ADD(x85, 24));
-  x29 = ld64_1(ADD(x85, 32));
-  if (((u8)(x83 == 0u))) goto b44; else { x28 = x23; x34 = x29; x40 = x35; x46 = x41; goto b41; }
-b44:;
-  x86 = ld64_8(FAR(x54, 1504));
-  if (((u8)(x86 == 0u))) goto b45; else { x28 = x23; x34 = x29; x40 = x35; x46 = x41; goto b41; }
-b45:;
-  x87 = FAR(x54, 1496);
-  MEMCPY(x88, x80, 24);
-  MEMCPY(x80, x87, 24);
-  MEMCPY(x87, x88, 24);
-  { x28 = x23; x34 = x29; x40 = x35; x46 = x41; goto b41; }
-b42:;
-  x89 = FAR(x54, 1496);
-  x90 = FAR(x54, 1504);
-  x91 = ld64_8(x90);
-  switch (x91) { case 0u: { x49 = 0u; goto b3; } case 1u: goto b46; case 2u: goto b47; default: goto b48; }
-b46:;
-  st64_8(x90, 0u);
-  x92 = ldp_8(x89);
-  x26 = ld8_1(ADD(x92, 8));
-  x44 = ldp_1(ADD(x92, 16));
-  x38 = ld64_1(ADD(x92, 24));
-  x32 = ld64_1(ADD(x92, 32));
-  { x28 = x26; x34 = x32; x40 = x38; x46 = x44; goto b41; }
-b47:;
-  st64_8(x90, 1u);
-  x93 = ldp_8(x89);
-  x27 = ld8_1(ADD(x93, 8));
-  x45 = ldp_1(ADD(x93, 16));
-  x39 = ld64_1(ADD(x93, 24));
-  x33 = ld64_1(ADD(x93, 32));
-  MEMCPY(x93, ADD(x93, 80), 80);
-  { x28 = x27; x34 = x33; x40 = x39; x46 = x45; goto b41; }
-b48:;
-  f21(x80, x89);
-  x94 = ld64_8(x81);
-  if (((u8)(x94 == 0u))) { x49 = 0u; goto b3; } else goto b49;
-b49:;
-  x95 = (u64)((u64)x94 + UINT64_C(18446744073709551615));
-  st64_8(x81, x95);
-  x96 = ldp_8(x80);
-  x97 = ADD(x96, (u64)((u64)((u64)x95 * 80u)));
-  x25 = ld8_1(ADD(x97, 8));
-  x43 = ldp_1(ADD(x97, 16));
-  x37 = ld64_1(ADD(x97, 24));
-  x31 = ld64_1(ADD(x97, 32));
-  { x28 = x25; x34 = x31; x40 = x37; x46 = x43; goto b41; }
-b41:;
-  switch (x28) { case 0u: goto b50; case 3u: goto b51; case 9u: goto b52; case 12u: goto b53; case 15u: goto b54; case 1u: goto b54; case 2u: goto b54; case 4u: goto b54; case 5u: goto b54; case 6u: goto b54; case 7u: goto b54; case 8u: goto b54; case 10u: goto b54; case 11u: goto b54; case 13u: goto b54; case 14u: goto b54; default: goto b55; }
-b51:;
-  if (((u8)(x34 == 0u))) goto b54; else goto b56;
-b56:;
-  os_rattle_dealloc(x46);
-  goto b54;
-b52:;
-  if (((u8)(x34 == 0u))) goto b54; else goto b57;
-b57:;
-  os_rattle_dealloc(x46);
-  goto b54;
-b53:;
-  stp_8(x98, x46);
-  st64_8(ADD(x98, 8), x40);
-  st64_8(ADD(x98, 16), x34);
-  f37(x98);
-  goto b54;
-b55:;
-  UNREACHABLE();
-b54:;
-  { x49 = 0u; goto b3; }
-b50:;
-  x99 = ld8_1(x54);
-  if (((u8)(x99 == 0u))) { x48 = 32u; goto b58; } else goto b59;
-b59:;
-  x100 = ld64_8(FAR(x54, 1192));
-  x47 = (u64)((u64)((u64)((u64)x100 << 5)) + 32u);
-  { x48 = x47; goto b58; }
-b58:;
-  x101 = FAR(x54, 1520);
-  x102 = ld8_1(x101);
-  if (((u8)(x102 == 1u))) goto b60; else goto b61;
-b60:;
-  x103 = ld64_8(FAR(x54, 1544));
-  if (((u8)(((u64)((u64)x48 + 54u)) > x103))) goto b61; else goto b62;
-b62:;
-  if (((u8)(x34 == 0u))) { x49 = 0u; goto b3; } else goto b63;
-b63:;
-  os_rattle_dealloc(x46);
-  { x49 = 0u; goto b3; }
-b61:;
-  x104 = umax64(x48, 32u);
-  if (((u8)(x34 < ((u64)((u64)x104 + 54u))))) goto b64; else goto b65;
-b64:;
-  if (((u8)(x34 == 0u))) { x49 = 0u; goto b3; } else goto b66;
-b66:;
-  os_rattle_dealloc(x46);
-  { x49 = 0u; goto b3; }
-b65:;
-  x105 = FAR(x54, 1528);
-  x106 = ldp_1(x105);
-  x107 = FAR(x54, 1544);
-  x108 = ld64_1(x107);
-  st64_1(x101, 1u);
-  stp_1(x105, x46);
-  st64_1(FAR(x54, 1536), 0u);
-  st64_1(x107, x34);
-  if ((((u8)(x102 != 1u)) ? 1u : ((u8)(x108 == 0u)))) { x49 = 0u; goto b3; } else goto b67;
-b67:;
-  os_rattle_dealloc(x106);
-  { x49 = 0u; goto b3; }
+  x4 = ldp_8(FAR(x53, 1472));
+  x58 = ld64_8(FAR(x53, 1480));
+  if (((u8)(x58 == 0u))) { x48 = 1u; goto b4; } else { x6 = x4; goto b3; }
 b3:;
+  x59 = FAR(x6, 8);
+  x60 = ld64_8(x6);
+  x61 = f19(x59);
+  x62 = ld8_1(x59);
+  switch (x62) { case 1u: goto b5; case 4u: goto b6; case 5u: goto b6; case 6u: goto b6; case 7u: goto b7; case 8u: goto b7; case 0u: { x7 = 0u; goto b8; } case 2u: { x7 = 0u; goto b8; } case 3u: { x7 = 0u; goto b8; } case 9u: { x7 = 0u; goto b8; } case 10u: { x7 = 0u; goto b8; } case 11u: { x7 = 0u; goto b8; } case 12u: { x7 = 0u; goto b8; } case 13u: { x7 = 0u; goto b8; } case 14u: { x7 = 0u; goto b8; } case 15u: { x7 = 0u; goto b8; } default: goto b9; }
+b5:;
+  x8 = ld8_1(FAR(x6, 44));
+  x11 = ld32_4(ADD(Q_OF(g7), (u64)((u64)x8) * 4u));
+  { x10 = x8; x12 = x11; goto b10; }
+b7:;
+  { x7 = 33u; goto b8; }
+b6:;
+  { x7 = 4u; goto b8; }
+b9:;
+  UNREACHABLE();
+b8:;
+  switch (x62) { case 0u: goto b11; case 1u: goto b12; case 2u: goto b13; case 3u: goto b14; case 4u: goto b15; case 5u: goto b16; case 6u: goto b17; case 7u: goto b18; case 8u: goto b19; case 9u: goto b20; case 13u: goto b21; case 14u: goto b22; case 11u: goto b23; case 10u: goto b24; case 12u: goto b24; case 15u: goto b24; default: goto b25; }
+b12:;
+  x9 = ld8_1(FAR(x6, 44));
+  { x10 = x9; x12 = x7; goto b10; }
+b11:;
+  MEMSET(x63, 0u, 16);
+  { x16 = x7; x17 = 1u; x21 = 0u; x23 = 0u; goto b26; }
+b10:;
+  x18 = (u32)((u8)((u32)x10 + 133u));
+  MEMCPY(x63, FAR(x6, 9), 16);
+  { x16 = x12; x17 = 2u; x21 = x18; x23 = 0u; goto b26; }
+b13:;
+  x64 = ld8_1(FAR(x6, 9));
+  x19 = (u32)((u8)((u32)x64 + 1u));
+  MEMSET(x63, 0u, 16);
+  { x16 = x7; x17 = 3u; x21 = x19; x23 = 0u; goto b26; }
+b14:;
+  MEMSET(x63, 0u, 16);
+  { x16 = x7; x17 = 4u; x21 = 0u; x23 = 0u; goto b26; }
+b15:;
+  MEMCPY(x63, FAR(x6, 9), 16);
+  { x16 = x7; x17 = 5u; x21 = 0u; x23 = 0u; goto b26; }
+b16:;
+  MEMCPY(x63, FAR(x6, 9), 16);
+  { x16 = x7; x17 = 6u; x21 = 0u; x23 = 0u; goto b26; }
+b17:;
+  MEMCPY(x63, FAR(x6, 9), 16);
+  { x16 = x7; x17 = 7u; x21 = 0u; x23 = 0u; goto b26; }
+b18:;
+  MEMCPY(x63, FAR(x6, 9), 16);
+  { x16 = x7; x17 = 8u; x21 = 0u; x23 = 0u; goto b26; }
+b19:;
+  MEMCPY(x63, FAR(x6, 9), 16);
+  { x16 = x7; x17 = 9u; x21 = 0u; x23 = 0u; goto b26; }
+b20:;
+  x65 = ld8_1(FAR(x6, 9));
+  x20 = (u32)((u32)((u32)x65) + 1u);
+  MEMSET(x63, 0u, 16);
+  { x16 = x7; x17 = 10u; x21 = x20; x23 = 0u; goto b26; }
+b21:;
+  x66 = ld8_1(FAR(x6, 9));
+  if (((u8)(x66 == 3u))) goto b27; else goto b28;
+b27:;
+  MEMCPY(x67, FAR(x6, 10), 16);
+  { x14 = 0u; x15 = 3u; goto b29; }
+b28:;
+  MEMSET(x67, 0u, 16);
+  switch (x66) { case 5u: goto b30; case 0u: { x14 = 0u; x15 = 1u; goto b29; } case 1u: goto b31; case 2u: goto b32; case 4u: goto b33; default: goto b34; }
+b30:;
+  x68 = ld8_1(FAR(x6, 10));
+  x13 = (u32)((u32)((u32)x68) + 1u);
+  { x14 = x13; x15 = 5u; goto b29; }
+b31:;
+  { x14 = 0u; x15 = 2u; goto b29; }
+b32:;
+  { x14 = 0u; x15 = 8u; goto b29; }
+b33:;
+  { x14 = 0u; x15 = 4u; goto b29; }
+b34:;
+  UNREACHABLE();
+b29:;
+  MEMCPY(x63, x67, 16);
+  { x16 = x7; x17 = 11u; x21 = x15; x23 = x14; goto b26; }
+b22:;
+  x69 = ld8_1(FAR(x6, 9));
+  x22 = (u32)((u32)((u32)x69) + 1u);
+  MEMSET(x63, 0u, 16);
+  { x16 = x7; x17 = 14u; x21 = 0u; x23 = x22; goto b26; }
+b23:;
+  MEMCPY(x63, FAR(x6, 9), 16);
+  { x16 = x7; x17 = 13u; x21 = 0u; x23 = 0u; goto b26; }
+b24:;
+  MEMSET(x63, 0u, 16);
+  { x16 = x7; x17 = 0u; x21 = 0u; x23 = 0u; goto b26; }
+b25:;
+  UNREACHABLE();
+b26:;
+  x70 = x61.f1;
+  MEMCPY(x71, x63, 16);
+  st64_1(x1, x60);
+  st64_1(ADD(x1, 8), x70);
+  st32_1(ADD(x1, 16), x17);
+  st32_1(ADD(x1, 20), x21);
+  st32_1(ADD(x1, 24), x23);
+  st32_1(ADD(x1, 28), x16);
+  MEMCPY(ADD(x1, 32), x71, 16);
+  if (((u8)(x3 < x70))) { x48 = 4294967291u; goto b4; } else goto b35;
+b35:;
+  if (((u8)(x70 == 0u))) goto b36; else goto b37;
+b37:;
+  x72 = f19(x59);
+  x73 = x72.f0;
+  x74 = x72.f1;
+  if (((u8)(((u64)((u64)((u64)((u64)x50)) - ((u64)((u64)x73)))) < x74))) { x25 = 0u; goto b38; } else goto b39;
+b39:;
+  memmove_n(x50, x73, x74);
+  goto b36;
+b38:;
+  x75 = ld8_1(ADD(x73, (u64)x25));
+  st8_1(ADD(x50, (u64)x25), x75);
+  x24 = (u64)((u64)x25 + 1u);
+  if (((u8)(x24 == x74))) goto b36; else { x25 = x24; goto b38; }
+b36:;
+  x76 = ld64_8(x56);
+  if (((u8)(x76 == 0u))) goto b40; else goto b41;
+b41:;
+  x77 = (u64)((u64)x76 + UINT64_C(18446744073709551615));
+  st64_8(x56, x77);
+  x78 = ldp_8(x54);
+  x79 = ADD(x78, (u64)((u64)((u64)x77 * 80u)));
+  x26 = ld8_1(ADD(x79, 8));
+  x41 = ldp_1(ADD(x79, 16));
+  x36 = ld64_1(ADD(x79, 24));
+  x31 = ld64_1(ADD(x79, 32));
+  if (((u8)(x77 == 0u))) goto b42; else { x30 = x26; x35 = x31; x40 = x36; x45 = x41; goto b43; }
+b42:;
+  x80 = FAR(x53, 1472);
+  x81 = ld64_8(FAR(x53, 1480));
+  if (((u8)(x81 == 0u))) goto b44; else { x30 = x26; x35 = x31; x40 = x36; x45 = x41; goto b43; }
+b44:;
+  x82 = ld64_8(FAR(x53, 1488));
+  x83 = ld64_8(FAR(x53, 1464));
+  if (((u8)(x82 < x83))) goto b45; else { x30 = x26; x35 = x31; x40 = x36; x45 = x41; goto b43; }
+b45:;
+  MEMCPY(x84, x54, 24);
+  MEMCPY(x54, x80, 24);
+  MEMCPY(x80, x84, 24);
+  { x30 = x26; x35 = x31; x40 = x36; x45 = x41; goto b43; }
+b40:;
+  x85 = FAR(x53, 1472);
+  x86 = FAR(x53, 1480);
+  x87 = ld64_8(x86);
+  switch (x87) { case 0u: { x48 = 0u; goto b4; } case 1u: goto b46; case 2u: goto b47; default: goto b48; }
+b46:;
+  st64_8(x86, 0u);
+  x88 = ldp_8(x85);
+  x28 = ld8_1(ADD(x88, 8));
+  x43 = ldp_1(ADD(x88, 16));
+  x38 = ld64_1(ADD(x88, 24));
+  x33 = ld64_1(ADD(x88, 32));
+  x89 = ld64_8(FAR(x53, 1488));
+  x90 = ld64_8(FAR(x53, 1464));
+  if (((u8)(x89 < x90))) goto b49; else { x30 = x28; x35 = x33; x40 = x38; x45 = x43; goto b43; }
+b49:;
+  MEMCPY(x91, x54, 24);
+  MEMCPY(x54, x85, 24);
+  MEMCPY(x85, x91, 24);
+  { x30 = x28; x35 = x33; x40 = x38; x45 = x43; goto b43; }
+b47:;
+  st64_8(x86, 1u);
+  x92 = ldp_8(x85);
+  x29 = ld8_1(ADD(x92, 8));
+  x44 = ldp_1(ADD(x92, 16));
+  x39 = ld64_1(ADD(x92, 24));
+  x34 = ld64_1(ADD(x92, 32));
+  MEMCPY(x92, ADD(x92, 80), 80);
+  { x30 = x29; x35 = x34; x40 = x39; x45 = x44; goto b43; }
+b48:;
+  f20(x54, x85);
+  x93 = ld64_8(x56);
+  if (((u8)(x93 == 0u))) { x48 = 0u; goto b4; } else goto b50;
+b50:;
+  x94 = (u64)((u64)x93 + UINT64_C(18446744073709551615));
+  st64_8(x56, x94);
+  x95 = ldp_8(x54);
+  x96 = ADD(x95, (u64)((u64)((u64)x94 * 80u)));
+  x27 = ld8_1(ADD(x96, 8));
+  x42 = ldp_1(ADD(x96, 16));
+  x37 = ld64_1(ADD(x96, 24));
+  x32 = ld64_1(ADD(x96, 32));
+  { x30 = x27; x35 = x32; x40 = x37; x45 = x42; goto b43; }
+b43:;
+  switch (x30) { case 0u: goto b51; case 3u: goto b52; case 9u: goto b53; case 12u: goto b54; case 15u: goto b55; case 1u: goto b55; case 2u: goto b55; case 4u: goto b55; case 5u: goto b55; case 6u: goto b55; case 7u: goto b55; case 8u: goto b55; case 10u: goto b55; case 11u: goto b55; case 13u: goto b55; case 14u: goto b55; default: goto b56; }
+b52:;
+  if (((u8)(x35 == 0u))) goto b55; else goto b57;
+b57:;
+  os_rattle_dealloc(x45);
+  goto b55;
+b53:;
+  if (((u8)(x35 == 0u))) goto b55; else goto b58;
+b58:;
+  os_rattle_dealloc(x45);
+  goto b55;
+b54:;
+  stp_8(x97, x45);
+  st64_8(ADD(x97, 8), x40);
+  st64_8(ADD(x97, 16), x35);
+  f34(x97);
+  goto b55;
+b56:;
+  UNREACHABLE();
+b55:;
+  { x48 = 0u; goto b4; }
+b51:;
+  x98 = ld8_1(x53);
+  if (((u8)(x98 == 0u))) { x47 = 32u; goto b59; } else goto b60;
+b60:;
+  x99 = ld64_8(FAR(x53, 1192));
+  x46 = (u64)((u64)((u64)((u64)x99 << 5)) + 32u);
+  { x47 = x46; goto b59; }
+b59:;
+  x100 = FAR(x53, 1496);
+  x101 = ld8_1(x100);
+  if (((u8)(x101 == 1u))) goto b61; else goto b62;
+b61:;
+  x102 = ld64_8(FAR(x53, 1520));
+  if (((u8)(((u64)((u64)x47 + 54u)) > x102))) goto b62; else goto b63;
+b63:;
+  if (((u8)(x35 == 0u))) { x48 = 0u; goto b4; } else goto b64;
+b64:;
+  os_rattle_dealloc(x45);
+  { x48 = 0u; goto b4; }
+b62:;
+  x103 = umax64(x47, 32u);
+  if (((u8)(x35 < ((u64)((u64)x103 + 54u))))) goto b65; else goto b66;
+b65:;
+  if (((u8)(x35 == 0u))) { x48 = 0u; goto b4; } else goto b67;
+b67:;
+  os_rattle_dealloc(x45);
+  { x48 = 0u; goto b4; }
+b66:;
+  x104 = FAR(x53, 1504);
+  x105 = ldp_1(x104);
+  x106 = FAR(x53, 1520);
+  x107 = ld64_1(x106);
+  st64_1(x100, 1u);
+  stp_1(x104, x45);
+  st64_1(FAR(x53, 1512), 0u);
+  st64_1(x106, x35);
+  if ((((u8)(x101 != 1u)) ? 1u : ((u8)(x107 == 0u)))) { x48 = 0u; goto b4; } else goto b68;
+b68:;
+  os_rattle_dealloc(x105);
+  { x48 = 0u; goto b4; }
+b4:;
   st8_1(x0, 1u);
-  stp_1(x53, x54);
-  { x50 = x49; goto b1; }
+  stp_1(x52, x53);
+  { x49 = x48; goto b1; }
 b1:;
-  return x50;
+  return x49;
 }
 
 static u32 m_nd_prefixes(Q x0, u64 x1, Q x2, u64 x3, Q x4)
@@ -25539,7 +25361,7 @@ b6:;
   x27 = ADD(x21, 17);
   { x6 = 0u; goto b7; }
 b7:;
-  f24(x21, x23);
+  f22(x21, x23);
   x28 = ld8_1(x21);
   if (((u8)(x28 == 1u))) goto b8; else goto b9;
 b8:;
@@ -25554,7 +25376,7 @@ b9:;
   { x8 = 0u; goto b10; }
 b5:;
   st64_8(x4, x3);
-  f24(x22, x23);
+  f22(x22, x23);
   x30 = ld8_1(x22);
   x7 = (((u8)(x30 == 1u)) ? 4294967291u : 0u);
   { x8 = x7; goto b10; }
@@ -25611,7 +25433,7 @@ b6:;
   x26 = ADD(x20, 40);
   { x6 = 0u; goto b7; }
 b7:;
-  f25(x20, x22);
+  f23(x20, x22);
   x27 = ld8_1(x20);
   if (((u8)(x27 == 1u))) goto b8; else goto b9;
 b8:;
@@ -25631,7 +25453,7 @@ b9:;
   { x8 = 0u; goto b10; }
 b5:;
   st64_8(x4, x3);
-  f25(x21, x22);
+  f23(x21, x22);
   x33 = ld8_1(x21);
   x7 = (((u8)(x33 == 1u)) ? 4294967291u : 0u);
   { x8 = x7; goto b10; }
@@ -25885,8 +25707,8 @@ b23:;
   x34 = (((u32)((u32)((u32)x97) << 24)) | x35);
   { x10 = x9; x12 = x11; x14 = x13; x16 = x15; x19 = x17; x22 = x20; x24 = x23; x26 = x25; x28 = x27; x30 = x29; x33 = x31; x36 = x34; goto b7; }
 b7:;
-  x98 = f26(x86, x2, 16u);
-  x99 = f26(x86, x2, 24u);
+  x98 = f24(x86, x2, 16u);
+  x99 = f24(x86, x2, 24u);
   if (((u8)(x2 > 32u))) goto b24; else { x39 = 0u; x42 = 0u; x45 = 0u; x48 = 0u; x51 = 0u; x54 = 0u; x57 = 0u; x60 = 0u; x63 = 0u; x66 = 0u; x69 = 0u; x72 = 0u; x75 = 0u; x78 = 0u; x81 = 0u; x84 = 0u; goto b25; }
 b24:;
   x100 = ld8_1(FAR(x86, 32));
@@ -26019,7 +25841,7 @@ b56:;
 b25:;
   x132 = (x36 | x33);
   x133 = (x22 | x19);
-  x134 = f26(x86, x2, 64u);
+  x134 = f24(x86, x2, 64u);
   st32_4(x135, x133);
   x136 = ADD(x135, 4);
   st8_1(x136, x16);
@@ -26059,7 +25881,7 @@ b60:;
 b59:;
   if (((u8)(((u8)(x132 < 32u)) & ((u8)(x98 < UINT64_C(4611686018427387904)))))) goto b61; else goto b58;
 b61:;
-  f27(x138, x137);
+  f25(x138, x137);
   x139 = ld8_1(x138);
   if (((u8)(x139 == 1u))) goto b62; else goto b58;
 b58:;
@@ -26087,7 +25909,7 @@ b62:;
   st32_4(ADD(x87, 52), (x143 ? ((u32)(x99)) : 0u));
   st64_8(ADD(x87, 56), (x143 ? 0u : x99));
   st64_8(ADD(x87, 64), x144);
-  x145 = f28(x87);
+  x145 = f26(x87);
   if (((u8)((x145.f0) == 0u))) goto b63; else { x85 = 4294967295u; goto b0; }
 b63:;
   st8_1(x0, 1u);
@@ -26125,7 +25947,7 @@ b1:;
 b2:;
   if (((u8)(((u8)(x29 == 0u)) | ((u8)(x29 < x30))))) { x25 = 4294967293u; goto b0; } else goto b3;
 b3:;
-  st8_1(x26, 12u);
+  st8_1(x26, 11u);
   x31 = ADD(x26, 4);
   st64_4(x31, x27);
   st64_4(ADD(x26, 12), x28);
@@ -26147,31 +25969,31 @@ b7:;
   x37 = f16(x34);
   if (((u8)(x1 < x37))) goto b8; else goto b9;
 b9:;
-  x38 = f80(x34, x1);
+  x38 = f76(x34, x1);
   if (((u8)((x38) & 1u))) { x24 = 4294967295u; goto b10; } else goto b8;
 b8:;
-  x39 = FAR(x34, 1584);
+  x39 = FAR(x34, 1560);
   x40 = ld64_8(x39);
   if (((u8)(x40 == UINT64_C(18446744073709551615)))) goto b11; else goto b12;
 b12:;
   st64_8(x39, ((u64)((u64)x40 + 1u)));
   goto b11;
 b11:;
-  x41 = FAR(x34, 1576);
+  x41 = FAR(x34, 1552);
   x42 = ld64_8(x41);
   if (((u8)(x42 == UINT64_C(18446744073709551615)))) goto b13; else goto b14;
 b14:;
   st64_8(x41, ((u64)((u64)x42 + 1u)));
   goto b13;
 b13:;
-  x43 = FAR(x34, 1496);
+  x43 = FAR(x34, 1448);
   MEMSET(x44, 0u, 32);
   MEMSET(x45, 0u, 32);
   x46 = ld64_8(x36);
   x47 = ADD(x44, 10);
   if (((u8)(x1 < x46))) goto b15; else goto b16;
 b15:;
-  f134(x44, x34, x1, x43);
+  f129(x44, x34, x1, x43);
   x3 = ld8_1(x44);
   x6 = ld8_1(ADD(x44, 8));
   x9 = ld8_1(ADD(x44, 9));
@@ -26180,7 +26002,7 @@ b15:;
   x15 = ld16_2(ADD(x44, 24));
   { x5 = x3; x8 = x6; x11 = x9; x14 = x12; x17 = x15; goto b17; }
 b16:;
-  f260(x45, x34, x1, x31, x43);
+  f252(x45, x34, x1, x31, x43);
   x4 = ld8_1(x45);
   x7 = ld8_1(ADD(x45, 8));
   x10 = ld8_1(ADD(x45, 9));
@@ -26201,7 +26023,7 @@ b18:;
   MEMCPY(ADD(x35, 2), x48, 6);
   st64_8(ADD(x35, 8), x22);
   st16_2(ADD(x35, 16), x20);
-  x23 = f263(x35);
+  x23 = f255(x35);
   { x24 = x23; goto b10; }
 b10:;
   st8_1(x0, 1u);
@@ -26263,30 +26085,30 @@ b8:;
   x38 = f16(x35);
   if (((u8)(x1 < x38))) goto b9; else goto b10;
 b10:;
-  x39 = f80(x35, x1);
+  x39 = f76(x35, x1);
   if (((u8)((x39) & 1u))) { x25 = 4294967295u; goto b11; } else goto b9;
 b9:;
-  x40 = FAR(x35, 1584);
+  x40 = FAR(x35, 1560);
   x41 = ld64_8(x40);
   if (((u8)(x41 == UINT64_C(18446744073709551615)))) goto b12; else goto b13;
 b13:;
   st64_8(x40, ((u64)((u64)x41 + 1u)));
   goto b12;
 b12:;
-  x42 = FAR(x35, 1576);
+  x42 = FAR(x35, 1552);
   x43 = ld64_8(x42);
   if (((u8)(x43 == UINT64_C(18446744073709551615)))) goto b14; else goto b15;
 b15:;
   st64_8(x42, ((u64)((u64)x43 + 1u)));
   goto b14;
 b14:;
-  x44 = FAR(x35, 1496);
+  x44 = FAR(x35, 1448);
   MEMSET(x45, 0u, 32);
   MEMSET(x46, 0u, 32);
   x47 = ld64_8(x37);
   if (((u8)(x1 < x47))) goto b16; else goto b17;
 b16:;
-  f134(x45, x35, x1, x44);
+  f129(x45, x35, x1, x44);
   x4 = ld8_1(x45);
   x7 = ld8_1(ADD(x45, 8));
   x10 = ld8_1(ADD(x45, 9));
@@ -26299,7 +26121,7 @@ b17:;
   st8_1(ADD(x49, 16), x30);
   st8_1(ADD(x49, 17), x3);
   MEMCPY(ADD(x49, 18), x28, 16);
-  f257(x46, x35, x1, x49, x44);
+  f250(x46, x35, x1, x49, x44);
   x5 = ld8_1(x46);
   x8 = ld8_1(ADD(x46, 8));
   x11 = ld8_1(ADD(x46, 9));
@@ -26320,7 +26142,7 @@ b19:;
   MEMCPY(ADD(x36, 2), x48, 6);
   st64_8(ADD(x36, 8), x23);
   st16_2(ADD(x36, 16), x21);
-  x24 = f263(x36);
+  x24 = f255(x36);
   { x25 = x24; goto b11; }
 b11:;
   st8_1(x0, 1u);
@@ -26388,7 +26210,7 @@ b9:;
 b10:;
   if (((u8)(((u8)(((u8)(x36 == 1u)) | x44)) & ((u8)(((u8)(x43 == 0u)) | ((u8)(((u32)((u32)x43 + 4294966016u)) < 221u))))))) goto b11; else { x25 = 4294967293u; goto b1; }
 b11:;
-  st8_1(x26, 8u);
+  st8_1(x26, 7u);
   x45 = ADD(x26, 4);
   st16_2(x45, x37);
   st16_2(ADD(x26, 6), x38);
@@ -26416,31 +26238,31 @@ b15:;
   x51 = f16(x48);
   if (((u8)(x1 < x51))) goto b16; else goto b17;
 b17:;
-  x52 = f80(x48, x1);
+  x52 = f76(x48, x1);
   if (((u8)((x52) & 1u))) { x24 = 4294967295u; goto b18; } else goto b16;
 b16:;
-  x53 = FAR(x48, 1584);
+  x53 = FAR(x48, 1560);
   x54 = ld64_8(x53);
   if (((u8)(x54 == UINT64_C(18446744073709551615)))) goto b19; else goto b20;
 b20:;
   st64_8(x53, ((u64)((u64)x54 + 1u)));
   goto b19;
 b19:;
-  x55 = FAR(x48, 1576);
+  x55 = FAR(x48, 1552);
   x56 = ld64_8(x55);
   if (((u8)(x56 == UINT64_C(18446744073709551615)))) goto b21; else goto b22;
 b22:;
   st64_8(x55, ((u64)((u64)x56 + 1u)));
   goto b21;
 b21:;
-  x57 = FAR(x48, 1496);
+  x57 = FAR(x48, 1448);
   MEMSET(x58, 0u, 32);
   MEMSET(x59, 0u, 32);
   x60 = ld64_8(x50);
   x61 = ADD(x58, 10);
   if (((u8)(x1 < x60))) goto b23; else goto b24;
 b23:;
-  f134(x58, x48, x1, x57);
+  f129(x58, x48, x1, x57);
   x3 = ld8_1(x58);
   x6 = ld8_1(ADD(x58, 8));
   x9 = ld8_1(ADD(x58, 9));
@@ -26449,7 +26271,7 @@ b23:;
   x15 = ld16_2(ADD(x58, 24));
   { x5 = x3; x8 = x6; x11 = x9; x14 = x12; x17 = x15; goto b25; }
 b24:;
-  f249(x59, x48, x1, x45, x57);
+  f242(x59, x48, x1, x45, x57);
   x4 = ld8_1(x59);
   x7 = ld8_1(ADD(x59, 8));
   x10 = ld8_1(ADD(x59, 9));
@@ -26470,7 +26292,7 @@ b26:;
   MEMCPY(ADD(x49, 2), x62, 6);
   st64_8(ADD(x49, 8), x22);
   st16_2(ADD(x49, 16), x20);
-  x23 = f263(x49);
+  x23 = f255(x49);
   { x24 = x23; goto b18; }
 b18:;
   st8_1(x0, 1u);
@@ -26537,7 +26359,7 @@ b7:;
   { x25 = 4294967293u; goto b6; }
 b10:;
   MEMCPY(ADD(x26, 6), x36, 14);
-  st8_1(x26, 9u);
+  st8_1(x26, 8u);
   x41 = ADD(x26, 4);
   st8_1(x41, x34);
   st8_1(ADD(x26, 5), x35);
@@ -26563,31 +26385,31 @@ b14:;
   x47 = f16(x44);
   if (((u8)(x1 < x47))) goto b15; else goto b16;
 b16:;
-  x48 = f80(x44, x1);
+  x48 = f76(x44, x1);
   if (((u8)((x48) & 1u))) { x24 = 4294967295u; goto b17; } else goto b15;
 b15:;
-  x49 = FAR(x44, 1584);
+  x49 = FAR(x44, 1560);
   x50 = ld64_8(x49);
   if (((u8)(x50 == UINT64_C(18446744073709551615)))) goto b18; else goto b19;
 b19:;
   st64_8(x49, ((u64)((u64)x50 + 1u)));
   goto b18;
 b18:;
-  x51 = FAR(x44, 1576);
+  x51 = FAR(x44, 1552);
   x52 = ld64_8(x51);
   if (((u8)(x52 == UINT64_C(18446744073709551615)))) goto b20; else goto b21;
 b21:;
   st64_8(x51, ((u64)((u64)x52 + 1u)));
   goto b20;
 b20:;
-  x53 = FAR(x44, 1496);
+  x53 = FAR(x44, 1448);
   MEMSET(x54, 0u, 32);
   MEMSET(x55, 0u, 32);
   x56 = ld64_8(x46);
   x57 = ADD(x54, 10);
   if (((u8)(x1 < x56))) goto b22; else goto b23;
 b22:;
-  f134(x54, x44, x1, x53);
+  f129(x54, x44, x1, x53);
   x3 = ld8_1(x54);
   x6 = ld8_1(ADD(x54, 8));
   x9 = ld8_1(ADD(x54, 9));
@@ -26596,7 +26418,7 @@ b22:;
   x15 = ld16_2(ADD(x54, 24));
   { x5 = x3; x8 = x6; x11 = x9; x14 = x12; x17 = x15; goto b24; }
 b23:;
-  f250(x55, x44, x1, x41, x53);
+  f243(x55, x44, x1, x41, x53);
   x4 = ld8_1(x55);
   x7 = ld8_1(ADD(x55, 8));
   x10 = ld8_1(ADD(x55, 9));
@@ -26617,7 +26439,7 @@ b25:;
   MEMCPY(ADD(x45, 2), x58, 6);
   st64_8(ADD(x45, 8), x22);
   st16_2(ADD(x45, 16), x20);
-  x23 = f263(x45);
+  x23 = f255(x45);
   { x24 = x23; goto b17; }
 b17:;
   st8_1(x0, 1u);
@@ -26662,31 +26484,31 @@ b5:;
   x33 = f16(x30);
   if (((u8)(x1 < x33))) goto b6; else goto b7;
 b7:;
-  x34 = f80(x30, x1);
+  x34 = f76(x30, x1);
   if (((u8)((x34) & 1u))) { x24 = 4294967295u; goto b8; } else goto b6;
 b6:;
-  x35 = FAR(x30, 1584);
+  x35 = FAR(x30, 1560);
   x36 = ld64_8(x35);
   if (((u8)(x36 == UINT64_C(18446744073709551615)))) goto b9; else goto b10;
 b10:;
   st64_8(x35, ((u64)((u64)x36 + 1u)));
   goto b9;
 b9:;
-  x37 = FAR(x30, 1576);
+  x37 = FAR(x30, 1552);
   x38 = ld64_8(x37);
   if (((u8)(x38 == UINT64_C(18446744073709551615)))) goto b11; else goto b12;
 b12:;
   st64_8(x37, ((u64)((u64)x38 + 1u)));
   goto b11;
 b11:;
-  x39 = FAR(x30, 1496);
+  x39 = FAR(x30, 1448);
   MEMSET(x40, 0u, 32);
   MEMSET(x41, 0u, 32);
   x42 = ld64_8(x32);
   x43 = ADD(x40, 10);
   if (((u8)(x1 < x42))) goto b13; else goto b14;
 b13:;
-  f134(x40, x30, x1, x39);
+  f129(x40, x30, x1, x39);
   x3 = ld8_1(x40);
   x6 = ld8_1(ADD(x40, 8));
   x9 = ld8_1(ADD(x40, 9));
@@ -26695,7 +26517,7 @@ b13:;
   x15 = ld16_2(ADD(x40, 24));
   { x5 = x3; x8 = x6; x11 = x9; x14 = x12; x17 = x15; goto b15; }
 b14:;
-  f245(x41, x30, x1, x27, x39);
+  f240(x41, x30, x1, x27, x39);
   x4 = ld8_1(x41);
   x7 = ld8_1(ADD(x41, 8));
   x10 = ld8_1(ADD(x41, 9));
@@ -26716,7 +26538,7 @@ b16:;
   MEMCPY(ADD(x31, 2), x44, 6);
   st64_8(ADD(x31, 8), x22);
   st16_2(ADD(x31, 16), x20);
-  x23 = f263(x31);
+  x23 = f255(x31);
   { x24 = x23; goto b8; }
 b8:;
   st8_1(x0, 1u);
@@ -26760,10 +26582,10 @@ b4:;
   x16 = f16(x13);
   if (((u8)(x1 < x16))) goto b6; else goto b7;
 b7:;
-  x17 = f80(x13, x1);
+  x17 = f76(x13, x1);
   if (((u8)((x17) & 1u))) { x7 = 4294967295u; goto b8; } else goto b6;
 b6:;
-  f131(x13, x1, x10);
+  f126(x13, x1, x10);
   MEMSET(x15, 0u, 6);
   { x4 = 0u; x5 = 0u; goto b5; }
 b5:;
@@ -26771,7 +26593,7 @@ b5:;
   st8_1(ADD(x14, 1), 0u);
   MEMCPY(ADD(x14, 2), x15, 6);
   st64_8(ADD(x14, 8), x4);
-  x6 = f263(x14);
+  x6 = f255(x14);
   { x7 = x6; goto b8; }
 b8:;
   st8_1(x0, 1u);
@@ -26818,31 +26640,31 @@ b4:;
   x33 = f16(x30);
   if (((u8)(x1 < x33))) goto b5; else goto b6;
 b6:;
-  x34 = f80(x30, x1);
+  x34 = f76(x30, x1);
   if (((u8)((x34) & 1u))) { x24 = 4294967295u; goto b7; } else goto b5;
 b5:;
-  x35 = FAR(x30, 1584);
+  x35 = FAR(x30, 1560);
   x36 = ld64_8(x35);
   if (((u8)(x36 == UINT64_C(18446744073709551615)))) goto b8; else goto b9;
 b9:;
   st64_8(x35, ((u64)((u64)x36 + 1u)));
   goto b8;
 b8:;
-  x37 = FAR(x30, 1576);
+  x37 = FAR(x30, 1552);
   x38 = ld64_8(x37);
   if (((u8)(x38 == UINT64_C(18446744073709551615)))) goto b10; else goto b11;
 b11:;
   st64_8(x37, ((u64)((u64)x38 + 1u)));
   goto b10;
 b10:;
-  x39 = FAR(x30, 1496);
+  x39 = FAR(x30, 1448);
   MEMSET(x40, 0u, 32);
   MEMSET(x41, 0u, 32);
   x42 = ld64_8(x32);
   x43 = ADD(x40, 10);
   if (((u8)(x1 < x42))) goto b12; else goto b13;
 b12:;
-  f134(x40, x30, x1, x39);
+  f129(x40, x30, x1, x39);
   x3 = ld8_1(x40);
   x6 = ld8_1(ADD(x40, 8));
   x9 = ld8_1(ADD(x40, 9));
@@ -26851,7 +26673,7 @@ b12:;
   x15 = ld16_2(ADD(x40, 24));
   { x5 = x3; x8 = x6; x11 = x9; x14 = x12; x17 = x15; goto b14; }
 b13:;
-  f244(x41, x30, x1, x27, x39);
+  f239(x41, x30, x1, x27, x39);
   x4 = ld8_1(x41);
   x7 = ld8_1(ADD(x41, 8));
   x10 = ld8_1(ADD(x41, 9));
@@ -26872,7 +26694,7 @@ b15:;
   MEMCPY(ADD(x31, 2), x44, 6);
   st64_8(ADD(x31, 8), x22);
   st16_2(ADD(x31, 16), x20);
-  x23 = f263(x31);
+  x23 = f255(x31);
   { x24 = x23; goto b7; }
 b7:;
   st8_1(x0, 1u);
@@ -26911,7 +26733,7 @@ b4:;
   x16 = f16(x12);
   if (((u8)(x1 < x16))) { x4 = x3; goto b6; } else goto b7;
 b7:;
-  x17 = f80(x12, x1);
+  x17 = f76(x12, x1);
   if (((u8)((x17) & 1u))) { x8 = 4294967295u; goto b8; } else goto b9;
 b9:;
   x2 = ld64_8(x14);
@@ -26929,7 +26751,7 @@ b5:;
   st8_1(ADD(x13, 1), 0u);
   MEMCPY(ADD(x13, 2), x15, 6);
   st64_8(ADD(x13, 8), x5);
-  x7 = f263(x13);
+  x7 = f255(x13);
   { x8 = x7; goto b8; }
 b8:;
   st8_1(x0, 1u);
@@ -26942,16 +26764,16 @@ b0:;
 static u32 m_nd_receive(Q x0, u64 x1, Q x2, u64 x3)
 {
   u16 x5, x14, x4;
-  u64 x7, x16, x15, x27, x34, x36, x6;
-  u8 x9, x11, x12, x13, x21, x28, x29, x8, x10, x31, x32;
+  u64 x7, x16, x15, x26, x34, x36, x6;
+  u8 x9, x11, x12, x13, x21, x27, x29, x8, x10, x31, x32;
   u32 x18, x19, x17;
   Q x20, x22, x23, x30, x33, x35;
   _Alignas(8) u8 y0_[40];
-  Q const x25 = Q_OF(y0_);
+  Q const x28 = Q_OF(y0_);
   _Alignas(8) u8 y1_[24];
   Q const x24 = Q_OF(y1_);
   _Alignas(2) u8 y2_[6];
-  Q const x26 = Q_OF(y2_);
+  Q const x25 = Q_OF(y2_);
   x20 = FAR(x2, (u64)(((u8)((u64)x2 == 0u)) ? 4096u : 0u));
   if (((u8)(x1 > UINT64_C(4611686018427387903)))) { x19 = 4294967293u; goto b0; } else goto b1;
 b1:;
@@ -26962,62 +26784,60 @@ b2:;
   x23 = ldp_1(x22);
   MEMSET(x0, 0u, 16);
   st64_8(ADD(x24, 16), 0u);
-  MEMSET(x25, 0u, 40);
   x15 = ld64_8(FAR(x23, 64));
   if (((u8)(x1 < x15))) goto b3; else goto b4;
 b3:;
-  MEMSET(x26, 0u, 6);
+  MEMSET(x25, 0u, 6);
   { x12 = 0u; x13 = 3u; x14 = 0u; x16 = x15; goto b5; }
 b4:;
-  x27 = f16(x23);
-  if (((u8)(x1 < x27))) goto b6; else goto b7;
+  x26 = f16(x23);
+  if (((u8)(x1 < x26))) goto b6; else goto b7;
 b7:;
-  x28 = f80(x23, x1);
-  if (((u8)((x28) & 1u))) goto b8; else goto b6;
+  x27 = f76(x23, x1);
+  if (((u8)((x27) & 1u))) { x18 = 4294967295u; goto b8; } else goto b6;
 b6:;
-  f137(x25, x23, x1, x20, x3, FAR(x23, 1496));
-  x29 = ld8_1(x25);
-  x8 = ld8_1(ADD(x25, 8));
-  x10 = ld8_1(ADD(x25, 9));
-  x30 = ADD(x25, 10);
-  x31 = ld8_1(ADD(x25, 32));
+  MEMSET(x28, 0u, 40);
+  f131(x28, x23, x1, x20, x3, FAR(x23, 1448));
+  x29 = ld8_1(x28);
+  x8 = ld8_1(ADD(x28, 8));
+  x10 = ld8_1(ADD(x28, 9));
+  x30 = ADD(x28, 10);
+  x31 = ld8_1(ADD(x28, 32));
   x32 = (u8)(x29 != 0u);
   if ((x32 ? 1u : ((u8)((x31) & 1u)))) goto b9; else goto b10;
 b9:;
-  x33 = FAR(x23, 1584);
+  x33 = FAR(x23, 1560);
   x34 = ld64_8(x33);
   if (((u8)(x34 == UINT64_C(18446744073709551615)))) goto b11; else goto b12;
 b12:;
   st64_8(x33, ((u64)((u64)x34 + 1u)));
   goto b11;
 b11:;
-  x35 = FAR(x23, 1576);
+  x35 = FAR(x23, 1552);
   x36 = ld64_8(x35);
   if (((u8)(x36 == UINT64_C(18446744073709551615)))) goto b13; else goto b14;
 b14:;
   st64_8(x35, ((u64)((u64)x36 + 1u)));
   goto b13;
 b13:;
-  MEMSET(x26, 0u, 6);
+  MEMSET(x25, 0u, 6);
   if (x32) { x5 = 0u; x7 = 0u; x9 = 0u; x11 = 0u; goto b15; } else goto b10;
 b10:;
-  MEMCPY(x26, x30, 6);
-  x6 = ld64_8(ADD(x25, 16));
-  x4 = ld16_2(ADD(x25, 24));
+  MEMCPY(x25, x30, 6);
+  x6 = ld64_8(ADD(x28, 16));
+  x4 = ld16_2(ADD(x28, 24));
   { x5 = x4; x7 = x6; x9 = x8; x11 = x10; goto b15; }
-b8:;
-  { x18 = 4294967295u; goto b16; }
 b15:;
-  if (((u8)(x29 == 0u))) { x12 = x11; x13 = x9; x14 = x5; x16 = x7; goto b5; } else { x18 = 4294967295u; goto b16; }
+  if (((u8)(x29 == 0u))) { x12 = x11; x13 = x9; x14 = x5; x16 = x7; goto b5; } else { x18 = 4294967295u; goto b8; }
 b5:;
   st8_1(x24, x13);
   st8_1(ADD(x24, 1), x12);
-  MEMCPY(ADD(x24, 2), x26, 6);
+  MEMCPY(ADD(x24, 2), x25, 6);
   st64_8(ADD(x24, 8), x16);
   st16_2(ADD(x24, 16), x14);
-  x17 = f263(x24);
-  { x18 = x17; goto b16; }
-b16:;
+  x17 = f255(x24);
+  { x18 = x17; goto b8; }
+b8:;
   st8_1(x0, 1u);
   stp_1(x22, x23);
   { x19 = x18; goto b0; }
@@ -27045,7 +26865,7 @@ static u32 m_nd_remove_address(Q x0, u64 x1, Q x2)
   MEMSET(ADD(x26, 16), 0u, 56);
   x27 = ADD(x26, 1);
   MEMCPY(x27, x2, 16);
-  st8_1(x26, 13u);
+  st8_1(x26, 12u);
   if (((u8)(x1 > UINT64_C(4611686018427387903)))) { x25 = 4294967293u; goto b0; } else goto b1;
 b1:;
   x28 = ld8_1(x0);
@@ -27062,31 +26882,31 @@ b4:;
   x33 = f16(x30);
   if (((u8)(x1 < x33))) goto b5; else goto b6;
 b6:;
-  x34 = f80(x30, x1);
+  x34 = f76(x30, x1);
   if (((u8)((x34) & 1u))) { x24 = 4294967295u; goto b7; } else goto b5;
 b5:;
-  x35 = FAR(x30, 1584);
+  x35 = FAR(x30, 1560);
   x36 = ld64_8(x35);
   if (((u8)(x36 == UINT64_C(18446744073709551615)))) goto b8; else goto b9;
 b9:;
   st64_8(x35, ((u64)((u64)x36 + 1u)));
   goto b8;
 b8:;
-  x37 = FAR(x30, 1576);
+  x37 = FAR(x30, 1552);
   x38 = ld64_8(x37);
   if (((u8)(x38 == UINT64_C(18446744073709551615)))) goto b10; else goto b11;
 b11:;
   st64_8(x37, ((u64)((u64)x38 + 1u)));
   goto b10;
 b10:;
-  x39 = FAR(x30, 1496);
+  x39 = FAR(x30, 1448);
   MEMSET(x40, 0u, 32);
   MEMSET(x41, 0u, 32);
   x42 = ld64_8(x32);
   x43 = ADD(x40, 10);
   if (((u8)(x1 < x42))) goto b12; else goto b13;
 b12:;
-  f134(x40, x30, x1, x39);
+  f129(x40, x30, x1, x39);
   x3 = ld8_1(x40);
   x6 = ld8_1(ADD(x40, 8));
   x9 = ld8_1(ADD(x40, 9));
@@ -27095,7 +26915,7 @@ b12:;
   x15 = ld16_2(ADD(x40, 24));
   { x5 = x3; x8 = x6; x11 = x9; x14 = x12; x17 = x15; goto b14; }
 b13:;
-  f261(x41, x30, x1, x27, x39);
+  f253(x41, x30, x1, x27, x39);
   x4 = ld8_1(x41);
   x7 = ld8_1(ADD(x41, 8));
   x10 = ld8_1(ADD(x41, 9));
@@ -27116,7 +26936,7 @@ b15:;
   MEMCPY(ADD(x31, 2), x44, 6);
   st64_8(ADD(x31, 8), x22);
   st16_2(ADD(x31, 16), x20);
-  x23 = f263(x31);
+  x23 = f255(x31);
   { x24 = x23; goto b7; }
 b7:;
   st8_1(x0, 1u);
@@ -27165,17 +26985,17 @@ b4:;
   x28 = f16(x22);
   if (((u8)(x1 < x28))) goto b6; else goto b7;
 b7:;
-  x29 = f80(x22, x1);
+  x29 = f76(x22, x1);
   if (((u8)((x29) & 1u))) goto b8; else goto b6;
 b6:;
-  x30 = FAR(x22, 1584);
+  x30 = FAR(x22, 1560);
   x31 = ld64_8(x30);
   if (((u8)(x31 == UINT64_C(18446744073709551615)))) goto b9; else goto b10;
 b10:;
   st64_8(x30, ((u64)((u64)x31 + 1u)));
   goto b9;
 b9:;
-  x32 = FAR(x22, 1576);
+  x32 = FAR(x22, 1552);
   x33 = ld64_8(x32);
   if (((u8)(x33 == UINT64_C(18446744073709551615)))) goto b11; else goto b12;
 b12:;
@@ -27184,7 +27004,7 @@ b12:;
 b8:;
   { x17 = 4294967295u; goto b13; }
 b11:;
-  f262(x26, x22, x1, x24, x25, x4, x19, x6, FAR(x22, 1496));
+  f254(x26, x22, x1, x24, x25, x4, x19, x6, FAR(x22, 1448));
   x34 = ld8_1(x26);
   x9 = ld8_1(ADD(x26, 8));
   x7 = ld8_1(ADD(x26, 9));
@@ -27198,7 +27018,7 @@ b5:;
   MEMCPY(ADD(x23, 2), x27, 6);
   st64_8(ADD(x23, 8), x15);
   st16_2(ADD(x23, 16), x12);
-  x16 = f263(x23);
+  x16 = f255(x23);
   { x17 = x16; goto b13; }
 b13:;
   st8_1(x0, 1u);
@@ -27210,264 +27030,242 @@ b0:;
 
 static u32 m_nd_stop_advertising(Q x0, u64 x1)
 {
-  u8 x4, x7, x10, x17, x18, x25, x31, x2, x5, x8, x3, x6, x9;
-  u64 x13, x21, x20, x30, x33, x35, x39, x11, x12;
-  u16 x16, x19, x14, x15;
-  u32 x23, x24, x22;
-  Q x26, x27, x29, x32, x34, x36, x40, x42;
-  _Alignas(8) u8 y0_[32];
-  Q const x37 = Q_OF(y0_);
-  _Alignas(8) u8 y1_[32];
-  Q const x38 = Q_OF(y1_);
-  _Alignas(8) u8 y2_[24];
-  Q const x28 = Q_OF(y2_);
-  _Alignas(2) u8 y3_[6];
-  Q const x41 = Q_OF(y3_);
-  if (((u8)(x1 > UINT64_C(4611686018427387903)))) { x24 = 4294967293u; goto b0; } else goto b1;
+  Q x3, x35, x36, x38, x41, x43, x45, x48, x55, x63, x73, x74, x79, x2, x83, x90, x91;
+  u64 x5, x7, x22, x30, x29, x39, x42, x44, x47, x20, x75, x77, x80, x4, x6, x82, x84, x89, x21;
+  u8 x9, x11, x13, x15, x17, x19, x26, x27, x34, x40, x14, x16, x18, x53, x8, x10, x12, x64, x65, x66, x67, x68, x78, x85, x87, x88;
+  u16 x25, x28, x23, x24;
+  u32 x32, x33, x69, x70, x71, x31;
+  _Alignas(8) u8 y0_[624];
+  Q const x58 = Q_OF(y0_);
+  _Alignas(1) u8 y1_[591];
+  Q const x72 = Q_OF(y1_);
+  _Alignas(8) u8 y2_[584];
+  Q const x62 = Q_OF(y2_);
+  Q const x76 = Q_OF(y2_);
+  _Alignas(8) u8 y3_[576];
+  Q const x86 = Q_OF(y3_);
+  _Alignas(8) u8 y4_[32];
+  Q const x50 = Q_OF(y4_);
+  _Alignas(8) u8 y5_[32];
+  Q const x46 = Q_OF(y5_);
+  _Alignas(1) u8 y6_[31];
+  Q const x60 = Q_OF(y6_);
+  _Alignas(8) u8 y7_[24];
+  Q const x59 = Q_OF(y7_);
+  _Alignas(8) u8 y8_[24];
+  Q const x81 = Q_OF(y8_);
+  _Alignas(8) u8 y9_[24];
+  Q const x37 = Q_OF(y9_);
+  _Alignas(1) u8 y10_[17];
+  Q const x51 = Q_OF(y10_);
+  _Alignas(1) u8 y11_[16];
+  Q const x57 = Q_OF(y11_);
+  _Alignas(2) u8 y12_[16];
+  Q const x52 = Q_OF(y12_);
+  _Alignas(2) u8 y13_[16];
+  Q const x54 = Q_OF(y13_);
+  _Alignas(1) u8 y14_[6];
+  Q const x61 = Q_OF(y14_);
+  _Alignas(1) u8 y15_[6];
+  Q const x56 = Q_OF(y15_);
+  _Alignas(2) u8 y16_[6];
+  Q const x49 = Q_OF(y16_);
+  if (((u8)(x1 > UINT64_C(4611686018427387903)))) { x33 = 4294967293u; goto b0; } else goto b1;
 b1:;
-  x25 = ld8_1(x0);
-  if (((u8)((x25) & 1u))) goto b2; else { x24 = 4294967294u; goto b0; }
+  x34 = ld8_1(x0);
+  if (((u8)((x34) & 1u))) goto b2; else { x33 = 4294967294u; goto b0; }
 b2:;
-  x26 = FAR(x0, 8);
-  x27 = ldp_1(x26);
+  x35 = FAR(x0, 8);
+  x36 = ldp_1(x35);
   MEMSET(x0, 0u, 16);
-  st64_8(ADD(x28, 16), 0u);
-  x29 = FAR(x27, 64);
-  x20 = ld64_8(x29);
-  if (((u8)(x1 < x20))) goto b3; else goto b4;
+  MEMSET(x37, 0u, 24);
+  x38 = FAR(x36, 64);
+  x29 = ld64_8(x38);
+  if (((u8)(x1 < x29))) goto b3; else goto b4;
 b4:;
-  x30 = f16(x27);
-  if (((u8)(x1 < x30))) goto b5; else goto b6;
+  x39 = f16(x36);
+  if (((u8)(x1 < x39))) goto b5; else goto b6;
 b6:;
-  x31 = f80(x27, x1);
-  if (((u8)((x31) & 1u))) { x23 = 4294967295u; goto b7; } else goto b5;
+  x40 = f76(x36, x1);
+  if (((u8)((x40) & 1u))) { x32 = 4294967295u; goto b7; } else goto b5;
 b5:;
-  x32 = FAR(x27, 1584);
-  x33 = ld64_8(x32);
-  if (((u8)(x33 == UINT64_C(18446744073709551615)))) goto b8; else goto b9;
+  x41 = FAR(x36, 1560);
+  x42 = ld64_8(x41);
+  if (((u8)(x42 == UINT64_C(18446744073709551615)))) goto b8; else goto b9;
 b9:;
-  st64_8(x32, ((u64)((u64)x33 + 1u)));
+  st64_8(x41, ((u64)((u64)x42 + 1u)));
   goto b8;
 b8:;
-  x34 = FAR(x27, 1576);
-  x35 = ld64_8(x34);
-  if (((u8)(x35 == UINT64_C(18446744073709551615)))) goto b10; else goto b11;
+  x43 = FAR(x36, 1552);
+  x44 = ld64_8(x43);
+  if (((u8)(x44 == UINT64_C(18446744073709551615)))) goto b10; else goto b11;
 b11:;
-  st64_8(x34, ((u64)((u64)x35 + 1u)));
+  st64_8(x43, ((u64)((u64)x44 + 1u)));
   goto b10;
 b10:;
-  x36 = FAR(x27, 1496);
-  MEMSET(x37, 0u, 32);
-  MEMSET(x38, 0u, 32);
-  x39 = ld64_8(x29);
-  x40 = ADD(x37, 10);
-  if (((u8)(x1 < x39))) goto b12; else goto b13;
+  x45 = FAR(x36, 1448);
+  MEMSET(x46, 0u, 32);
+  x47 = ld64_8(x38);
+  x48 = ADD(x46, 10);
+  if (((u8)(x1 < x47))) goto b12; else goto b13;
 b12:;
-  f134(x37, x27, x1, x36);
-  x2 = ld8_1(x37);
-  x5 = ld8_1(ADD(x37, 8));
-  x8 = ld8_1(ADD(x37, 9));
-  MEMCPY(x41, x40, 6);
-  x11 = ld64_8(ADD(x37, 16));
-  x14 = ld16_2(ADD(x37, 24));
-  { x4 = x2; x7 = x5; x10 = x8; x13 = x11; x16 = x14; goto b14; }
+  f129(x46, x36, x1, x45);
+  x14 = ld8_1(x46);
+  x16 = ld8_1(ADD(x46, 8));
+  x18 = ld8_1(ADD(x46, 9));
+  MEMCPY(x49, x48, 6);
+  x20 = ld64_8(ADD(x46, 16));
+  x23 = ld16_2(ADD(x46, 24));
+  { x15 = x14; x17 = x16; x19 = x18; x22 = x20; x25 = x23; goto b14; }
 b13:;
-  f259(x38, x27, x1, x36);
-  x3 = ld8_1(x38);
-  x6 = ld8_1(ADD(x38, 8));
-  x9 = ld8_1(ADD(x38, 9));
-  x42 = ADD(x38, 10);
-  MEMCPY(x40, x42, 16);
-  MEMCPY(x41, x42, 6);
-  x12 = ld64_8(ADD(x37, 16));
-  x15 = ld16_2(ADD(x37, 24));
-  { x4 = x3; x7 = x6; x10 = x9; x13 = x12; x16 = x15; goto b14; }
-b3:;
-  MEMSET(x41, 0u, 6);
-  { x17 = 0u; x18 = 3u; x19 = 0u; x21 = x20; goto b15; }
-b14:;
-  if (((u8)(x4 == 0u))) { x17 = x10; x18 = x7; x19 = x16; x21 = x13; goto b15; } else { x23 = 4294967295u; goto b7; }
+  MEMSET(x50, 0u, 32);
+  MEMSET(ADD(x51, 1), 0u, 16);
+  MEMSET(x52, 0u, 16);
+  x53 = ld8_1(x36);
+  if (((u8)(x53 == 0u))) goto b15; else goto b16;
 b15:;
-  st8_1(x28, x18);
-  st8_1(ADD(x28, 1), x17);
-  MEMCPY(ADD(x28, 2), x41, 6);
-  st64_8(ADD(x28, 8), x21);
-  st16_2(ADD(x28, 16), x19);
-  x22 = f263(x28);
-  { x23 = x22; goto b7; }
-b7:;
-  st8_1(x0, 1u);
-  stp_1(x26, x27);
-  { x24 = x23; goto b0; }
-b0:;
-  return x24;
-}
-
-static u32 m_nd_receive_message(Q x0, u64 x1, Q x2, Q x3, u64 x4)
-{
-  u8 x6, x8, x20, x22, x23, x30, x36, x41, x53, x54, x7, x5, x56, x57;
-  u16 x10, x21, x42, x43, x9;
-  u64 x13, x27, x31, x38, x46, x47, x11, x52, x59, x61, x12;
-  u32 x15, x16, x17, x14;
-  Q x18, x19, x24, x25, x26, x32, x34, x37, x45, x49, x55, x58, x60;
-  _Alignas(8) u8 y0_[54];
-  Q const x40 = Q_OF(y0_);
-  Q const x50 = Q_OF(y0_);
-  _Alignas(1) u8 y1_[32];
-  Q const x39 = Q_OF(y1_);
-  _Alignas(1) u8 y2_[31];
-  Q const x33 = Q_OF(y2_);
-  _Alignas(8) u8 y3_[24];
-  Q const x29 = Q_OF(y3_);
-  _Alignas(8) u8 y4_[24];
-  Q const x35 = Q_OF(y4_);
-  _Alignas(8) u8 y5_[24];
-  Q const x48 = Q_OF(y5_);
-  _Alignas(2) u8 y6_[6];
-  Q const x51 = Q_OF(y6_);
-  _Alignas(2) u8 y7_[2];
-  Q const x44 = Q_OF(y7_);
-  _Alignas(1) u8 y8_[1];
-  Q const x28 = Q_OF(y8_);
-  x18 = FAR(x3, (u64)(((u8)((u64)x3 == 0u)) ? 4096u : 0u));
-  x19 = FAR(x2, 33);
-  x20 = ld8_1(x19);
-  if (((u8)(x20 < 2u))) goto b0; else { x17 = 4294967293u; goto b1; }
-b0:;
-  x21 = ld16_2(FAR(x2, 34));
-  if (((u8)(((u8)(((u64)((u64)x4 + UINT64_C(18446744073709551615))) < 65535u)) & ((u8)(x21 == 0u))))) goto b2; else { x17 = 4294967293u; goto b1; }
-b2:;
-  x22 = ld8_1(x18);
-  if (((u8)(((u8)(x1 > UINT64_C(4611686018427387903))) | ((u8)(((u8)((u32)x22 + 118u)) < 251u))))) { x17 = 4294967293u; goto b1; } else goto b3;
-b3:;
-  x23 = ld8_1(x0);
-  if (((u8)((x23) & 1u))) goto b4; else { x17 = 4294967294u; goto b1; }
-b4:;
-  x24 = FAR(x0, 8);
-  x25 = ldp_1(x24);
-  MEMSET(x0, 0u, 16);
-  x26 = FAR(x25, 64);
-  x27 = ld64_8(x26);
-  if (((u8)(x1 < x27))) { x16 = 4294967292u; goto b5; } else goto b6;
-b6:;
-  stp_8(x29, x28);
-  MEMSET(ADD(x29, 8), 0u, 16);
-  x30 = f264(x29, ((u64)((u64)x4 + 54u)));
-  if (x30) goto b7; else goto b8;
-b8:;
-  x31 = ld64_8(ADD(x29, 16));
-  if (((u8)(x31 == 0u))) goto b9; else goto b10;
-b10:;
-  x32 = ldp_8(x29);
-  os_rattle_dealloc(x32);
-  goto b9;
-b7:;
-  x34 = ADD(x33, 7);
-  MEMCPY(x34, x29, 24);
-  MEMCPY(x35, x34, 24);
-  x36 = ld8_1(FAR(x2, 32));
-  x37 = FAR(x2, 16);
-  x38 = (((((u64)((u64)((u64)x36) << 56)) | (((u64)((u64)x4 << 40)) & UINT64_C(280375465082880))) | (((u64)((u64)x4 << 24)) & UINT64_C(1095216660480))) | UINT64_C(16325548649218144));
-  MEMCPY(x39, x2, 16);
-  MEMCPY(ADD(x39, 16), x37, 16);
-  MEMSET(x40, 0u, 12);
-  st16_1(ADD(x40, 12), 56710u);
-  st64_1(ADD(x40, 14), x38);
-  MEMCPY(ADD(x40, 22), x39, 32);
-  f265(x35, x40, 54u);
-  x41 = ld8_1(x19);
-  if (((u8)(x41 == 1u))) goto b11; else goto b12;
-b11:;
-  x42 = f121(x2, x37, x18, x4);
-  if (((u8)(x4 < 4u))) goto b13; else goto b14;
-b13:;
-  f265(x35, x18, x4);
-  goto b15;
-b14:;
-  f265(x35, x18, 2u);
-  x43 = bswap16(x42);
-  st16_2(x44, x43);
-  f265(x35, x44, 2u);
-  f265(x35, FAR(x18, 4), ((u64)((u64)x4 + UINT64_C(18446744073709551612))));
-  goto b15;
-b15:;
-  goto b16;
-b12:;
-  f265(x35, x18, x4);
-  goto b16;
-b9:;
-  { x16 = 4294967295u; goto b5; }
+  st8_1(x51, 0u);
+  f149(x50, x36, x1, x51, x45);
+  x8 = ld8_1(x50);
+  x10 = ld8_1(ADD(x50, 8));
+  x12 = ld8_1(ADD(x50, 9));
+  MEMCPY(x54, ADD(x50, 10), 16);
+  { x9 = x8; x11 = x10; x13 = x12; goto b17; }
 b16:;
-  x45 = ldp_8(x35);
-  x46 = ld64_8(ADD(x35, 8));
-  x47 = ld64_8(ADD(x35, 16));
-  x49 = ADD(x48, 16);
-  st64_8(x49, 0u);
-  MEMSET(x50, 0u, 40);
-  x11 = ld64_8(x26);
-  if (((u8)(x1 < x11))) goto b17; else goto b18;
-b17:;
-  MEMSET(x51, 0u, 6);
-  { x6 = 0u; x8 = 3u; x10 = 0u; x13 = x11; goto b19; }
-b18:;
-  x52 = f16(x25);
-  if (((u8)(x1 < x52))) goto b20; else goto b21;
-b21:;
-  x53 = f80(x25, x1);
-  if (((u8)((x53) & 1u))) goto b22; else goto b20;
-b20:;
-  f137(x50, x25, x1, x45, x46, FAR(x25, 1496));
-  x54 = ld8_1(x50);
-  x7 = ld8_1(ADD(x50, 8));
-  x5 = ld8_1(ADD(x50, 9));
-  x55 = ADD(x50, 10);
-  x56 = ld8_1(ADD(x50, 32));
-  x57 = (u8)(x54 != 0u);
-  if ((x57 ? 1u : ((u8)((x56) & 1u)))) goto b23; else goto b24;
-b23:;
-  x58 = FAR(x25, 1584);
-  x59 = ld64_8(x58);
-  if (((u8)(x59 == UINT64_C(18446744073709551615)))) goto b25; else goto b26;
-b26:;
-  st64_8(x58, ((u64)((u64)x59 + 1u)));
-  goto b25;
-b25:;
-  x60 = FAR(x25, 1576);
-  x61 = ld64_8(x60);
-  if (((u8)(x61 == UINT64_C(18446744073709551615)))) goto b27; else goto b28;
-b28:;
-  st64_8(x60, ((u64)((u64)x61 + 1u)));
-  goto b27;
-b27:;
-  if (x57) goto b29; else goto b24;
-b24:;
-  MEMCPY(x51, x55, 6);
-  x12 = ld64_8(ADD(x50, 16));
-  x9 = ld16_2(ADD(x50, 24));
-  { x6 = x5; x8 = x7; x10 = x9; x13 = x12; goto b19; }
-b22:;
-  { x15 = 4294967295u; goto b30; }
-b29:;
-  { x15 = 4294967295u; goto b30; }
+  x55 = FAR(x36, 1);
+  MEMCPY(x56, x55, 6);
+  MEMCPY(x57, FAR(x36, 286), 16);
+  st64_8(ADD(x58, 32), 0u);
+  MEMSET(x59, 0u, 24);
+  MEMSET(x60, 0u, 31);
+  MEMCPY(x61, x55, 6);
+  MEMSET(x62, 0u, 584);
+  x63 = FAR(x36, 1112);
+  x64 = ld8_1(x63);
+  x65 = (u8)(x64 != 1u);
+  if (x65) goto b18; else goto b19;
 b19:;
-  st8_1(x48, x8);
-  st8_1(ADD(x48, 1), x6);
-  MEMCPY(ADD(x48, 2), x51, 6);
-  st64_8(ADD(x48, 8), x13);
-  st16_2(x49, x10);
-  x14 = f263(x48);
-  { x15 = x14; goto b30; }
+  x66 = ld8_1(FAR(x36, 1132));
+  x67 = ld8_1(FAR(x36, 1133));
+  x68 = ld8_1(FAR(x36, 1134));
+  x69 = ld32_1(FAR(x36, 1140));
+  x70 = ld32_1(FAR(x36, 1144));
+  x71 = ld32_1(FAR(x36, 1148));
+  f122(x62, FAR(x36, 1080), x61, x71);
+  x73 = ADD(x72, 7);
+  MEMCPY(x73, x62, 584);
+  st8_1(x58, 1u);
+  MEMSET(ADD(x58, 1), 0u, 3);
+  st8_1(ADD(x58, 4), x66);
+  st8_1(ADD(x58, 5), ((u8)(x67 & 1u)));
+  st8_1(ADD(x58, 6), ((u8)(x68 & 1u)));
+  st8_1(ADD(x58, 7), 1u);
+  st16_2(ADD(x58, 8), 0u);
+  st16_2(ADD(x58, 10), 0u);
+  st32_4(ADD(x58, 12), x69);
+  st32_4(ADD(x58, 16), x70);
+  MEMSET(ADD(x58, 20), 0u, 13);
+  x74 = ADD(x58, 40);
+  MEMCPY(x74, x73, 584);
+  x75 = ld64_8(FAR(x36, 1192));
+  MEMSET(x76, 0u, 32);
+  x77 = umax64(((u64)((u64)((u64)((u64)x75 << 5)) + 32u)), 32u);
+  f72(x76, ((u64)((u64)x77 + 54u)));
+  x78 = ld8_1(x76);
+  if (((u8)(x78 == 0u))) goto b20; else goto b21;
+b18:;
+  { x3 = Q_NULL; x5 = 0u; x7 = 0u; goto b22; }
+b20:;
+  x79 = ADD(x60, 7);
+  MEMCPY(x79, ADD(x76, 8), 24);
+  x80 = ld64_8(ADD(x58, 616));
+  MEMCPY(x81, x79, 24);
+  f124(x59, x81, x56, x57, x58, x74, x80);
+  f125(x74);
+  x2 = ldp_8(x59);
+  x4 = ld64_8(ADD(x59, 8));
+  x6 = ld64_8(ADD(x59, 16));
+  { x3 = x2; x5 = x4; x7 = x6; goto b22; }
+b22:;
+  x82 = ld64_8(FAR(x36, 1488));
+  x83 = FAR(x36, 1480);
+  x84 = ld64_8(x83);
+  if (((u8)(x82 == x84))) goto b23; else goto b24;
+b23:;
+  x85 = f78(FAR(x36, 1472), 1u);
+  if (x85) goto b24; else goto b25;
+b21:;
+  MEMCPY(x86, x73, 576);
+  f125(x86);
+  MEMSET(x54, 0u, 16);
+  { x9 = 1u; x11 = 0u; x13 = 0u; goto b17; }
+b24:;
+  x87 = ld8_1(x63);
+  if (((u8)(x87 == 1u))) goto b26; else goto b27;
+b26:;
+  x88 = ld8_1(FAR(x36, 1152));
+  if (((u8)(x88 == 0u))) goto b27; else goto b28;
+b25:;
+  if ((x65 ? 1u : ((u8)(x7 == 0u)))) goto b29; else goto b30;
 b30:;
-  if (((u8)(x47 == 0u))) { x16 = x15; goto b5; } else goto b31;
+  os_rattle_dealloc(x3);
+  goto b29;
+b29:;
+  MEMSET(x54, 0u, 16);
+  { x9 = 1u; x11 = 0u; x13 = 0u; goto b17; }
+b28:;
+  st64_1(FAR(x36, 1096), 1u);
+  st64_1(FAR(x36, 1104), x1);
+  MEMSET(x63, 0u, 80);
+  st64_8(x38, x1);
+  if (x65) goto b31; else goto b32;
+b32:;
+  x89 = ld64_8(x83);
+  x90 = ldp_8(FAR(x36, 1472));
+  x91 = ADD(x90, (u64)((u64)((u64)x89 * 80u)));
+  st64_1(x91, x1);
+  st64_1(ADD(x91, 8), 0u);
+  stp_1(ADD(x91, 16), x3);
+  st64_1(ADD(x91, 24), x5);
+  st64_1(ADD(x91, 32), x7);
+  MEMSET(ADD(x91, 40), 0u, 40);
+  st64_8(x83, ((u64)((u64)x89 + 1u)));
+  goto b31;
+b27:;
+  MEMSET(x63, 0u, 80);
+  st64_8(x38, x1);
+  if ((x65 ? 1u : ((u8)(x7 == 0u)))) goto b31; else goto b33;
+b33:;
+  os_rattle_dealloc(x3);
+  goto b31;
 b31:;
-  os_rattle_dealloc(x45);
-  { x16 = x15; goto b5; }
-b5:;
+  MEMCPY(x54, x52, 16);
+  { x9 = 0u; x11 = 0u; x13 = 0u; goto b17; }
+b17:;
+  MEMCPY(x48, x54, 16);
+  MEMCPY(x49, x54, 6);
+  x21 = ld64_8(ADD(x46, 16));
+  x24 = ld16_2(ADD(x46, 24));
+  { x15 = x9; x17 = x11; x19 = x13; x22 = x21; x25 = x24; goto b14; }
+b3:;
+  MEMSET(x49, 0u, 6);
+  { x26 = 0u; x27 = 3u; x28 = 0u; x30 = x29; goto b34; }
+b14:;
+  if (((u8)(x15 == 0u))) { x26 = x19; x27 = x17; x28 = x25; x30 = x22; goto b34; } else { x32 = 4294967295u; goto b7; }
+b34:;
+  st8_1(x37, x27);
+  st8_1(ADD(x37, 1), x26);
+  MEMCPY(ADD(x37, 2), x49, 6);
+  st64_8(ADD(x37, 8), x30);
+  st16_2(ADD(x37, 16), x28);
+  x31 = f255(x37);
+  { x32 = x31; goto b7; }
+b7:;
   st8_1(x0, 1u);
-  stp_1(x24, x25);
-  { x17 = x16; goto b1; }
-b1:;
-  return x17;
+  stp_1(x35, x36);
+  { x33 = x32; goto b0; }
+b0:;
+  return x33;
 }
 
 static u32 m_nd_confirm_to(Q x0, u64 x1, Q x2, u64 x3)
@@ -27507,10 +27305,10 @@ b4:;
   x16 = u128_or(u128_shl(u128_of(0, x12), (unsigned)u128_low(u128_of(0u, 64u)) & 127u), u128_of(0, x11));
   x17 = bswap128(x16);
   x18 = (u64)(u128_low(u128_lshr(u128_mul(x17, u128_of(UINT64_C(11400714819323198485), UINT64_C(17554116967691831349))), (unsigned)u128_low(u128_of(0u, 120u)) & 127u)));
-  x19 = ld64_8(FAR(x10, 1560));
+  x19 = ld64_8(FAR(x10, 1536));
   x20 = (((u64)((u64)x19 + 255u)) & x18);
-  x21 = ldp_8(FAR(x10, 1552));
-  x22 = FAR(x10, 1576);
+  x21 = ldp_8(FAR(x10, 1528));
+  x22 = FAR(x10, 1552);
   { x5 = 0u; goto b6; }
 b6:;
   x23 = (x5 ^ x20);
@@ -27550,7 +27348,7 @@ b18:;
   UNREACHABLE();
 b17:;
   MEMCPY(x38, ADD(x24, 16), 16);
-  f131(x10, x1, x38);
+  f126(x10, x1, x38);
   { x6 = 0u; goto b5; }
 b15:;
   if (((u8)(x15 < x1))) goto b19; else goto b20;
@@ -27561,13 +27359,13 @@ b13:;
   x39 = f16(x10);
   if (((u8)(x1 < x39))) goto b21; else goto b22;
 b22:;
-  x40 = f80(x10, x1);
+  x40 = f76(x10, x1);
   if (((u8)((x40) & 1u))) goto b23; else goto b21;
 b21:;
   st64_8(x41, x11);
   x42 = ADD(x41, 8);
   st64_8(x42, x12);
-  f267(x43, x10, x1, x41);
+  f256(x43, x10, x1, x41);
   if (((u8)(x13 == 255u))) goto b24; else goto b25;
 b25:;
   st64_8(x41, x11);
@@ -27583,7 +27381,7 @@ b27:;
 b28:;
   UNREACHABLE();
 b29:;
-  f268(x46, FAR(x10, 448), x1, x45);
+  f257(x46, FAR(x10, 448), x1, x45);
   x47 = ld8_1(x46);
   if (((u8)(x47 == 1u))) goto b30; else goto b31;
 b30:;
@@ -27616,7 +27414,7 @@ b20:;
 b38:;
   { x6 = 1u; goto b5; }
 b36:;
-  f131(x10, x1, x45);
+  f126(x10, x1, x45);
   { x6 = 0u; goto b5; }
 b5:;
   st8_1(x0, 1u);
@@ -27668,10 +27466,10 @@ b4:;
   x62 = u128_or(u128_shl(u128_of(0, x56), (unsigned)u128_low(u128_of(0u, 64u)) & 127u), u128_of(0, x55));
   x63 = bswap128(x62);
   x64 = (u64)(u128_low(u128_lshr(u128_mul(x63, u128_of(UINT64_C(11400714819323198485), UINT64_C(17554116967691831349))), (unsigned)u128_low(u128_of(0u, 120u)) & 127u)));
-  x65 = ld64_8(FAR(x54, 1560));
+  x65 = ld64_8(FAR(x54, 1536));
   x66 = (((u64)((u64)x65 + 255u)) & x64);
-  x67 = ldp_8(FAR(x54, 1552));
-  x68 = FAR(x54, 1576);
+  x67 = ldp_8(FAR(x54, 1528));
+  x68 = FAR(x54, 1552);
   { x5 = 0u; goto b6; }
 b6:;
   x69 = (x5 ^ x66);
@@ -27709,7 +27507,7 @@ b12:;
 b5:;
   { x21 = x19; x23 = x17; x25 = x15; x27 = x13; x29 = x13; x31 = x12; x33 = x11; x35 = x8; goto b14; }
 b13:;
-  f269(x58, x54, x1, x57);
+  f258(x58, x54, x1, x57);
   x78 = ld8_1(x58);
   x30 = ld8_1(ADD(x58, 8));
   x28 = ld8_1(ADD(x58, 9));
@@ -27722,7 +27520,7 @@ b13:;
   x20 = ld64_8(ADD(x58, 40));
   if (((u8)(x78 == 0u))) { x21 = x20; x23 = x22; x25 = x24; x27 = x26; x29 = x28; x31 = x30; x33 = x32; x35 = x34; goto b14; } else { x50 = 4294967295u; goto b15; }
 b14:;
-  x39 = ld64_8(FAR(x54, 1584));
+  x39 = ld64_8(FAR(x54, 1560));
   x79 = (u32)(x35);
   switch (x31) { case 0u: { x49 = 4294967292u; goto b16; } case 1u: goto b17; case 2u: goto b18; default: goto b19; }
 b17:;
@@ -27795,14 +27593,168 @@ static u64 m_nd_node_bytes(Q x0)
   u8 x4;
   _Alignas(2) u8 y0_[24];
   Q const x3 = Q_OF(y0_);
-  f27(x3, x0);
+  f25(x3, x0);
   x4 = ld8_1(x3);
   if (((u8)(x4 == 1u))) goto b0; else { x2 = 0u; goto b1; }
 b0:;
-  x1 = f273(ADD(x3, 2));
+  x1 = f262(ADD(x3, 2));
   { x2 = x1; goto b1; }
 b1:;
   return x2;
+}
+
+static u32 m_nd_receive_message(Q x0, u64 x1, Q x2, Q x3, u64 x4)
+{
+  u8 x6, x8, x14, x16, x17, x23, x26, x32, x37, x45, x5, x7, x47, x48;
+  u32 x10, x11, x9;
+  Q x12, x13, x18, x19, x28, x30, x33, x41, x46, x49, x51;
+  u16 x15, x38, x39;
+  u64 x21, x22, x27, x34, x42, x43, x50, x52;
+  _Alignas(8) u8 y0_[54];
+  Q const x36 = Q_OF(y0_);
+  Q const x44 = Q_OF(y0_);
+  _Alignas(1) u8 y1_[32];
+  Q const x35 = Q_OF(y1_);
+  _Alignas(1) u8 y2_[31];
+  Q const x29 = Q_OF(y2_);
+  _Alignas(8) u8 y3_[24];
+  Q const x25 = Q_OF(y3_);
+  _Alignas(8) u8 y4_[24];
+  Q const x31 = Q_OF(y4_);
+  _Alignas(8) u8 y5_[24];
+  Q const x20 = Q_OF(y5_);
+  _Alignas(2) u8 y6_[16];
+  Q const x53 = Q_OF(y6_);
+  _Alignas(2) u8 y7_[2];
+  Q const x40 = Q_OF(y7_);
+  _Alignas(1) u8 y8_[1];
+  Q const x24 = Q_OF(y8_);
+  x12 = FAR(x3, (u64)(((u8)((u64)x3 == 0u)) ? 4096u : 0u));
+  x13 = FAR(x2, 33);
+  x14 = ld8_1(x13);
+  if (((u8)(x14 < 2u))) goto b0; else { x11 = 4294967293u; goto b1; }
+b0:;
+  x15 = ld16_2(FAR(x2, 34));
+  if (((u8)(((u8)(((u64)((u64)x4 + UINT64_C(18446744073709551615))) < 65535u)) & ((u8)(x15 == 0u))))) goto b2; else { x11 = 4294967293u; goto b1; }
+b2:;
+  x16 = ld8_1(x12);
+  if (((u8)(((u8)(x1 > UINT64_C(4611686018427387903))) | ((u8)(((u8)((u32)x16 + 118u)) < 251u))))) { x11 = 4294967293u; goto b1; } else goto b3;
+b3:;
+  x17 = ld8_1(x0);
+  if (((u8)((x17) & 1u))) goto b4; else { x11 = 4294967294u; goto b1; }
+b4:;
+  x18 = FAR(x0, 8);
+  x19 = ldp_1(x18);
+  MEMSET(x0, 0u, 16);
+  MEMSET(x20, 0u, 24);
+  x21 = ld64_8(FAR(x19, 64));
+  if (((u8)(x1 < x21))) { x10 = 4294967292u; goto b5; } else goto b6;
+b6:;
+  x22 = f16(x19);
+  if (((u8)(x1 < x22))) goto b7; else goto b8;
+b8:;
+  x23 = f76(x19, x1);
+  if (((u8)((x23) & 1u))) { x10 = 4294967295u; goto b5; } else goto b7;
+b7:;
+  stp_8(x25, x24);
+  MEMSET(ADD(x25, 8), 0u, 16);
+  x26 = f263(x25, ((u64)((u64)x4 + 54u)));
+  if (x26) goto b9; else goto b10;
+b10:;
+  x27 = ld64_8(ADD(x25, 16));
+  if (((u8)(x27 == 0u))) goto b11; else goto b12;
+b12:;
+  x28 = ldp_8(x25);
+  os_rattle_dealloc(x28);
+  goto b11;
+b9:;
+  x30 = ADD(x29, 7);
+  MEMCPY(x30, x25, 24);
+  MEMCPY(x31, x30, 24);
+  x32 = ld8_1(FAR(x2, 32));
+  x33 = FAR(x2, 16);
+  x34 = (((((u64)((u64)((u64)x32) << 56)) | (((u64)((u64)x4 << 40)) & UINT64_C(280375465082880))) | (((u64)((u64)x4 << 24)) & UINT64_C(1095216660480))) | UINT64_C(16325548649218144));
+  MEMCPY(x35, x2, 16);
+  MEMCPY(ADD(x35, 16), x33, 16);
+  MEMSET(x36, 0u, 12);
+  st16_1(ADD(x36, 12), 56710u);
+  st64_1(ADD(x36, 14), x34);
+  MEMCPY(ADD(x36, 22), x35, 32);
+  f264(x31, x36, 54u);
+  x37 = ld8_1(x13);
+  if (((u8)(x37 == 1u))) goto b13; else goto b14;
+b13:;
+  x38 = f116(x2, x33, x12, x4);
+  if (((u8)(x4 < 4u))) goto b15; else goto b16;
+b15:;
+  f264(x31, x12, x4);
+  goto b17;
+b16:;
+  f264(x31, x12, 2u);
+  x39 = bswap16(x38);
+  st16_2(x40, x39);
+  f264(x31, x40, 2u);
+  f264(x31, FAR(x12, 4), ((u64)((u64)x4 + UINT64_C(18446744073709551612))));
+  goto b17;
+b17:;
+  goto b18;
+b14:;
+  f264(x31, x12, x4);
+  goto b18;
+b18:;
+  x41 = ldp_8(x31);
+  x42 = ld64_8(ADD(x31, 8));
+  x43 = ld64_8(ADD(x31, 16));
+  MEMSET(x44, 0u, 40);
+  f131(x44, x19, x1, x41, x42, FAR(x19, 1448));
+  x45 = ld8_1(x44);
+  x5 = ld8_1(ADD(x44, 8));
+  x7 = ld8_1(ADD(x44, 9));
+  x46 = ADD(x44, 10);
+  x47 = ld8_1(ADD(x44, 32));
+  x48 = (u8)(x45 != 0u);
+  if ((x48 ? 1u : ((u8)((x47) & 1u)))) goto b19; else goto b20;
+b19:;
+  x49 = FAR(x19, 1560);
+  x50 = ld64_8(x49);
+  if (((u8)(x50 == UINT64_C(18446744073709551615)))) goto b21; else goto b22;
+b22:;
+  st64_8(x49, ((u64)((u64)x50 + 1u)));
+  goto b21;
+b21:;
+  x51 = FAR(x19, 1552);
+  x52 = ld64_8(x51);
+  if (((u8)(x52 == UINT64_C(18446744073709551615)))) goto b23; else goto b24;
+b24:;
+  st64_8(x51, ((u64)((u64)x52 + 1u)));
+  goto b23;
+b23:;
+  MEMSET(x53, 0u, 16);
+  if (x48) { x6 = 0u; x8 = 0u; goto b25; } else goto b20;
+b20:;
+  MEMCPY(x53, x46, 16);
+  { x6 = x5; x8 = x7; goto b25; }
+b25:;
+  if (((u8)(x43 == 0u))) goto b26; else goto b27;
+b27:;
+  os_rattle_dealloc(x41);
+  goto b26;
+b11:;
+  { x10 = 4294967295u; goto b5; }
+b26:;
+  if (((u8)(x45 == 0u))) goto b28; else { x10 = 4294967295u; goto b5; }
+b28:;
+  st8_1(x20, x6);
+  st8_1(ADD(x20, 1), x8);
+  MEMCPY(ADD(x20, 2), x53, 16);
+  x9 = f255(x20);
+  { x10 = x9; goto b5; }
+b5:;
+  st8_1(x0, 1u);
+  stp_1(x18, x19);
+  { x11 = x10; goto b1; }
+b1:;
+  return x11;
 }
 
 static u64 m_nd_pool_bytes(Q x0, u64 x1)
@@ -27815,7 +27767,7 @@ static u64 m_nd_pool_bytes(Q x0, u64 x1)
   Q const x4 = Q_OF(y0_);
   _Alignas(2) u8 y1_[22];
   Q const x18 = Q_OF(y1_);
-  f27(x4, x0);
+  f25(x4, x0);
   x5 = ld8_1(x4);
   if (((u8)(x5 == 1u))) goto b0; else { x3 = 0u; goto b1; }
 b0:;
@@ -27845,7 +27797,7 @@ b0:;
   x20 = (u64)x9;
   x21 = (u64)((u64)((u64)((u64)x20 << 1)) + ((u64)x7));
   x22 = (u64)x11;
-  x23 = f273(x18);
+  x23 = f262(x18);
   x24 = (u64)x15;
   x25 = (u64)((u64)x24 * 24u);
   x26 = (u64)((u64)((u64)((u64)((u64)((u64)((u64)((u64)x17 + 8192u)) + (((u64)((u64)((u64)((u64)x17 << 1)) + 62u)) & 524256u))) + ((u64)((u64)((u64)((u64)x20 + x19)) * 224u)))) + ((u64)((u32)((u32)((u32)((u32)((u32)((u32)x12 >> 16)) + (x12 & 65535u))) << 6))));
@@ -27887,10 +27839,10 @@ b4:;
   x12 = f16(x9);
   if (((u8)(x1 < x12))) goto b5; else goto b6;
 b6:;
-  x13 = f80(x9, x1);
+  x13 = f76(x9, x1);
   if (((u8)((x13) & 1u))) { x5 = 4294967295u; goto b3; } else goto b5;
 b5:;
-  f267(x14, x9, x1, x10);
+  f256(x14, x9, x1, x10);
   x15 = ld8_1(x14);
   MEMCPY(x16, ADD(x14, 1), 16);
   switch (x15) { case 0u: goto b7; case 1u: goto b8; case 2u: goto b9; default: goto b10; }
@@ -28348,7 +28300,7 @@ b2:;
   MEMCPY(x18, x2, 16);
   MEMSET(x19, 0u, 16);
   MEMSET(x20, 0u, 6);
-  f268(x21, FAR(x17, 448), x1, x18);
+  f257(x21, FAR(x17, 448), x1, x18);
   x22 = ld8_1(x21);
   MEMCPY(x23, ADD(x21, 8), 16);
   x6 = ld8_1(ADD(x21, 24));
@@ -28604,11 +28556,11 @@ b5:;
   x4 = (u64)((u64)x5 + 1u);
   if (((u8)(x4 == x2))) goto b3; else { x5 = x4; goto b4; }
 b4:;
-  f24(x20, x18);
+  f22(x20, x18);
   x21 = ld8_1(x20);
   if (((u8)(x21 == 1u))) goto b5; else goto b6;
 b3:;
-  f24(x19, x18);
+  f22(x19, x18);
   x22 = ld8_1(x19);
   MEMCPY(x23, ADD(x19, 1), 32);
   if (((u8)(x22 == 1u))) goto b7; else goto b8;
@@ -28752,7 +28704,7 @@ b2:;
   MEMSET(x18, 0u, 48);
   if (((u8)(x2 == 0u))) goto b3; else { x5 = 0u; goto b4; }
 b4:;
-  f25(x18, x16);
+  f23(x18, x16);
   x19 = ld8_1(x18);
   if (((u8)(x19 == 1u))) goto b5; else goto b6;
 b5:;
@@ -28761,7 +28713,7 @@ b5:;
 b6:;
   goto b7;
 b3:;
-  f25(x17, x16);
+  f23(x17, x16);
   x20 = ld8_1(x17);
   MEMCPY(x21, ADD(x17, 8), 16);
   x22 = ld8_1(ADD(x17, 24));
