@@ -17,6 +17,8 @@ def run(*words: str) -> subprocess.CompletedProcess[str]:
 
 def why_not() -> str:
     """Returns why there is no such link here, or an empty text."""
+    if os.environ.get("ND_LIVE") != "1":
+        return "ND_LIVE=1 makes network namespaces"
     if sys.platform != "linux" or shutil.which("ip") is None:
         return "no command ip of Linux"
     if os.geteuid() != 0:

@@ -23,12 +23,18 @@ def setUpModule() -> None:
     library.compile_library()
 
 
+def interrupts() -> None:
+    """A command that begins in the background of a shell ignores what Ctrl-C sends."""
+    signal.signal(signal.SIGINT, signal.SIG_DFL)
+
+
 class Live(unittest.TestCase):
     def hear(self, hosts: TwoHosts, *words: str) -> "subprocess.Popen[str]":
         """Begins to hear the interface of host b, and returns when it is heard."""
         command = [sys.executable, "-m", "ndbench", "compare", "--interface", "eth0", "--mac", MACS["a"], "--all", *words]
         environment = {**os.environ, "PYTHONPATH": str(PYTHON)}
-        made = subprocess.Popen(hosts.at("b", *command), env=environment, stdout=subprocess.PIPE, stderr=subprocess.PIPE, text=True)
+        made = subprocess.Popen(hosts.at("b", *command), env=environment, stdout=subprocess.PIPE, stderr=subprocess.PIPE, text=True,
+                                preexec_fn=interrupts)
         self.addCleanup(made.wait)
         self.addCleanup(made.kill)
         assert made.stderr is not None
