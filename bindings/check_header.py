@@ -18,6 +18,8 @@ STRUCTS = {"Slot": "nd_node", "Limits": "nd_limits", "Options": "nd_options", "R
            "NameRow": "nd_name_row", "RedirectRow": "nd_redirect_row", "ParametersRow": "nd_parameters_row", "OfferRow": "nd_offer_row",
            "RouteRow": "nd_route_row", "Advertising": "nd_advertising", "CountsRow": "nd_counts_row", "NextHopRow": "nd_next_hop_row",
            "OwnAddress": "nd_own_address", "PathRow": "nd_path", "Message": "nd_message", "Heard": "nd_heard"}
+# The fields of nd_options behind those that the library reads: it takes nothing but zeros there.
+BEHIND_OPTIONS = [("identifier", "[u8; 8]")]
 # What the sources have as arrays, or have not: the memory functions are the toolchain's, which the archive calls.
 OTHER_STRUCTS = {"nd_addr", "nd_mac", "nd_block"}
 ALLOCATOR = """struct nd_block nd_alloc(size_t, size_t);
@@ -214,7 +216,8 @@ class Sources:
         self.structs = structs_of("\n".join(source(crate) for crate in CRATES))
         self.functions = {header: functions_of(source(crate), STRUCTS) for header, crate in EXPORTS.items()}
         self.numbers = numbers_of_source()
-        size = constants_of(["nd_c_types/src/options.rt"], {})["SIZE"]
+        size = constants_of(["nd_c_types/src/options.rt"], {})["SIZE"] + sum(place(kind, {})[0] for _, kind in BEHIND_OPTIONS)
+        self.structs["Options"] += BEHIND_OPTIONS
         self.step = constants_of(["nd_c_types/src/refusal.rt"], {})["STEP"]
         self.program = f"""#undef ND_VERSION_MAJOR
 #undef ND_VERSION_MINOR

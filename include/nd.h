@@ -354,15 +354,64 @@ enum nd_policy {
 
     /* A router sends on only packets whose frame has its own address as the Ethernet destination,
      * and drops others that are not for it. At a host it has no effect. */
-    ND_POLICY_UNICAST = 16
+    ND_POLICY_UNICAST = 16,
+
+    /* The flag A of each prefix option is read as 0, so that an advertisement forms and renews no
+     * address (RFC 4862, 5.5.3 a), and draws no delay for one. The caller forms addresses by rules
+     * of its own (RFC 7217, RFC 8981), and gives them to the node by nd_add_address. */
+    ND_POLICY_UNFORMED = 32,
+
+    /* Not built yet: refused. Each address that is assigned is announced to all nodes (RFC 4861,
+     * 7.2.6). */
+    ND_POLICY_ANNOUNCE = 64,
+
+    /* Not built yet: refused. A host solicits routers until one answers (RFC 7559, 2). */
+    ND_POLICY_SOLICIT = 128,
+
+    /* Not built yet: refused. The solicitations of a detection have a nonce, by which the node
+     * knows its own (RFC 7527, 4). */
+    ND_POLICY_NONCE = 256,
+
+    /* The flag S of a Neighbor Advertisement is read as 0 unless the entry of its target is
+     * INCOMPLETE or in PROBE: in no other state is a solicitation of the node's out. By RFC 4861,
+     * 7.2.5, the flag confirms an entry in any state. Whether an advertisement is valid is judged
+     * by the flag as it was sent (ND_WHY_SOLICITED_MULTICAST). */
+    ND_POLICY_ASKED = 512,
+
+    /* Not built yet: refused. At most half of the neighbours are INCOMPLETE for what the node asks
+     * (RFC 6583, 7.1). */
+    ND_POLICY_LOOKUPS = 1024,
+
+    /* A Router Lifetime above 9,000 s is read as 9,000, the most that a router may be set to (RFC
+     * 4861, 6.2.1). A valid or preferred lifetime of a prefix (4.6.2), and a lifetime of DNS
+     * servers or search names (RFC 8106, 5.1 and 5.2), that is above 604,800 s or has no end is
+     * read as 604,800, a week. What follows from a lifetime, such as whether an address forms, is
+     * judged by what was read. Addresses of nd_add_address keep theirs. */
+    ND_POLICY_LIFETIMES = 2048,
+
+    /* A host drops each Redirect (ND_WHY_NOT_FOR_US). At a router, which takes none, it has no
+     * effect. */
+    ND_POLICY_UNREDIRECTED = 4096,
+
+    /* What an RFC forbids to send, and a node takes by default, is dropped (ND_WHY_NOT_FOR_US): a
+     * Router or Neighbor Solicitation from :: with an option of type 1 of any length (RFC 4861,
+     * 6.1.1 and 7.1.1); a Neighbor Solicitation from another source to a multicast address, without
+     * a Source Link-Layer Address that counts (4.3); a message from ::1, and a packet for the node
+     * from ::1 or from a multicast address (RFC 4291, 2.5.3 and 2.7). And at a host a neighbour
+     * that says that it is a router no longer ends as one (ND_OUT_ENDED_ROUTER) also if it is not
+     * in the list of routers, so that Redirects to it end (RFC 4861, 7.3.3). */
+    ND_POLICY_STRICT = 8192
 };
 
-/* All five, recommended on a link that is not trusted. What is heard is never refused for a limit:
- * a sender that fills a table does not have the messages of others refused whole, and
+/* Recommended on a link that is not trusted. UNFORMED and UNREDIRECTED are not in it, since a host
+ * may need what they leave out; nor is LOOKUPS, before it is built. What is heard is never refused
+ * for a limit: a sender that fills a table does not have the messages of others refused whole, and
  * ND_OUT_IGNORED says which limit a part was passed over for. A forwarded packet and the caller's
  * own events are still refused for one, and a table that a sender has filled stays full:
  * docs/FAULTS.md says for how long, and what else a hostile link can still do. */
-#define ND_POLICIES_ROBUST 31
+#define ND_POLICIES_ROBUST \
+    (ND_POLICY_PARTS | ND_POLICY_SPEAKERS | ND_POLICY_TIMERS | ND_POLICY_SELF | \
+     ND_POLICY_UNICAST | ND_POLICY_ASKED | ND_POLICY_LIFETIMES | ND_POLICY_STRICT)
 
 typedef struct nd_options {
     uint32_t role;     /* enum nd_role */
@@ -375,12 +424,14 @@ typedef struct nd_options {
                           machines that start together do not send together (RFC 4861, 6.3.7) */
     nd_limits limits;
     uint64_t lease_version; /* where nd_lease_version begins; 0: at 1. See nd_close */
+    uint8_t identifier[8];  /* not built yet: other bytes than zeros are refused. The identifier of
+                               its addresses (RFC 4291, 2.5.1); zeros: that of `mac` */
 } nd_options;
 
 /* A host with the usual limits, as are zero bytes. */
 #define ND_OPTIONS_INIT \
     { 0, { { 0, 0, 0, 0, 0, 0 } }, 0, 0, 0, 0, 0, \
-      { 0, 0, 0, 0, 0, 0, 0, 0, 0, 0, 0, { 0, 0, 0, 0, 0 } }, 0 }
+      { 0, 0, 0, 0, 0, 0, 0, 0, 0, 0, 0, { 0, 0, 0, 0, 0 } }, 0, { 0, 0, 0, 0, 0, 0, 0, 0 } }
 
 /* Makes them those of a host with the usual limits. */
 static inline void nd_options_init(nd_options *options)
@@ -394,8 +445,9 @@ static inline void nd_options_init(nd_options *options)
  * (RFC 4861, 6.3.2; RFC 4862, 5.3 and 5.4). `size` is sizeof(nd_options) as the caller knows it: as
  * many bytes are read, and what the caller's structure does not have yet is 0, the default.
  *   ND_DONE        It is open at the moment `start`; nothing is reported yet.
- *   ND_INVALID     It is open already; or a field is outside its range; or a byte is not 0 behind
- *                  the fields that the library knows. Nothing has changed.
+ *   ND_INVALID     It is open already; or a field is outside its range; or a policy is not built
+ *                  yet; or a byte is not 0 behind the fields that the library knows, such as one of
+ *                  `identifier`. Nothing has changed.
  *   ND_NO_MEMORY   It is closed. The same call again is as if it were the first. */
 int32_t nd_open(nd_node *node, const nd_options *options, size_t size);
 
@@ -713,14 +765,16 @@ enum nd_kind {
     ND_OUT_UP = 4,            /* a packet for an assigned address or a group of the node; the bytes
                                  begin with its IPv6 header. Its source is not looked at: it may be
                                  multicast, ::, ::1 or the node's own (RFC 4291, 2.5.2, 2.5.3 and
-                                 2.7). Nor are extension headers and checksums */
+                                 2.7); with ND_POLICY_STRICT it is neither multicast nor ::1. Nor
+                                 are extension headers and checksums */
     ND_OUT_DUPLICATE = 5,     /* the node's address `address` is another node's too, and is not
                                  used. If it is the link-local one, the node is disabled: close it
                                  (RFC 4862, 5.4.5) */
     ND_OUT_ASSIGNED = 6,      /* the node's address `address` may be used (RFC 4862, 5.4) */
     ND_OUT_ENDED_ADDRESS = 7, /* the node's address `address` is gone (RFC 4862, 5.5.4), or was
                                  removed by nd_remove_address */
-    ND_OUT_ENDED_ROUTER = 8,  /* `address` left the default router list (RFC 4861, 6.3.5) */
+    ND_OUT_ENDED_ROUTER = 8,  /* `address` left the default router list (RFC 4861, 6.3.5), or
+                                 by ND_POLICY_STRICT is a router no longer (7.3.3) */
     ND_OUT_FAILED = 9,        /* neighbour `address` was not resolved or not reached, and is removed
                                  (RFC 4861, 7.2.2 and 7.3.3). Its packets follow as ND_OUT_LOST */
     ND_OUT_LOST = 10,         /* a packet is not sent; `code`: enum nd_loss; the bytes begin with

@@ -16,7 +16,7 @@ typedef struct {
 
 enum { MODULE_NODE_BYTES = 16, MODULE_AT = 8 };
 
-_Static_assert(sizeof(nd_limits) == 32 && sizeof(nd_options) == 72 && sizeof(nd_own_address) == 24 && sizeof(nd_advertising) == 32 &&
+_Static_assert(sizeof(nd_limits) == 32 && sizeof(nd_options) == 80 && sizeof(nd_own_address) == 24 && sizeof(nd_advertising) == 32 &&
                    sizeof(nd_offer_row) == 32 && sizeof(nd_route_row) == 40 && sizeof(nd_heard) == 108 && sizeof(nd_neighbour_row) == 40 &&
                    sizeof(nd_router_row) == 32 && sizeof(nd_prefix_row) == 32 && sizeof(nd_address_row) == 40 && sizeof(nd_server_row) == 24 &&
                    sizeof(nd_name_row) == 272 && sizeof(nd_redirect_row) == 32 && sizeof(nd_parameters_row) == 24 && sizeof(nd_counts_row) == 72 &&
@@ -59,7 +59,7 @@ static void os_rattle_dealloc(Q p)
 /* The fields of structures: '8', '4' and '2' are numbers of so many bytes, '1' is a byte, 'a' an address, 'm' an Ethernet address, 't' the text of
  * a name. */
 #define LIMITS "2222222222222222"
-#define OPTIONS "4m11488" LIMITS "8"
+#define OPTIONS "4m11488" LIMITS "811111111"
 #define COUNTS "4444444444" LIMITS
 #define OWN_ADDRESS "a44"
 #define PATH "88am1144"

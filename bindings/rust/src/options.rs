@@ -32,7 +32,8 @@ pub enum Draws {
     Word(u32),
 }
 
-/// What a node does on a link that is not trusted, each where it is asked for. The default is none.
+/// What a node does on a link that is not trusted, each where it is asked for. The default is none. `nd.h` names four more, which are not built yet: a
+/// node with one of them is refused.
 ///
 /// ```
 /// let mut policies = nd::Policies::default();
@@ -62,18 +63,51 @@ pub struct Policies {
     /// A router sends on only packets whose frame has its own address as the Ethernet destination, and drops others that are not for it. At a host it
     /// has no effect.
     pub unicast: bool,
+    /// The flag A of each prefix option is read as 0, so that an advertisement forms and renews no address (RFC 4862, 5.5.3 a), and draws no delay
+    /// for one. The caller forms addresses by rules of its own (RFC 7217, RFC 8981), and gives them to the node by
+    /// [`Node::add_address`](crate::Node::add_address).
+    pub unformed: bool,
+    /// The flag S of a Neighbor Advertisement is read as 0 unless the entry of its target is INCOMPLETE or in PROBE: in no other state is a
+    /// solicitation of the node's out. By RFC 4861, 7.2.5, the flag confirms an entry in any state. Whether an advertisement is valid is judged by
+    /// the flag as it was sent ([`Why::SolicitedMulticast`](crate::Why::SolicitedMulticast)).
+    pub asked: bool,
+    /// A Router Lifetime above 9,000 s is read as 9,000, the most that a router may be set to (RFC 4861, 6.2.1). A valid or preferred lifetime of a
+    /// prefix (4.6.2), and a lifetime of DNS servers or search names (RFC 8106, 5.1 and 5.2), that is above 604,800 s or has no end is read as
+    /// 604,800, a week. What follows from a lifetime, such as whether an address forms, is judged by what was read. Addresses of
+    /// [`Node::add_address`](crate::Node::add_address) keep theirs.
+    pub lifetimes: bool,
+    /// A host drops each Redirect as [`Why::NotForUs`](crate::Why::NotForUs). At a router, which takes none, it has no effect.
+    pub unredirected: bool,
+    /// What an RFC forbids to send, and a node takes by default, is dropped as [`Why::NotForUs`](crate::Why::NotForUs): a Router or Neighbor
+    /// Solicitation from `::` with an option of type 1 of any length (RFC 4861, 6.1.1 and 7.1.1); a Neighbor Solicitation from another source to a
+    /// multicast address, without a Source Link-Layer Address that counts (4.3); a message from `::1`, and a packet for the node from `::1` or from a
+    /// multicast address (RFC 4291, 2.5.3 and 2.7). And at a host a neighbour that says that it is a router no longer ends as one
+    /// ([`Output::EndedRouter`](crate::Output::EndedRouter)) also if it is not in the list of routers, so that Redirects to it end (RFC 4861, 7.3.3).
+    pub strict: bool,
 }
 
 impl Policies {
-    /// Returns all five, recommended on a link that is not trusted. What is heard is never refused for a limit then. A forwarded packet and the
-    /// caller's own events still are.
+    /// Returns those that are recommended on a link that is not trusted: all but `unformed` and `unredirected`, since a host may need what these leave
+    /// out. What is heard is never refused for a limit then. A forwarded packet and the caller's own events still are.
     ///
     /// ```
     /// let policies = nd::Policies::robust();
     /// assert!(policies.parts && policies.speakers && policies.timers && policies.own && policies.unicast);
+    /// assert!(policies.asked && policies.lifetimes && policies.strict);
+    /// assert!(!policies.unformed && !policies.unredirected);
     /// ```
     pub fn robust() -> Policies {
-        Policies { parts: true, speakers: true, timers: true, own: true, unicast: true }
+        Policies {
+            parts: true,
+            speakers: true,
+            timers: true,
+            own: true,
+            unicast: true,
+            asked: true,
+            lifetimes: true,
+            strict: true,
+            ..Policies::default()
+        }
     }
 
     fn number(self) -> u32 {
@@ -83,6 +117,11 @@ impl Policies {
             (self.timers, raw::ND_POLICY_TIMERS),
             (self.own, raw::ND_POLICY_SELF),
             (self.unicast, raw::ND_POLICY_UNICAST),
+            (self.unformed, raw::ND_POLICY_UNFORMED),
+            (self.asked, raw::ND_POLICY_ASKED),
+            (self.lifetimes, raw::ND_POLICY_LIFETIMES),
+            (self.unredirected, raw::ND_POLICY_UNREDIRECTED),
+            (self.strict, raw::ND_POLICY_STRICT),
         ];
         each.into_iter().filter(|(is_chosen, _)| *is_chosen).map(|(_, number)| number).sum()
     }
@@ -211,6 +250,7 @@ impl Options {
             seed,
             limits: self.limits.to_raw(),
             lease_version: self.lease_version,
+            identifier: [0; 8],
         }
     }
 }

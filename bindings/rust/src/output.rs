@@ -49,7 +49,7 @@ pub enum Output<Bytes = Vec<u8>> {
     /// This address of the node is gone: its valid lifetime has ended (RFC 4862, 5.5.4), or
     /// [`Node::remove_address`](crate::Node::remove_address) removed it.
     EndedAddress(Ipv6Addr),
-    /// This router left the default router list (RFC 4861, 6.3.5).
+    /// This router left the default router list (RFC 4861, 6.3.5), or by [`Policies::strict`](crate::Policies::strict) is a router no longer (7.3.3).
     EndedRouter(Ipv6Addr),
     /// This neighbour was not resolved or not reached, and is removed (RFC 4861, 7.2.2 and 7.3.3). Its packets follow as [`Lost`](Output::Lost).
     Failed(Ipv6Addr),

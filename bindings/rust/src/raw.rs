@@ -22,6 +22,11 @@ pub const ND_POLICY_SPEAKERS: u32 = 2;
 pub const ND_POLICY_TIMERS: u32 = 4;
 pub const ND_POLICY_SELF: u32 = 8;
 pub const ND_POLICY_UNICAST: u32 = 16;
+pub const ND_POLICY_UNFORMED: u32 = 32;
+pub const ND_POLICY_ASKED: u32 = 512;
+pub const ND_POLICY_LIFETIMES: u32 = 2048;
+pub const ND_POLICY_UNREDIRECTED: u32 = 4096;
+pub const ND_POLICY_STRICT: u32 = 8192;
 
 pub const ND_HOP_DIRECT: u32 = 1;
 pub const ND_HOP_VIA: u32 = 2;
@@ -67,6 +72,7 @@ pub struct nd_options {
     pub seed: u64,
     pub limits: nd_limits,
     pub lease_version: u64,
+    pub identifier: [u8; 8],
 }
 
 #[repr(C)]

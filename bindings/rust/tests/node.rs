@@ -16,6 +16,25 @@ const ADVERTISEMENT_OF_ROUTER: &str =
     "33330000000102000000000186dd6000000000383afffe80000000000000000000fffe000001ff0200000000000000000000000000018600\
     f9ce4000070800000000000000000101020000000001030440c000278d0000093a800000000020010db8000000000000000000000000";
 
+/// A Router Advertisement of the corpus with a router lifetime of 65,535 s, and a prefix, a server and a search name without an end.
+const ADVERTISEMENT_WITHOUT_END: &str =
+    "33330000000102000000000186dd6000000000603afffe80000000000000000000fffe000001ff0200000000000000000000000000018600\
+    60ed4000ffff00000000000000000101020000000001030440c0ffffffffffffffff0000000020010db800000000000000000000000019030000ffffffff20010db80000000000\
+    000000000000531f020000ffffffff0161000000000000";
+
+/// A solicited answer of the router to the host, of the corpus.
+const ANSWER_OF_ROUTER: &str = "3456789abcde02000000000186dd6000000000203afffe80000000000000000000fffe000001fe80000000000000365678fffe9abcde\
+    88002f4ee0000000fe80000000000000000000fffe0000010201020000000001";
+
+/// A Redirect of the router, of the corpus.
+const REDIRECT: &str = "3456789abcde02000000000186dd6000000000303afffe80000000000000000000fffe000001fe80000000000000365678fffe9abcde\
+    8900df7d00000000fe80000000000000000000000000000220010db80001000000000000000000050201020000000002";
+
+/// A solicitation of fe80::2 for the host to its solicited-node address, without a link-layer address, of the corpus.
+const SOLICITATION_WITHOUT_ADDRESS: &str =
+    "3333ff9abcde02000000000286dd6000000000183afffe800000000000000000000000000002ff0200000000000000000001ff9abcde\
+    8700555c00000000fe80000000000000365678fffe9abcde";
+
 /// A solicited answer of 2001:db8::1 to the host.
 const ANSWER: &str = "3456789abcde02000000000986dd6000000000203aff20010db8000000000000000000000001fe80000000000000365678fffe9abcde88004ed66000\
     000020010db80000000000000000000000010201020000000009";
@@ -622,6 +641,50 @@ fn policies_are_chosen() {
         let mut node = Node::open(options).unwrap();
         assert_eq!(node.receive(1_200, &bytes(RETRANS_TIMER_OF_49_DAYS)), Ok(()));
         assert_eq!(node.parameters(1_200).unwrap().retrans_timer, milliseconds(retrans_timer.into()));
+    }
+}
+
+/// Opens a host with a policy, or without one, and passes it a Router Advertisement whose lifetimes have no end.
+fn informed_by(choose: impl Fn(&mut Policies)) -> Node {
+    let mut options = host_options();
+    choose(&mut options.policies);
+    let mut node = Node::open(options).unwrap();
+    node.receive(1_200, &bytes(ADVERTISEMENT_WITHOUT_END)).unwrap();
+    said(&mut node);
+    node
+}
+
+#[test]
+fn what_is_announced_ends() {
+    for (node, router, other) in [(informed_by(|_| ()), 65_535, None), (informed_by(|it| it.lifetimes = true), 9_000, Some(seconds(604_800)))] {
+        assert_eq!(node.routers(1_200).unwrap().next().unwrap().left, seconds(router));
+        assert_eq!(node.prefixes(1_200).unwrap().next().unwrap().left, other);
+        assert_eq!(node.addresses(1_200).unwrap().next().unwrap().valid_left, other);
+        assert_eq!(node.servers(1_200).unwrap().next().unwrap().left, other);
+        assert_eq!(node.names(1_200).unwrap().next().unwrap().left, other);
+    }
+    let unformed = informed_by(|it| it.unformed = true).counts(1_200).unwrap();
+    assert_eq!((unformed.addresses, unformed.prefixes), (1, 1));
+}
+
+#[test]
+fn what_nobody_asked_confirms_nothing() {
+    for (mut node, state) in [(informed_by(|_| ()), Reachability::Reachable), (informed_by(|it| it.asked = true), Reachability::Stale)] {
+        node.receive(1_300, &bytes(ANSWER_OF_ROUTER)).unwrap();
+        assert_eq!(node.neighbour(1_300, address("fe80::ff:fe00:1")).unwrap().unwrap().state, state);
+    }
+}
+
+#[test]
+fn what_a_policy_forbids_is_dropped() {
+    for (mut node, frame, is_dropped) in [
+        (informed_by(|_| ()), REDIRECT, false),
+        (informed_by(|it| it.unredirected = true), REDIRECT, true),
+        (informed_by(|_| ()), SOLICITATION_WITHOUT_ADDRESS, false),
+        (informed_by(|it| it.strict = true), SOLICITATION_WITHOUT_ADDRESS, true),
+    ] {
+        node.receive(1_300, &bytes(frame)).unwrap();
+        assert_eq!(said(&mut node).contains(&Output::Dropped(Why::NotForUs)), is_dropped);
     }
 }
 
