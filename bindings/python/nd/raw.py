@@ -134,21 +134,41 @@ class Policy(IntFlag):
     no use of the asker's entry (RFC 6583, 7). `TIMERS`: of a Router Advertisement, a Cur Hop Limit below 32, a Reachable Time outside 1,000 to
     3,600,000 ms and a Retrans Timer outside 100 to 30,000 ms are read as 0, unspecified (RFC 4861, 4.2). `SELF`: a message from one of the node's
     assigned addresses is dropped, and a link-layer address that is a group's, zeros or the node's own is passed over. `UNICAST`: a router sends
-    on only packets whose frame has its own address as the Ethernet destination. `POLICIES_ROBUST` is all of them."""
+    on only packets whose frame has its own address as the Ethernet destination.
+
+    `UNFORMED`: the flag A of each prefix option is read as 0: an advertisement forms no address, and the caller gives the node its addresses (RFC
+    4862, 5.5.3 a). `ASKED`: the flag S of a Neighbor Advertisement is read as 0 unless the entry of its target is INCOMPLETE or in PROBE (RFC 4861,
+    7.2.5). `LIFETIMES`: a Router Lifetime above 9,000 s is read as 9,000 (RFC 4861, 6.2.1), and a lifetime of a prefix, of DNS servers or of search
+    names above 604,800 s, or without an end, as 604,800. `UNREDIRECTED`: a host drops each Redirect. `STRICT`: what an RFC forbids to send, and a
+    node takes by default, is dropped, and Redirects to a router that says that it is none end (RFC 4861, 4.3, 6.1.1, 7.1.1 and 7.3.3; RFC 4291,
+    2.5.3 and 2.7). include/nd.h says of each all that it does.
+
+    Not built yet, so that a node with one of them is refused (`Invalid`): `ANNOUNCE`, `SOLICIT`, `NONCE` and `LOOKUPS`.
+
+    `POLICIES_ROBUST` are those that are recommended on a link that is not trusted: all that are built but `UNFORMED` and `UNREDIRECTED`."""
     PARTS = 1
     SPEAKERS = 2
     TIMERS = 4
     SELF = 8
     UNICAST = 16
+    UNFORMED = 32
+    ANNOUNCE = 64
+    SOLICIT = 128
+    NONCE = 256
+    ASKED = 512
+    LOOKUPS = 1024
+    LIFETIMES = 2048
+    UNREDIRECTED = 4096
+    STRICT = 8192
 
 
-# All of them, for a link that is not trusted.
-POLICIES_ROBUST = Policy.PARTS | Policy.SPEAKERS | Policy.TIMERS | Policy.SELF | Policy.UNICAST
+# Those that are recommended on a link that is not trusted.
+POLICIES_ROBUST = Policy.PARTS | Policy.SPEAKERS | Policy.TIMERS | Policy.SELF | Policy.UNICAST | Policy.ASKED | Policy.LIFETIMES | Policy.STRICT
 
 
 class nd_options(Structure):
     _fields_ = [("role", c_uint32), ("mac", nd_mac), ("transmits", c_uint8), ("draws", c_uint8), ("policies", c_uint32), ("start", c_uint64),
-                ("seed", c_uint64), ("limits", nd_limits), ("lease_version", c_uint64)]
+                ("seed", c_uint64), ("limits", nd_limits), ("lease_version", c_uint64), ("identifier", c_uint8 * 8)]
 
 
 class Clearable(Numbers):

@@ -14,7 +14,7 @@ import nd
 from .capture import CaptureError, Packet
 from .pcapng import Written
 from .plain import fields_of
-from .sections import section_not_for, section_of_drop
+from .sections import BY_SELF, section_by_policies, section_not_for, section_of_drop
 from .setup import Setup
 from .tables import TABLES
 from .texts import frame_text, heard_by_its_role, record_text, seconds_text
@@ -41,7 +41,6 @@ class Own:
 Event = Union[Passed, Own, nd.Record]
 NOT_YET = "our choice: its link-local address is not yet assigned"  # docs/DECISIONS.md
 DISABLED = "RFC 4862, 5.4.5"
-BY_SELF = "our choice: the policy self"
 
 
 def moment_of(packet: Packet, first: int, begin: int, last: int) -> int:
@@ -135,9 +134,10 @@ class Replay:
             return NOT_YET
         if nd.State.DUPLICATE in states:
             return DISABLED
-        if nd.Policy.SELF in self.setup.options.policies and own.get(frame[22:38]) in (nd.State.PREFERRED, nd.State.DEPRECATED):
+        policies, role = self.setup.options.policies, self.setup.options.role
+        if nd.Policy.SELF in policies and own.get(frame[22:38]) in (nd.State.PREFERRED, nd.State.DEPRECATED):
             return BY_SELF
-        return section_not_for(self.setup.options.role, frame, own)
+        return section_by_policies(policies, role, self.setup.mac, heard_by_its_role(frame)) or section_not_for(role, frame, own)
 
 
 def line_of(frame: bytes) -> str:

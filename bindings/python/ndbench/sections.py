@@ -3,7 +3,7 @@ from __future__ import annotations
 
 from typing import Dict, Optional
 
-from nd import Role, State, Why
+from nd import HeardFrame, Hearing, Mac, Option, Policy, Role, SourceLinkLayerAddress, State, Why, options_of
 
 from .texts import message_type
 
@@ -21,6 +21,11 @@ NOT_ITS_ADDRESS, NOT_SENT_ON = "RFC 4291, 2.8", "RFC 4291, 2.5.6 and 2.8"
 # The target of a solicitation is none of its addresses, or tentative; the destination of a packet is tentative.
 NOT_ITS_TARGET, TENTATIVE_TARGET, TENTATIVE_DESTINATION = "RFC 4861, 7.2.3", "RFC 4862, 5.4.3", "RFC 4862, 5.4"
 SOLICITATION = 135
+SOLICITATIONS = (133, SOLICITATION)
+REDIRECT = 137
+BY_SELF, BY_UNREDIRECTED = "our choice: the policy self", "our choice: the policy unredirected"
+# What the policy `strict` drops: a source that is the loopback address, and a multicast solicitation without a Source Link-Layer Address.
+LOOPBACK_SOURCE, WITHOUT_SOURCE_ADDRESS = "RFC 4291, 2.5.3", "RFC 4861, 4.3"
 
 
 def section_of_drop(why: Why, frame: bytes) -> str:
@@ -29,6 +34,38 @@ def section_of_drop(why: Why, frame: bytes) -> str:
     if why is Why.SOURCE and frame[22] == 0xFF:
         return MULTICAST_SOURCE
     return SECTIONS.get(why) or (VALIDATION[kind] if kind in VALIDATION else "our choice")
+
+
+def section_by_policies(policies: Policy, role: Role, mac: Mac, heard: HeardFrame) -> Optional[str]:
+    """Returns why the policy `unredirected` or `strict` of a node drops a valid message or another packet, or None if neither does. `mac`: the node's
+    own Ethernet address."""
+    if heard.message_type in NOT_TAKEN[role]:
+        return None
+    if Policy.UNREDIRECTED in policies and heard.message_type == REDIRECT:
+        return BY_UNREDIRECTED
+    section = _forbidden(heard, mac if Policy.SELF in policies else None) if Policy.STRICT in policies else None
+    return section and f"{section}: the policy strict"
+
+
+def _forbidden(heard: HeardFrame, own: Optional[Mac]) -> Optional[str]:
+    """Returns the section that forbids to send what was heard, or None. `own`: as for `_counts`."""
+    if heard.source.is_loopback:
+        return LOOPBACK_SOURCE
+    if heard.hearing is Hearing.OTHER:
+        return MULTICAST_SOURCE if heard.source.is_multicast else None
+    options = [option for option in options_of(heard.options) if option.number == SourceLinkLayerAddress.number]
+    if heard.message_type in SOLICITATIONS and heard.source.is_unspecified:
+        return VALIDATION[heard.message_type] if options else None
+    needs_address = heard.message_type == SOLICITATION and heard.destination.is_multicast
+    return WITHOUT_SOURCE_ADDRESS if needs_address and not any(_counts(option, own) for option in options) else None
+
+
+def _counts(option: Option, own: Optional[Mac]) -> bool:
+    """Returns true for a Source Link-Layer Address that a node does not pass over. `own`: the node's own Ethernet address if it has the policy `self`
+    by which that, a group's address and zeros are passed over; else None."""
+    if not isinstance(option, SourceLinkLayerAddress):
+        return False
+    return own is None or not (option.mac.is_group or not any(option.mac) or option.mac == own)
 
 
 def section_not_for(role: Role, frame: bytes, own: Dict[bytes, State]) -> str:

@@ -10,6 +10,8 @@ import nd
 
 from .texts import message_type
 
+# The words of the policies that a node can have.
+POLICIES = ("parts", "speakers", "timers", "self", "unicast", "unformed", "asked", "lifetimes", "unredirected", "strict")
 # What a router of the command line advertises (RFC 4861, 6.2.1): the usual values, and CurHopLimit of the assigned numbers.
 USUAL = nd.Advertising(min_interval=200, max_interval=600, lifetime=1800, hop_limit=64)
 
@@ -83,7 +85,7 @@ def add_arguments(command: argparse.ArgumentParser, is_host: bool = False, needs
     command.add_argument("--transmits", default=1, type=int, choices=range(1, 9), metavar="N",
                          help="solicitations for each of its addresses, 1 to 8 (1)")
     command.add_argument("--policy", default=nd.Policy(0), type=policy_argument, metavar="WORDS",
-                         help="parts, speakers, timers, self and unicast, parted by commas")
+                         help=f"words that are parted by commas: {', '.join(POLICIES)}")
 
 
 def setup_of(arguments: argparse.Namespace) -> Setup:
@@ -117,8 +119,8 @@ def policy_argument(text: str) -> nd.Policy:
     """Reads the words of policies."""
     found = nd.Policy(0)
     for word in text.split(","):
-        if word not in ("parts", "speakers", "timers", "self", "unicast"):
-            raise argparse.ArgumentTypeError(f"{word!r} is no policy: parts, speakers, timers, self or unicast")
+        if word not in POLICIES:
+            raise argparse.ArgumentTypeError(f"{word!r} is no policy: it is none of {', '.join(POLICIES)}")
         found |= nd.Policy[word.upper()]
     return found
 

@@ -113,6 +113,31 @@ class Text(unittest.TestCase):
                 lines = run(pcap(sent), "replay", *HOST[2:], "--role", role, "--before", "2000", *words)[1].splitlines()
                 self.assertEqual(lines[lines.index("2000 drop 19 NotForUs") + 1], f"# [{section}]")
 
+    def test_why_a_policy_drops_a_message_or_a_packet(self) -> None:
+        """By `unredirected` each Redirect is dropped, by `strict` what RFC 4861, 4.3, 6.1.1 and 7.1.1, and RFC 4291, 2.5.3 and 2.7, forbid to send."""
+        host, router = (IPv6Address(text).packed for text in ("fe80::3656:78ff:fe9a:bcde", "fe80::ff:fe00:1"))
+        to_host, to_router = (bytes([135]) + bytes(7) + target for target in (host, router))
+        group, odd, of_group = "ff02::1:ff9a:bcde", bytes.fromhex("0102") + bytes(14), bytes.fromhex("0101330000000001")
+        other = message_frame(b"\x80" + bytes(3), destination="fe80::3656:78ff:fe9a:bcde")
+        for role, frame, section, *words in (
+                ("host", message_frame(b"\x89" + bytes(7) + router * 2), "our choice: the policy unredirected", "unredirected"),
+                ("router", message_frame(b"\x89" + bytes(7) + router * 2), "RFC 4861, 8.2", "unredirected"),
+                ("host", message_frame(to_host + odd, "::", group), "RFC 4861, 7.1.1: the policy strict", "strict"),
+                ("router", message_frame(bytes([133]) + bytes(7) + odd, "::", "ff02::2"), "RFC 4861, 6.1.1: the policy strict", "strict"),
+                ("host", message_frame(bytes([133]) + bytes(7) + odd, "::"), "RFC 4861, 6.1.1", "strict"),
+                ("host", message_frame(to_host, destination=group), "RFC 4861, 4.3: the policy strict", "strict"),
+                ("host", message_frame(to_host + odd, destination=group), "RFC 4861, 4.3: the policy strict", "strict"),
+                ("host", message_frame(to_host + of_group, destination=group), "RFC 4861, 4.3: the policy strict", "strict,self"),
+                ("router", message_frame(to_router, destination="ff02::1:ff00:1"), "RFC 4861, 4.3: the policy strict", "strict"),
+                ("host", message_frame(to_host, "::1", group), "RFC 4291, 2.5.3: the policy strict", "strict"),
+                ("host", other[:22] + IPv6Address("::1").packed + other[38:], "RFC 4291, 2.5.3: the policy strict", "strict"),
+                ("host", other[:22] + IPv6Address("ff02::9").packed + other[38:], "RFC 4291, 2.7: the policy strict", "strict")):
+            with self.subTest(f"{section} at a {role} with {words[0]}"):
+                mac = ["--mac", "34:56:78:9a:bc:de" if role == "host" else "02:00:00:00:00:01", "--draws", "word:0"]
+                sent = pcap([(0, b"\x33" * 6 + b"\2" * 6 + frame[12:])])
+                lines = run(sent, "replay", "--role", role, *mac, "--before", "2000", "--policy", *words)[1].splitlines()
+                self.assertEqual(lines[lines.index("2000 drop 19 NotForUs") + 1], f"# [{section}]")
+
     def test_an_address_by_hand(self) -> None:
         """It is tried once the link-local address is assigned, without a delay by these draws, and assigned RetransTimer, 1 s, later (RFC 4862,
         5.4). That the packets are an hour apart changes nothing. It is answered for (RFC 4861, 7.2.4), and without it the packet is dropped."""
