@@ -14,6 +14,8 @@ EXAMPLES = f"{TOP}/examples/c"
 STANDARD = ["-std=c11", "-D_POSIX_C_SOURCE=200809L"]
 # The seed of all draws.
 SEED = "4861"
+# ND_POLICIES_ROBUST of nd.h.
+ROBUST = "10783"
 # A program: its sources besides the node, its flags, and its runs: the arguments and the input of each.
 Program = namedtuple("Program", "sources flags runs")
 # How programs are built over a node and run: a compiler with its flags, the node's object or archive, a folder for them, and the emulator that runs them.
@@ -39,7 +41,7 @@ def examples():
 def tests(share):
     """Returns the tests that run one `share`-th of what takes long."""
     few = "\n".join(frames.mixed(300 // share)) + "\n"
-    of_random = [[role, str(20000 // share), SEED, "20", policies] for role, policies in (("0", "0"), ("1", "0"), ("0", "1"), ("0", "31"))]
+    of_random = [[role, str(20000 // share), SEED, "20", policies] for role, policies in (("0", "0"), ("1", "0"), ("0", "1"), ("0", ROBUST))]
     of_pooled = [[role, SEED, "590", part, *map(str, SMALL)] for role in "01" for part in ("1000", "500")]
     return {
         "trace": Program([f"{TESTS}/trace.c", COUNTING], [], traced()),

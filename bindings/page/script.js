@@ -13,7 +13,9 @@ const STATES = ['', 'tentative', 'preferred', 'deprecated', 'duplicate'];
 const PREFERENCES = ['medium', 'high', 'low'];
 const CLEARABLES = ['', 'neighbours', 'routers', 'prefixes', 'redirects', 'dns'];
 const REASONS = @REASONS@;
-const POLICIES = { parts: 1, speakers: 2, timers: 4, self: 8, unicast: 16 };
+const POLICIES = {
+    parts: 1, speakers: 2, timers: 4, self: 8, unicast: 16, unformed: 32, asked: 512, lifetimes: 2048, unredirected: 4096, strict: 8192,
+};
 const FOREVER = 2n ** 64n - 1n, MOMENT_LIMIT = 2n ** 62n;
 // Milliseconds: 557 years, for which an idle node takes less than a second.
 const LONGEST_RUN = 2n ** 44n;

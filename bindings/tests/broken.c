@@ -3,7 +3,7 @@
 #include <stdlib.h>
 #include "nd.h"
 
-#define FAULTS 33 /* bindings/check reads it */
+#define FAULTS 38 /* bindings/check reads it */
 
 /* Returns true each second time if this is the fault. */
 static bool is_wrong(int fault)
@@ -36,12 +36,18 @@ WRAP(int32_t, nd_counts_of, nd_node *node, uint64_t now, nd_counts_row *row)
 /* The node that was opened last. */
 static nd_node *newest;
 
-/* A node without one of its policies, for the faults 27 and 28. */
+/* The policies that a node is opened without, by their faults. */
+static const uint32_t left_out[FAULTS + 1] = {
+    [27] = ND_POLICY_PARTS, [28] = ND_POLICY_SELF, [34] = ND_POLICY_UNFORMED, [35] = ND_POLICY_ASKED, [36] = ND_POLICY_LIFETIMES,
+    [37] = ND_POLICY_UNREDIRECTED, [38] = ND_POLICY_STRICT,
+};
+
 WRAP(int32_t, nd_open, nd_node *node, const nd_options *options, size_t size)
 {
     nd_options other = *options;
-    if (other.policies <= ND_POLICIES_ROBUST && (is_wrong(27) || is_wrong(28)))
-        other.policies &= ~(uint32_t)(atoi(getenv("FAULT")) == 27 ? ND_POLICY_PARTS : ND_POLICY_SELF);
+    for (int fault = 1; fault <= FAULTS; fault++)
+        if ((other.policies & left_out[fault]) != 0 && is_wrong(fault))
+            other.policies &= ~left_out[fault];
     newest = node;
     return __real_nd_open(node, &other, size);
 }

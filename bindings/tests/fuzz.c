@@ -5,9 +5,11 @@
  * refusal, or ND_NO_MEMORY where nothing was due before; ND_NO_MEMORY is returned only where a request was refused; no table passes its limit; rows
  * are in order, none is there twice, and indices end; records are in the order of their moments, none after nd_last_moment; a table that no record of
  * an event has as changed is the same; frames that are sent are read by nd_hear, and with ND_POLICY_SELF none is to zeros, to the node's own Ethernet
- * address, or to a group's with an address that is no group's; nd_next_due is not before nd_last_moment; the version of leases grows with each event
- * but a confirmation, and never falls; a call for one node changes no other; a node that is closed has given back all its memory; and limits have a
- * size in bytes if they are in their ranges. */
+ * address, or to a group's with an address that is no group's; with ND_POLICY_UNFORMED no address is formed, with _ASKED a message makes no neighbour
+ * REACHABLE but one that was INCOMPLETE or in PROBE, with _LIFETIMES nothing that was announced lasts longer, with _UNREDIRECTED there is no Redirect,
+ * with _STRICT nothing is heard from ::1, and no packet from a multicast address; nd_next_due is not before nd_last_moment; the version of leases
+ * grows with each event but a confirmation, and never falls; a call for one node changes no other; a node that is closed has given back all its
+ * memory; and limits have a size in bytes if they are in their ranges. */
 #include <time.h>
 #include "heap.h"
 #include "fuzz.h"
@@ -47,6 +49,12 @@ static void select_subject(size_t which)
     node = &self->node, options = &self->options;
     others_blocks = heap_blocks - self->blocks;
     be((uint8_t)which);
+}
+
+/* Returns true if the node has a policy. */
+static bool has(uint32_t policy)
+{
+    return (options->policies & policy) != 0;
 }
 
 /* Returns a moment: mostly the last one or later, and now and then one that no call takes. */
@@ -121,7 +129,7 @@ static bool is_allowed(enum call call, int32_t status)
 {
     if (call >= ADVERTISE && call <= STOP && options->role == ND_ROLE_HOST)
         return status == ND_REFUSED(ND_REFUSAL_WRONG_ROLE, 0);
-    bool takes_parts = (options->policies & ND_POLICY_PARTS) != 0, is_heard = call == MESSAGE || (call == RECEIVE && options->role == ND_ROLE_HOST);
+    bool takes_parts = has(ND_POLICY_PARTS), is_heard = call == MESSAGE || (call == RECEIVE && options->role == ND_ROLE_HOST);
     bool may_be_full = call == RECEIVE || call == MESSAGE || call == SEND || call == ADD_ADDRESS || call == RESOLVE || call == OFFER || call == ROUTE;
     bool may_be_refused = may_be_full && !(takes_parts && is_heard);
     bool may_find_nothing = call == SEND || call == NEXT_HOP || call == RESOLVE || call == CONFIRM_TO;
@@ -146,7 +154,7 @@ static void check_frame(const uint8_t *frame, size_t length)
     require(by_host.hearing != ND_HEARING_DROP || by_router.hearing != ND_HEARING_DROP, "a frame that is sent is read by a host or by a router");
     require(memcmp(frame + 6, &own_mac, sizeof own_mac) == 0, "a frame that is sent is from the node's Ethernet address");
     require(by_host.hearing == ND_HEARING_OTHER || length <= 1294, "a message of the node's own has at most 1,294 bytes");
-    if ((options->policies & ND_POLICY_SELF) != 0)
+    if (has(ND_POLICY_SELF))
         require(is_sent_well(frame), "a frame that is sent is to another one's Ethernet address, or to a group");
     require(length <= sizeof sent.bytes, "a frame is no longer than what was received or sent");
     memcpy(sent.bytes, frame, length);
@@ -155,6 +163,7 @@ static void check_frame(const uint8_t *frame, size_t length)
 
 static void check_record(const nd_out *out, const uint8_t *bytes)
 {
+    static const nd_addr loopback = {{[15] = 1}};
     bool has_packet = out->kind == ND_OUT_FRAME || out->kind == ND_OUT_UP || out->kind == ND_OUT_LOST;
     bool has_bytes = has_packet || out->kind == ND_OUT_RESOLVED;
     require(out->moment >= self->last_record, "records are in the order of their moments");
@@ -164,6 +173,10 @@ static void check_record(const nd_out *out, const uint8_t *bytes)
     require(out->kind != ND_OUT_RESOLVED || out->length == sizeof(nd_mac), "a link-layer address has 6 bytes");
     if (out->kind == ND_OUT_FRAME)
         check_frame(bytes, out->length);
+    if (has(ND_POLICY_STRICT) && out->kind == ND_OUT_HEARD)
+        require(memcmp(&out->address, &loopback, sizeof loopback) != 0, "no message is heard from ::1");
+    if (has(ND_POLICY_STRICT) && out->kind == ND_OUT_UP)
+        require(bytes[8] != 0xff && memcmp(bytes + 8, &loopback, sizeof loopback) != 0, "no packet is from a multicast address or from ::1");
     self->last_record = out->moment;
     kinds[out->kind]++;
 }
@@ -207,6 +220,56 @@ static uint32_t take_records(void)
         require(i <= count, #ask " has no more rows than are counted"); \
     } while (0)
 
+/* Requires that an address that the node has formed is one that its policies allow. */
+static void check_formed(const nd_address_row *row, uint64_t longest)
+{
+    if (row->by_hand == 1 || memcmp(&row->address, &own_address, sizeof own_address) == 0)
+        return;
+    require(!has(ND_POLICY_UNFORMED), "no address is formed");
+    require(row->valid_left <= longest && row->preferred_left <= longest, "an address that is formed has a lifetime of at most a week");
+}
+
+/* Requires that the tables have what the policies of the node allow. */
+static void check_policies(uint64_t now)
+{
+    uint64_t week = has(ND_POLICY_LIFETIMES) ? 604800000 : ND_FOREVER, router = has(ND_POLICY_LIFETIMES) ? 9000000 : ND_FOREVER;
+    nd_router_row listed;
+    nd_prefix_row prefix;
+    nd_address_row address;
+    nd_server_row server;
+    nd_name_row name;
+    for (size_t i = 0; nd_router_at(node, now, i, &listed) == ND_DONE; i++)
+        require(listed.left <= router, "a router has a lifetime of at most 9,000 s");
+    for (size_t i = 0; nd_prefix_at(node, now, i, &prefix) == ND_DONE; i++)
+        require(prefix.left <= week, "a prefix has a lifetime of at most a week");
+    for (size_t i = 0; nd_address_at(node, now, i, &address) == ND_DONE; i++)
+        check_formed(&address, week);
+    for (size_t i = 0; nd_server_at(node, now, i, &server) == ND_DONE; i++)
+        require(server.left <= week, "a server has a lifetime of at most a week");
+    for (size_t i = 0; nd_name_at(node, now, i, &name) == ND_DONE; i++)
+        require(name.left <= week, "a search name has a lifetime of at most a week");
+    require(!has(ND_POLICY_UNREDIRECTED) || nd_redirect_at(node, now, 0, &(nd_redirect_row){0}) == ND_NOTHING, "there is no Redirect");
+}
+
+/* The neighbours before a message, at a node with ND_POLICY_ASKED. */
+static nd_neighbour_row earlier_rows[MOST_ROWS];
+static size_t earlier_count;
+
+/* Requires that the message made none REACHABLE, nor REACHABLE for longer, but one that the node had asked. */
+static void check_asked(uint64_t now)
+{
+    nd_neighbour_row row;
+    for (size_t i = 0, j = 0; nd_neighbour_at(node, now, i, &row) == ND_DONE; i++) {
+        while (j < earlier_count && memcmp(&earlier_rows[j].address, &row.address, sizeof row.address) < 0)
+            j++;
+        bool was_there = j < earlier_count && memcmp(&earlier_rows[j].address, &row.address, sizeof row.address) == 0;
+        uint32_t state = was_there ? earlier_rows[j].state : 0;
+        bool is_asked = state == ND_REACHABILITY_INCOMPLETE || state == ND_REACHABILITY_PROBE;
+        bool was_reachable = state == ND_REACHABILITY_REACHABLE && row.reachable_left <= earlier_rows[j].reachable_left;
+        require(row.state != ND_REACHABILITY_REACHABLE || is_asked || was_reachable, "a message confirms a neighbour that was asked");
+    }
+}
+
 static void check_node(void)
 {
     uint64_t now = nd_last_moment(node);
@@ -224,6 +287,7 @@ static void check_node(void)
     CHECK_ROWS(nd_redirect_row, nd_redirect_at, counts.redirects, destination, false, false);
     CHECK_ROWS(nd_offer_row, nd_offer_at, counts.offers, prefix, false, earlier.bits != row.bits);
     CHECK_ROWS(nd_route_row, nd_route_at, counts.routes, prefix, false, earlier.bits != row.bits);
+    check_policies(now);
 }
 
 static enum ending ending_of(int32_t status)
@@ -313,10 +377,13 @@ static uint16_t a_limit(size_t i)
     return (uint16_t)(k < 16 ? 0 : k < 30 ? k % 5 : k == 30 ? greatest : greatest + once_in(4));
 }
 
+/* Returns none, the recommended ones, some that a node can have, and now and then one that it can't have, or all bits. */
 static uint32_t some_policies(void)
 {
     uint32_t k = take();
-    return k < 96 ? 0 : k < 128 ? ND_POLICIES_ROBUST : k < 252 ? k % 32 : k % 4 == 0 ? 32 : UINT32_MAX;
+    if (k >= 252)
+        return k % 4 == 0 ? ND_POLICY_LOOKUPS : UINT32_MAX;
+    return k < 96 ? 0 : k < 128 ? ND_POLICIES_ROBUST : (k | (uint32_t)take() << 8) & POLICIES;
 }
 
 /* Makes the limits of a node. Returns true if they are in their ranges. */
@@ -343,7 +410,7 @@ static void prepare_open(void)
     options->transmits = (uint8_t)(once_in(16) ? 9 : below(3)), options->draws = (uint8_t)(once_in(16) ? 2 : below(2));
     self->last_record = options->start;
     with.are_good = options->transmits <= 8 && options->draws <= ND_DRAWS_WORD && options->start < ND_MOMENT_LIMIT;
-    with.are_good = prepare_limits() && with.are_good && options->policies <= ND_POLICIES_ROBUST;
+    with.are_good = prepare_limits() && with.are_good && (options->policies & ~(uint32_t)POLICIES) == 0;
 }
 
 /* Makes the call of a step whose arguments are good, and requires what holds of it. */
@@ -354,8 +421,10 @@ static void do_well(enum call call, uint64_t at)
     int32_t status;
     settled = is_new && nd_pass(node, at) == ND_DONE ? tables_of(node, at) : 0;
     if (is_heard && settled != 0)
-        take_records(), changeable_at(node, at, before);
+        take_records(), changeable_at(node, at, before), nd_neighbours(node, at, earlier_rows, MOST_ROWS, &earlier_count);
     status = call_well(call, at);
+    if (is_heard && settled != 0 && has(ND_POLICY_ASKED))
+        check_asked(at);
     require(nd_refusal_of(status) == 0 || settled == 0 || tables_of(node, at) == settled, "an event that is refused changes nothing");
     require(call == OPEN ? status == ND_DONE : is_allowed(call, status), "a status is one that nd.h allows");
     require(call == NEXT_HOP ? nd_last_moment(node) <= at : nd_last_moment(node) == at, "time has passed up to the call");

@@ -85,10 +85,16 @@ static void try_options(nd_node *node)
     options.start = ND_MOMENT_LIMIT;
     is("an open at a moment that is none", open_with(node, options), ND_INVALID);
     options = host_options();
-    options.policies = ND_POLICIES_ROBUST + 1;
-    is("an open with a policy that isn't there", open_with(node, options), ND_INVALID);
-    options.policies = ND_POLICY_TIMERS | UINT32_C(1) << 31;
-    is("an open with a policy, and the last one", open_with(node, options), ND_INVALID);
+    for (uint32_t bit = 1; bit != 0; bit <<= 1)
+        if ((bit & POLICIES) == 0) {
+            options.policies = bit;
+            is("an open with a policy that isn't there", open_with(node, options), ND_INVALID);
+            options.policies = ND_POLICY_TIMERS | bit;
+            is("an open with one that is, and with it", open_with(node, options), ND_INVALID);
+        }
+    options.policies = POLICIES;
+    is("an open with all that are there", open_with(node, options), ND_DONE);
+    nd_close(node);
     is("no refused open left memory", (int64_t)heap_blocks, 0);
     is("an open", open_with(node, host_options()), ND_DONE);
     is("an open of an open node", open_with(node, host_options()), ND_INVALID);
@@ -139,6 +145,12 @@ static void try_sizes(void)
     is("one with 34 bytes has the first limit", neighbours_with(&later, 34), 0x0708);
     is("one with a byte too little", neighbours_with(&later, sizeof(nd_options) - 1), 0x0708);
     is("one with all bytes", neighbours_with(&later, sizeof(nd_options)), 0x0708);
+    for (size_t i = 0; i < sizeof later.options.identifier; i++) {
+        later.options.identifier[i] = 1;
+        is("one with an identifier", open_bytes(&node, &later, sizeof(nd_options)), ND_INVALID);
+        is("which is the last field", neighbours_with(&later, offsetof(nd_options, identifier)), 0x0708);
+        later.options.identifier[i] = 0;
+    }
     is("one with 8 zeros behind them", neighbours_with(&later, sizeof later), 0x0708);
     for (size_t i = 0; i < sizeof later.more; i++) {
         later.more[i] = 1;

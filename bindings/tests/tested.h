@@ -12,6 +12,9 @@ enum { LONGEST_FRAME = 16384, MOST_FRAMES = 8192 };
 
 #define FIRST_HASH UINT64_C(14695981039346656037)
 
+/* The policies that a node can have. */
+#define POLICIES (ND_POLICIES_ROBUST | ND_POLICY_UNFORMED | ND_POLICY_UNREDIRECTED)
+
 struct frame {
     uint8_t *bytes;
     size_t length;

@@ -582,7 +582,8 @@ static const struct {
     const char *name;
     uint32_t bit;
 } policies[] = {{"parts", ND_POLICY_PARTS}, {"speakers", ND_POLICY_SPEAKERS}, {"timers", ND_POLICY_TIMERS}, {"self", ND_POLICY_SELF},
-                {"unicast", ND_POLICY_UNICAST}};
+                {"unicast", ND_POLICY_UNICAST}, {"unformed", ND_POLICY_UNFORMED}, {"asked", ND_POLICY_ASKED}, {"lifetimes", ND_POLICY_LIFETIMES},
+                {"unredirected", ND_POLICY_UNREDIRECTED}, {"strict", ND_POLICY_STRICT}};
 
 /* Reads the words of policies, parted by commas. */
 static void read_policies(char *words)
