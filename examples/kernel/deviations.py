@@ -147,7 +147,7 @@ LIST = (
     Deviation(
         name="an asker without SLLA",
         kernel="a multicast solicitation without a Source Link-Layer Address, of an asker that is no neighbour, is not answered",
-        model="the asker is solicited, and answered then",
+        model="the asker is solicited, and answered then, unless the node has the policy `strict`",
         section="RFC 4861, 7.2.4",
         sentence="In such situations, a node will first have to use Neighbor Discovery to determine the link-layer address of its neighbor (i.e., "
                  "send out a multicast Neighbor Solicitation).",
@@ -158,7 +158,7 @@ LIST = (
     Deviation(
         name="the loopback address",
         kernel="a solicitation from ::1 is dropped",
-        model="it is answered to ::1, on the link",
+        model="it is answered to ::1, on the link, unless the node has the policy `strict`",
         section="RFC 4291, 2.5.3",
         sentence="An IPv6 packet with a destination address of loopback must never be sent outside of a single node and must never be forwarded by"
                  " an IPv6 router.",
