@@ -62,7 +62,7 @@ class EndedAddress:
 
 @dataclass(frozen=True)
 class EndedRouter:
-    """The router left the default router list (RFC 4861, 6.3.5)."""
+    """The router left the default router list (RFC 4861, 6.3.5), or by `Policy.STRICT` is a router no longer (7.3.3)."""
     moment: int
     router: IPv6Address
 
