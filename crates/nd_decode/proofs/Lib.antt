@@ -1,6 +1,7 @@
 pub mod Types
 pub mod Walk
 pub mod Addresses
+pub mod ReadOptions
 pub mod Says
 pub mod OfType
 pub mod Spelling

@@ -5,9 +5,11 @@ use Rattle.std.proofs.lemmas.List.{length-append, length-drop, length-take-le}
 use Rattle.nd_search_list.specs.Names.{SpellsBefore}
 use Rattle.nd_decode.specs.Option.{Said, slla, tlla, prefix, redirected, mtu, rdnss, dnssl, other, IsPiece, Says, option_of}
 use Rattle.nd_decode.specs.Whole.{piece_length, begins_whole}
-use Rattle.nd_decode.specs.Pieces.{options_from, options_in}
+use Rattle.nd_decode.specs.Pieces.{options_from, options_in, options_left}
+use Rattle.nd_decode.specs.declared.options.Options.{Options}
 use Rattle.nd_decode.specs.Sizes.{size, sizes}
 use Rattle.nd_decode.proofs.Addresses.{spelled_length}
+use Rattle.nd_decode.proofs.ReadOptions.{sizes_read}
 use Rattle.nd_decode.proofs.Says.{option_says}
 use Rattle.nd_decode.proofs.Spelling.{front_piece}
 use Rattle.nd_decode.proofs.Walk.{front_is}
@@ -40,6 +42,9 @@ sizes_from (suc n) bytes =
       | inr over ↦ rw over (omega arith)
     ]
 
-pub sizes_within : (bytes : List ℕ) → sizes (options_in bytes) ≤ length bytes
+sizes_within : (bytes : List ℕ) → sizes (options_in bytes) ≤ length bytes
 unfolding options_in
 sizes_within bytes = sizes_from (length bytes) bytes
+
+pub left_within : (o : Options) → sizes (options_left o) ≤ length o.rest.now
+left_within o = omega (arith, sizes_within o.rest.now, sizes_read o.reading (options_in o.rest.now))

@@ -2,6 +2,7 @@ pub mod Servers
 pub mod ServersKept
 pub mod Option
 pub mod OptionKept
+pub mod Reading
 pub mod Whole
 pub mod Pieces
 pub mod OfType

@@ -4,6 +4,7 @@ use Rattle.nd_addr.specs.declared.why.Why.{Why}
 use Rattle.nd_addr.specs.declared.why.Why.TheVariants.{OptionZero, OptionOver}
 use Rattle.nd_decode.specs.declared.options.Options.{Options}
 use Rattle.nd_decode.specs.Option.{Said, option_of}
+use Rattle.nd_decode.specs.Reading.{options_read}
 use Rattle.nd_decode.specs.Whole.{piece_length, begins_whole}
 
 -- the options up to the first that is not whole, among at most n
@@ -16,9 +17,9 @@ options_from (suc n) bytes =
 unfoldable pub options_in : List ℕ → List Said
 options_in bytes = options_from (length bytes) bytes
 
--- what an iterator over options has left
+-- what an iterator over options has left, as it reads them
 abbrev pub options_left : Options → List Said
-options_left o = options_in o.rest.now
+options_left o = options_read o.reading (options_in o.rest.now)
 
 -- what is wrong with bytes that do not begin with a whole piece
 abbrev pub fault_of : List ℕ → Option Why

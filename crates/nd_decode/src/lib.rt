@@ -14,6 +14,7 @@ mod option_walk;
 mod options;
 mod pieces;
 mod prefix_info;
+mod reading;
 mod redirect;
 mod router_advertisement;
 mod servers;
@@ -38,6 +39,7 @@ pub use option_ref::{
 };
 pub use options::Options;
 pub use prefix_info::PrefixInfo;
+pub use reading::Reading;
 pub use redirect::Redirect;
 pub use router_advertisement::RouterAdvertisement;
 pub use servers::{SERVER_BYTES, Servers, is_server};

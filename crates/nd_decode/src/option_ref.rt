@@ -2,8 +2,10 @@ ghost use Rattle.std.specs.Prelude.{◌≡◌};
 ghost use Rattle.std.specs.Option.{option_map};
 ghost use Rattle.nd_decode.specs.Option.{IsPiece, known_of, option_of};
 ghost use Rattle.nd_decode.specs.OptionKept.{view};
+ghost use Rattle.nd_decode.specs.Reading.{option_read};
 
 use crate::prefix_info::PrefixInfo;
+use crate::reading::Reading;
 use crate::servers::Servers;
 use byteorder::{BigEndian, ByteOrder};
 use nd_addr::Mac;
@@ -78,23 +80,23 @@ pub enum OptionRef<'a> {
 }
 
 impl<'a> OptionRef<'a> {
-    /// Returns the option that a piece spells.
+    /// Returns the option that a piece spells, as `reading` reads it.
     #[tactic(auto, unfolding(crate::specs::Option::option_of))]
-    pub(crate) fn read(piece: &'a [u8]) -> OptionRef<'a>
+    pub(crate) fn read(piece: &'a [u8], reading: Reading) -> OptionRef<'a>
         requires { IsPiece piece.now }
-        ensures { view result ≡ option_of piece.entry.now }
+        ensures { view result ≡ option_read reading (option_of piece.entry.now) }
     {
-        match OptionRef::known(piece) {
+        match OptionRef::known(piece, reading) {
             Some(option) => option,
             None => OptionRef::Other(piece[0], &piece[2..]),
         }
     }
 
-    /// Returns the option of the type of a piece, if the piece fits that type.
+    /// Returns the option of the type of a piece, as `reading` reads it, if the piece fits that type.
     #[tactic(auto, unfolding(crate::specs::Option::known_of))]
-    fn known(piece: &'a [u8]) -> Option<OptionRef<'a>>
+    fn known(piece: &'a [u8], reading: Reading) -> Option<OptionRef<'a>>
         requires { IsPiece piece.now }
-        ensures { option_map view result ≡ known_of piece.entry.now }
+        ensures { option_map view result ≡ option_map (option_read reading) (known_of piece.entry.now) }
     {
         let length = piece[1];
         match piece[0] {
@@ -106,7 +108,7 @@ impl<'a> OptionRef<'a> {
             }
             OPTION_PREFIX_INFORMATION if length == PrefixInfo::UNITS => {
                 let info = PrefixInfo::read(piece)?;
-                Some(OptionRef::Prefix(info))
+                Some(OptionRef::Prefix(reading.info(info)))
             }
             OPTION_REDIRECTED_HEADER => Some(OptionRef::Redirected(&piece[OPTION_DATA_AT..])),
             OPTION_MTU if length == MTU_UNITS => Some(OptionRef::Mtu(BigEndian::read_u32(
@@ -114,11 +116,13 @@ impl<'a> OptionRef<'a> {
             ))),
             OPTION_RECURSIVE_DNS_SERVER if length % 2 == 1 && length >= LEAST_SERVERS_UNITS => {
                 let servers = Servers::read(&piece[OPTION_DATA_AT..])?;
-                Some(OptionRef::Rdnss(BigEndian::read_u32(&piece[NUMBER_AT..]), servers))
+                let lifetime = reading.lifetime(BigEndian::read_u32(&piece[NUMBER_AT..]));
+                Some(OptionRef::Rdnss(lifetime, servers))
             }
             OPTION_DNS_SEARCH_LIST if length >= LEAST_NAMES_UNITS => {
                 let names = Names::read(&piece[OPTION_DATA_AT..])?;
-                Some(OptionRef::Dnssl(BigEndian::read_u32(&piece[NUMBER_AT..]), names))
+                let lifetime = reading.lifetime(BigEndian::read_u32(&piece[NUMBER_AT..]));
+                Some(OptionRef::Dnssl(lifetime, names))
             }
             _ => None,
         }

@@ -11,10 +11,12 @@ use crate::option_ref::{OPTION_PREFIX_INFORMATION, OptionRef};
 use crate::options::Options;
 use crate::pieces::split_whole;
 use crate::prefix_info::PrefixInfo;
+use crate::reading::Reading;
 
 impl<'a> Options<'a> {
     ghost use Rattle.nd_decode.specs.Pieces.{options_left};
     ghost use Rattle.nd_decode.specs.OfType.{from_kind};
+    ghost use Rattle.nd_decode.specs.Reading.{options_read};
     ghost use Rattle.nd_decode.specs.Sizes.{sizes};
 
     /// Returns the options that are these bytes, in which `fault_in` finds no fault.
@@ -22,7 +24,20 @@ impl<'a> Options<'a> {
         requires { rest_in bytes.now ≡ [] }
         ensures { options_left result ≡ options_in bytes.entry.now }
     {
-        Options { rest: bytes }
+        Options {
+            rest: bytes,
+            reading: Reading::as_said(),
+        }
+    }
+
+    /// Returns the same options, read by `reading` too.
+    pub fn read_by(self, reading: Reading) -> Self
+        ensures { options_left result ≡ options_read reading (options_left self.entry) }
+    {
+        Options {
+            rest: self.rest,
+            reading: self.reading.and(reading),
+        }
     }
 
     /// Returns the number of bytes that the options take: 32 for each Prefix Information, 16 for each DNS server, and some for each search name and
@@ -43,7 +58,7 @@ impl<'a> Options<'a> {
         while let Some((piece, rest)) = split_whole(self.rest) {
             self.rest = rest;
             if piece[0] == kind {
-                return Some(OptionRef::read(piece));
+                return Some(OptionRef::read(piece, self.reading));
             }
         }
         None
@@ -63,7 +78,7 @@ impl Options<'_> {
         while let Some((piece, rest)) = split_whole(self.rest) {
             self.rest = rest;
             if let Some(info) = prefix_in(piece) {
-                return Some(info);
+                return Some(self.reading.info(info));
             }
         }
         None
@@ -92,10 +107,10 @@ impl<'a> Iterator for Options<'a> {
 
     ghost remaining = { item_count options_left };
 
-    #[tactic(auto, using(crate::proofs::Walk::options_in_step, crate::proofs::Walk::options_in_stop))]
+    #[tactic(auto, using(crate::proofs::Walk::options_in_step, crate::proofs::Walk::options_in_stop, crate::proofs::ReadOptions::read_first, crate::proofs::ReadOptions::read_none))]
     fn next(&mut self) -> Option<OptionRef<'a>> {
         let (piece, rest) = split_whole(self.rest)?;
         self.rest = rest;
-        Some(OptionRef::read(piece))
+        Some(OptionRef::read(piece, self.reading))
     }
 }

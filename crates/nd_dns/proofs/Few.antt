@@ -3,9 +3,10 @@ use Rattle.std.proofs.Common.{ℕ, ◌*◌, ◌≤◌, List, [], ◌∷◌, leng
 use Rattle.std.proofs.lemmas.List.{length-append, length-map}
 use Rattle.nd_addr.specs.declared.addr.Addr.{Addr}
 use Rattle.nd_decode.specs.Option.{Said, slla, tlla, prefix, redirected, mtu, rdnss, dnssl, other}
-use Rattle.nd_decode.specs.Pieces.{options_in}
+use Rattle.nd_decode.specs.Pieces.{options_left}
+use Rattle.nd_decode.specs.declared.options.Options.{Options}
 use Rattle.nd_decode.specs.Sizes.{size, sizes}
-use Rattle.nd_decode.proofs.Sizes.{sizes_within}
+use Rattle.nd_decode.proofs.Sizes.{left_within}
 use Rattle.nd_dns.specs.AnnouncedServers.{servers_of, servers_told}
 
 servers_size : (option : Said) → 16 * length (servers_of option) ≤ size option
@@ -22,5 +23,5 @@ servers_sizes : (options : List Said) → 16 * length (servers_told options) ≤
 servers_sizes [] = omega arith
 servers_sizes (option ∷ options) = omega (arith, servers_size option, servers_sizes options, length-append (servers_of option) (servers_told options))
 
-pub few_servers : (bytes : List ℕ) → 16 * length (servers_told (options_in bytes)) ≤ length bytes
-few_servers bytes = omega (arith, servers_sizes (options_in bytes), sizes_within bytes)
+pub few_servers : (o : Options) → 16 * length (servers_told (options_left o)) ≤ length o.rest.now
+few_servers o = omega (arith, servers_sizes (options_left o), left_within o)

@@ -3,9 +3,10 @@ use Rattle.std.proofs.Common.{ℕ, ◌+◌, ◌*◌, ◌≤◌, List, [], ◌∷
 use Rattle.std.specs.Option.{option_to_list}
 use Rattle.nd_addr.specs.Prefix.{PrefixValue}
 use Rattle.nd_decode.specs.Option.{Said, slla, tlla, prefix, redirected, mtu, rdnss, dnssl, other}
-use Rattle.nd_decode.specs.Pieces.{options_in}
+use Rattle.nd_decode.specs.Pieces.{options_left}
+use Rattle.nd_decode.specs.declared.options.Options.{Options}
 use Rattle.nd_decode.specs.Sizes.{sizes}
-use Rattle.nd_decode.proofs.Sizes.{sizes_within}
+use Rattle.nd_decode.proofs.Sizes.{left_within}
 use Rattle.nd_routers.specs.OnLinkPrefixes.{on_link_of, prefixes_in}
 
 at_most_one : (o : Option (PrefixValue × ℕ)) (ps : List (PrefixValue × ℕ)) (n : ℕ) → 32 * length ps ≤ n → 32 * length (option_to_list o ++ ps) ≤ 32 + n
@@ -23,5 +24,5 @@ prefixes_few (rdnss _ _ ∷ options) = omega (arith, prefixes_few options)
 prefixes_few (dnssl _ _ ∷ options) = omega (arith, prefixes_few options)
 prefixes_few (other _ _ ∷ options) = omega (arith, prefixes_few options)
 
-pub told_few : (bytes : List ℕ) → 32 * length (prefixes_in (options_in bytes)) ≤ length bytes
-told_few bytes = omega (arith, prefixes_few (options_in bytes), sizes_within bytes)
+pub told_few : (o : Options) → 32 * length (prefixes_in (options_left o)) ≤ length o.rest.now
+told_few o = omega (arith, prefixes_few (options_left o), left_within o)

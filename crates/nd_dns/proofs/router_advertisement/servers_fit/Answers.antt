@@ -8,5 +8,5 @@ use Rattle.nd_dns.proofs.router_advertisement.servers_fit.Goals as goal
 
 pub returns-then-entries-byte_len : goal.returns-then-entries-byte_len
 returns-then-entries-byte_len c =
-    let few = few_servers c.args.options.rest.now in
+    let few = few_servers c.args.options in
     sym (fits_beside same_addr addrs_tell c.args.limit c.args.now (servers_told (options_left c.args.options)) c.args.entries.now (omega (arith, few, c.byte_len.ensures.value, c.if-entries-byte_len.true)))

@@ -8,5 +8,5 @@ use Rattle.nd_routers.proofs.on_link_prefixes.fits.Goals as goal
 
 pub returns-then-entries-byte_len : goal.returns-then-entries-byte_len
 returns-then-entries-byte_len c =
-    let few = told_few c.args.options.rest.now in
+    let few = told_few c.args.options in
     sym (fits_beside same_prefix prefixes_tell c.args.limit c.args.now (prefixes_in (options_left c.args.options)) c.args.entries.now (omega (arith, few, c.byte_len.ensures.value, c.if-entries-byte_len.true)))
