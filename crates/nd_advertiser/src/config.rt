@@ -18,7 +18,7 @@ const LEAST_MIN_INTERVAL: u16 = 3;
 const MILLISECONDS_PER_SECOND: u64 = 1000;
 
 /// The greatest AdvDefaultLifetime, in seconds (RFC 4861, section 6.2.1).
-const GREATEST_LIFETIME: u16 = 9000;
+pub const GREATEST_LIFETIME: u16 = 9000;
 
 /// The greatest AdvReachableTime, in milliseconds: an hour (RFC 4861, section 6.2.1).
 pub const GREATEST_REACHABLE_TIME: u32 = 3_600_000;

@@ -12,7 +12,7 @@ mod offer_rows;
 mod offers;
 
 pub use advertiser::Advertiser;
-pub use config::{Config, ConfigFlags, GREATEST_REACHABLE_TIME};
+pub use config::{Config, ConfigFlags, GREATEST_LIFETIME, GREATEST_REACHABLE_TIME};
 pub use config_fault::ConfigFault;
 pub use contents::Contents;
 pub use offer::{Offer, OfferFlags};

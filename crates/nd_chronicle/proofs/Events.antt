@@ -39,7 +39,7 @@ use Rattle.nd_chronicle.specs.NeighborSolicitation as asked
 use Rattle.nd_chronicle.specs.NeighborSolicitation.{is_router}
 use Rattle.nd_compose.specs.Frames.{answer_frame}
 use Rattle.nd_chronicle.specs.OwnAddress.{is_own, refusal_unless_up, story_of}
-use Rattle.nd_chronicle.specs.Packet.{no_place, with_pushed, Goes, GoesIfPlaced}
+use Rattle.nd_chronicle.specs.Packet.{no_place, Goes, GoesIfPlaced}
 use Rattle.nd_chronicle.specs.Refused.{UnlessRefused, AtRouter}
 use Rattle.nd_chronicle.specs.Hearing.{Verdict, hears, goes_up, goes_on, drops}
 use Rattle.nd_chronicle.specs.Advertising.{planning, wants_answer, full_of_offers, full_of_routes}
@@ -159,7 +159,7 @@ module _ (start : Start) (c : Chronicle) (now : ℕ) where
     one_message : (body : Body) (d e : Chronicle) → MessageAdds start now source destination message body c d → MessageAdds start now source destination message body c e → d ≡ e
     one_message (bodies.Ns ns) d e h k = by_test (bytes_eq source.0 unspecified_address) (λ x y. x ∙ sym y) (one_answer ns.target d e) h k
     one_message (bodies.Ra ra) d e h k = one_behind_room (λ gone placed. then_advertised start now source destination ra message true gone (neighbour_history c) placed) d e h k
-    one_message (bodies.Na na) d e h k = one_behind (λ placed. then_neighbor_advertised now source destination na.target message placed) d e h k
+    one_message (bodies.Na na) d e h k = one_behind (λ placed. then_neighbor_advertised start now source destination na.target message placed) d e h k
     one_message bodies.Rs d e h k =
         one_behind_room (λ gone placed. planning start now (wants_answer start c) (releasing now (said c source message) (neighbour_history placed) (heard_behind gone placed))) d e h k
     one_message (bodies.Redirect r) d e h k =

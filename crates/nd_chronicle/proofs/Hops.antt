@@ -29,11 +29,17 @@ use Rattle.nd_addr.specs.declared.role.Role.TheVariants.{Host, Router}
 use Rattle.nd_addr.specs.Same.{same_prefix, prefixes_tell}
 use Rattle.nd_chronicle.specs.NextHop.{candidate, AreRouters, IsNextHop, IsHopOf}
 use Rattle.nd_chronicle.specs.Reading.{IsRead, read_outcome}
+use Rattle.nd_chronicle.specs.Solicited.{IsReadAt, outcome_at}
 use Rattle.nd_chronicle.specs.Hearing.{FromFirstHop, NotFromFirstHop, Verdict, Judges, IsDropped, IsTaken, IsStrange, IsMisdirected, IsPacket, IsPassing, IsStrangePacket, IsHeard}
 
 -- a frame is read in one way
-pub one_read : (frame : List ℕ) (policies : Policies) (mac : Mac) (role : Role) (a b : Outcome) → IsRead policies mac frame role a → IsRead policies mac frame role b → a ≡ b
+one_read : (frame : List ℕ) (policies : Policies) (mac : Mac) (role : Role) (a b : Outcome) → IsRead policies mac frame role a → IsRead policies mac frame role b → a ≡ b
 one_read frame policies mac role a b h k = h.as_read ∙ ap (λ (o : Outcome). read_outcome policies mac o) (hears_one frame role h.said k.said h.by_frame k.by_frame) ∙ sym k.as_read
+
+-- and in one way at a moment
+one_read_at : (start : Start) (c : Chronicle) (now : ℕ) (frame : List ℕ) (a b : Outcome) → IsReadAt start c now frame a → IsReadAt start c now frame b → a ≡ b
+one_read_at start c now frame a b h k =
+    h.at_moment ∙ ap (λ (o : Outcome). outcome_at start c now o) (one_read frame start.policies start.mac start.role h.read k.read h.by_frame k.by_frame) ∙ sym k.at_moment
 
 module _ (c : Chronicle) (now : ℕ) where
   pub one_router_list : (es fs : List (Lasting ℕ)) → Lists same (announcements (router_history c)) now es → Lists same (announcements (router_history c)) now fs → es ≡ fs
@@ -90,4 +96,4 @@ module _ (c : Chronicle) (now : ℕ) where
 
     pub one_heard : (frame : List ℕ) (a b : Verdict) → IsHeard start c now frame a → IsHeard start c now frame b → a ≡ b
     one_heard frame a b h k =
-        one_judged (subst (λ (o : Outcome). Judges start c now frame o a) (one_read frame start.policies start.mac start.role h.outcome k.outcome h.by_frame k.by_frame) h.by_node) k.by_node
+        one_judged (subst (λ (o : Outcome). Judges start c now frame o a) (one_read_at start c now frame h.outcome k.outcome h.by_frame k.by_frame) h.by_node) k.by_node

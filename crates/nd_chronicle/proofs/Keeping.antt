@@ -303,7 +303,7 @@ module _ (start : Start) (at : ℕ) (Kept : Chronicle → Type 0) (plain : (what
       message_keeps (bodies.Ns ns) is c d h k = solicited_keeps (bytes_eq source.0 unspecified_address) ns.target c d is refl h k
       message_keeps (bodies.Ra ra) is c d h k = kept_to h.3 (advertised_keeps ra is true h.0 (neighbour_history c) h.1 (room_keeps c (said c source message) h.0 h.1 h.2 k))
       message_keeps (bodies.Na na) is c d h k =
-          kept_to h.2 (leaving_keeps (ends_in_list at h.0 (said h.0 source message)) (number_of na.target.0) _
+          kept_to h.2 (leaving_keeps (ends_in_list start at h.0 (said h.0 source message)) (number_of na.target.0) _
           (releasing_keeps (said h.0 source message) (neighbour_history h.0) _
           (conflicting_keeps (bodies.Na na) na.target is (λ address. refl) h.0 (is_tentative h.0 na.target.0) refl
           (place_for_keeps c (said c source message) h.0 h.1 k))))

@@ -1,9 +1,9 @@
 -- What happens to the own addresses: what comes, and what is due, brings them few rows, and most of it none.
-use Rattle.std.proofs.Common.{◌≡◌, ℕ, Bool, true, false, cond, List, [], ◌∷◌, Option, Some, None, refl, sym, ◌∙◌, ap, subst}
-use Rattle.std.specs.Prelude.{MatchBool, MatchOption, map, bytes_eq, ◌||◌, ◌&&◌, ◌==◌, ◌≢◌, not}
+use Rattle.std.proofs.Common.{◌≡◌, ℕ, Bool, true, false, cond, List, [], ◌∷◌, Option, Some, None, refl, sym, ◌∙◌, ap, subst, arith, inl, inr}
+use Rattle.std.specs.Prelude.{MatchBool, MatchOption, map, nat_lt, ◌≤◌, bytes_eq, ◌||◌, ◌&&◌, ◌==◌, ◌≢◌, not}
 use Rattle.std.specs.List.{AllByRecursion}
 use Rattle.nd_addr.specs.Bytes.{IsBytes}
-use Rattle.std.proofs.lemmas.Bool.{eqb-false}
+use Rattle.std.proofs.lemmas.Bool.{cases_Bool, eqb-false, ltb-true}
 use Rattle.std.specs.Option.{option_map, option_to_list}
 use Rattle.nd_addr.specs.declared.addr.Addr.{Addr}
 use Rattle.nd_addr.specs.declared.mac.Mac.{Mac}
@@ -21,7 +21,9 @@ use Rattle.nd_forwarding.specs.Forward.{Fate, lost_no_route, lost_hop_limit, sen
 use Rattle.nd_forwarding.specs.Routes.{routes}
 use Rattle.nd_decode.specs.Message.{Parts, Spells}
 use Rattle.nd_decode.specs.Option.{Said}
+use Rattle.nd_decode.specs.Reading.{info_read, lifetime_read, most_lifetime, options_read}
 use Rattle.nd_decode.specs.declared.prefix_info.PrefixInfo.{PrefixInfo}
+use Rattle.nd_decode.specs.declared.reading.Reading.{Reading}
 use Rattle.nd_decode.specs.declared.body.Body.{Body}
 use Rattle.nd_decode.specs.declared.neighbor_solicitation.NeighborSolicitation.{NeighborSolicitation}
 use Rattle.nd_message.specs.Fitting.{FitsPrefix}
@@ -46,7 +48,7 @@ use Rattle.nd_slaac.specs.ByHand.{AddressByHand}
 use Rattle.nd_slaac.specs.History.{Lifetimes}
 use Rattle.nd_slaac.specs.PrefixOption.{prefixes_in}
 use Rattle.nd_slaac.specs.State as states
-use Rattle.nd_chronicle.specs.Start.{Policies, Start, link_local, link_local_key}
+use Rattle.nd_chronicle.specs.Start.{Start, link_local, link_local_key}
 use Rattle.nd_chronicle.specs.Happening.{Chronicle, Address, Sent, Heard, Ignored, Limit, Refused, Lost, Neighbour, Path, Ceased, RedirectMade, Way, Forgotten, Loss, Unreachable, Refusal, Disabled, Tentative, Full}
 use Rattle.nd_chronicle.specs.Histories.{address_history, neighbour_history, advertising_history, route_history}
 use Rattle.nd_chronicle.specs.InForce.{base_reachable_time}
@@ -55,9 +57,10 @@ use Rattle.nd_chronicle.specs.Packet.{losing, sending, with_pushed, MakesPlace, 
 use Rattle.nd_chronicle.specs.Refused.{UnlessRefused, AtRouter}
 use Rattle.nd_chronicle.specs.Advertising.{advertising_by, planning, telling_end, wants_answer, full_of_offers, full_of_routes}
 use Rattle.nd_chronicle.specs.Forwarding.{Redirects, SendsOn, FateAdds, redirect_to}
-use Rattle.nd_chronicle.specs.Reading.{IsRead, read_outcome}
+use Rattle.nd_chronicle.specs.Reading.{read_outcome, reading_of}
+use Rattle.nd_chronicle.specs.Solicited.{IsReadAt, outcome_at}
 use Rattle.nd_chronicle.proofs.Named.{heard_fit, part_fits}
-use Rattle.nd_chronicle.proofs.Reading.{prefixes_as_placed, prefixes_as_said}
+use Rattle.nd_chronicle.proofs.Reading.{prefixes_as_placed, prefixes_as_said, prefixes_read}
 use Rattle.nd_chronicle.specs.Hearing.{Verdict, hears, goes_up, goes_on, drops, IsForUs, Judges, IsTaken, takes_target, is_awake}
 use Rattle.nd_chronicle.specs.Message.{said, PlaceFor, RoomFor, failing_for, sending_if_known, telling_if_known, releasing, leaving}
 use Rattle.nd_chronicle.specs.RouterAdvertisement.{forming, heard_from, redrawing, with_delay, then_options, times_out, then_advertised}
@@ -198,11 +201,33 @@ pub data Brings (start : Start) (now : ℕ) (event : Event) (c d : Chronicle) : 
   -- the end of a known one other than the link-local one
   EndsKnown : (key : ℕ) → key ≢ link_local_key start → states.is_known (story_of c key) ≡ true → address_history d ≡ (now, key, addresses.Ended) ∷ address_history c → Brings start now event c d
 
--- the frame spells a message with the same prefixes
+-- the frame spells a message with these prefixes, read in some way
 record IsSpelled (frame : List ℕ) (options : List Said) : Type 0 where
   pub spelling : Parts
   pub spelled : Spells (payload_in frame) spelling
-  pub prefixes : prefixes_in options ≡ prefixes_in spelling.options
+  pub reading : Reading
+  pub prefixes : prefixes_in options ≡ map (info_read reading) (prefixes_in spelling.options)
+
+-- no lifetime is read as a longer one
+read_within : (is_bounded : Bool) (seconds : ℕ) → lifetime_read is_bounded seconds ≤ seconds
+unfolding lifetime_read
+read_within false seconds = omega arith
+read_within true seconds = elim (cases_Bool (nat_lt most_lifetime seconds)) [
+  | inl long ↦ rw long (omega (arith, ltb-true _ _ long))
+  | inr short ↦ rw short (omega arith)
+]
+
+-- an option has the prefix that it is said to have
+fit_as_read : (reading : Reading) (infos : List PrefixInfo) → AllByRecursion FitsPrefix infos → AllByRecursion FitsPrefix (map (info_read reading) infos)
+fit_as_read reading [] all = all
+fit_as_read reading (info ∷ infos) all = (
+  record {
+    prefix_is = all.0.prefix_is;
+    valid = omega (arith, read_within reading.bounded info.valid_lifetime, all.0.valid);
+    preferred = omega (arith, read_within reading.bounded info.preferred_lifetime, all.0.preferred);
+  },
+  fit_as_read reading infos all.1,
+)
 
 abbrev prefixes_of : Outcome → List PrefixInfo
 prefixes_of (valid source destination message) = prefixes_in message.options
@@ -210,11 +235,18 @@ prefixes_of (other packet) = []
 prefixes_of (dropped why) = []
 
 -- no policy reads other prefixes
-spelled_as : (frame : List ℕ) (role : Role) (policies : Policies) (mac : Mac) (source destination : Addr) (message : Parts) (said : Outcome) → Hears frame role said
-    → valid source destination message ≡ read_outcome policies mac said → IsSpelled frame message.options
-spelled_as frame role policies mac source destination message (valid s d m) h e = record { spelling = m; spelled = h.4; prefixes = ap prefixes_of e ∙ prefixes_as_said policies mac m.options }
-spelled_as frame role policies mac source destination message (other packet) h e = let no : ⊥ = cc in absurd no
-spelled_as frame role policies mac source destination message (dropped why) h e = let no : ⊥ = cc in absurd no
+spelled_as : (start : Start) (c : Chronicle) (now : ℕ) (frame : List ℕ) (source destination : Addr) (message : Parts) (said : Outcome) → Hears frame start.role said
+    → valid source destination message ≡ outcome_at start c now (read_outcome start.policies start.mac said) → IsSpelled frame message.options
+spelled_as start c now frame source destination message (valid s d m) h e =
+    let reading = reading_of start.policies in
+    record {
+      spelling = m;
+      spelled = h.4;
+      reading = reading;
+      prefixes = ap prefixes_of e ∙ (prefixes_as_said start.policies start.mac (options_read reading m.options) ∙ sym (prefixes_read reading m.options));
+    }
+spelled_as start c now frame source destination message (other packet) h e = let no : ⊥ = cc in absurd no
+spelled_as start c now frame source destination message (dropped why) h e = let no : ⊥ = cc in absurd no
 
 module _ (start : Start) (now : ℕ) (event : Event) (c : Chronicle) where
   brings_refused : (r : Option Refusal) (A : Chronicle → Type 0) (d : Chronicle) → (A d → Brings start now event c d) → UnlessRefused now r A c d → Brings start now event c d
@@ -275,13 +307,13 @@ module _ (start : Start) (now : ℕ) (event : Event) (c : Chronicle) where
     brings_conflict target placed d false is same h = Nothing (h ∙ same)
 
     brings_advertised : (target : Addr) (placed d : Chronicle) → PlaceFor start c now (said c source message) placed
-        → d ≡ then_neighbor_advertised now source destination target message placed → Brings start now event c d
+        → d ≡ then_neighbor_advertised start now source destination target message placed → Brings start now event c d
     brings_advertised target placed d p h =
         let third = conflicting now (is_tentative placed target.0) (number_of target.0) ((now, Heard source destination message) ∷ placed) in
         let second = releasing now (said placed source message) (neighbour_history placed) third in
         brings_conflict target placed d (is_tentative placed target.0) refl (place_for_same start c now (said c source message) placed p)
         (ap address_history h
-        ∙ leaving_same now (ends_in_list now placed (said placed source message)) (number_of target.0) second
+        ∙ leaving_same now (ends_in_list start now placed (said placed source message)) (number_of target.0) second
         ∙ releasing_same now (said placed source message) (neighbour_history placed) third)
 
     -- no Router Advertisement conflicts with an address
@@ -375,9 +407,11 @@ module _ (start : Start) (now : ℕ) (event : Event) (c : Chronicle) where
 
   module _ (source destination : Addr) (message : Parts) where
     -- what is heard is for this node, and the frame spells its prefixes
-    heard : {outcome : Outcome} (frame : List ℕ) → Judges start c now frame outcome (hears source destination message) → IsRead start.policies start.mac frame start.role outcome
+    heard : {outcome : Outcome} (frame : List ℕ) → Judges start c now frame outcome (hears source destination message) → IsReadAt start c now frame outcome
         → IsForUs start c source destination message × IsSpelled frame message.options
-    heard frame (IsTaken u first) says = (u, spelled_as frame start.role start.policies start.mac source destination message says.said says.by_frame says.as_read)
+    heard frame (IsTaken u first) says =
+        let read = says.by_frame in
+        (u, spelled_as start c now frame source destination message read.said read.by_frame (says.at_moment ∙ ap (outcome_at start c now) read.as_read))
 
   -- ---- a packet goes
 
@@ -409,7 +443,7 @@ module _ (start : Start) (now : ℕ) (event : Event) (c : Chronicle) where
     brings_heard None d h = brings_message source destination message frame received fit message.body takes awake d h
     brings_heard (Some limit) d h = brings_in_part start.policies.parts limit d h
 
-  brings_verdict : (frame : List ℕ) → event ≡ events.Receives frame → (outcome : Outcome) (v : Verdict) (d : Chronicle) → IsRead start.policies start.mac frame start.role outcome → Judges start c now frame outcome v
+  brings_verdict : (frame : List ℕ) → event ≡ events.Receives frame → (outcome : Outcome) (v : Verdict) (d : Chronicle) → IsReadAt start c now frame outcome → Judges start c now frame outcome v
       → VerdictAdds start now frame v c d → Brings start now event c d
   brings_verdict frame received outcome (drops why) d says j h = Nothing (ap address_history h)
   brings_verdict frame received outcome (goes_up packet) d says j h = Nothing (ap address_history h)
@@ -417,7 +451,7 @@ module _ (start : Start) (now : ℕ) (event : Event) (c : Chronicle) where
   brings_verdict frame received outcome (hears source destination message) d says j h =
       let u = heard source destination message frame j says in
       let fit : IsBytes frame → AllByRecursion FitsPrefix (prefixes_in message.options) = λ bytes.
-      subst (λ (infos : List PrefixInfo). AllByRecursion FitsPrefix infos) (sym u.1.prefixes) (heard_fit frame u.1.spelling bytes u.1.spelled) in
+      subst (λ (infos : List PrefixInfo). AllByRecursion FitsPrefix infos) (sym u.1.prefixes) (fit_as_read u.1.reading _ (heard_fit frame u.1.spelling bytes u.1.spelled)) in
       brings_heard source destination message frame received fit u.0.target u.0.awake h.0 d h.2
 
   -- ---- a packet is to be sent

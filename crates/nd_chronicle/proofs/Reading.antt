@@ -1,6 +1,6 @@
 -- What the policies leave as it is.
 use Rattle.std.proofs.Common.{◌≡◌, ℕ, Bool, true, false, List, [], ◌∷◌, Option, None, refl, sym, ◌∙◌, ap, inl, inr}
-use Rattle.std.specs.Prelude.{◌++◌}
+use Rattle.std.specs.Prelude.{◌++◌, map}
 use Rattle.std.specs.Option.{option_to_list}
 use Rattle.std.proofs.lemmas.Bool.{cases_Bool}
 use Rattle.nd_addr.specs.declared.addr.Addr.{Addr}
@@ -8,6 +8,10 @@ use Rattle.nd_addr.specs.declared.mac.Mac.{Mac}
 use Rattle.nd_addr.specs.Prefix.{PrefixValue}
 use Rattle.nd_decode.specs.Message.{Parts}
 use Rattle.nd_decode.specs.Option.{Said, slla, tlla, prefix, redirected, mtu, rdnss, dnssl, other}
+use Rattle.nd_decode.specs.Reading.{info_read, option_read, options_read}
+use Rattle.nd_decode.specs.Reading as readings
+use Rattle.nd_decode.proofs.ReadOptions.{read_as_said, read_first, read_none}
+use Rattle.nd_decode.specs.declared.reading.Reading.{Reading}
 use Rattle.nd_decode.specs.declared.body.Body.{Body}
 use Rattle.nd_decode.specs.declared.body.Body.TheVariants as bodies
 use Rattle.nd_decode.specs.declared.prefix_info.PrefixInfo.{PrefixInfo}
@@ -43,8 +47,9 @@ without_none (other kind rest ∷ options) = ap (λ (more : List Said). other ki
 
 pub read_by_none : (mac : Mac) (message : Parts) → read_message no_policies mac message ≡ message
 read_by_none mac message =
-    ap (λ (b : Body). let m : Parts = record { body = b; options = without None message.options } in m) (body_by_none message.body)
-    ∙ ap (λ (options : List Said). let m : Parts = record { body = message.body; options = options } in m) (without_none message.options)
+    ap (λ (b : Body). let m : Parts = record { body = b; options = without None (options_read readings.as_said message.options) } in m) (body_by_none message.body)
+    ∙ ap (λ (options : List Said). let m : Parts = record { body = message.body; options = options } in m)
+    (without_none (options_read readings.as_said message.options) ∙ read_as_said message.options)
 
 -- ---- what the options say but the link-layer addresses
 
@@ -122,6 +127,24 @@ prefixes_kept (other _ _) a b e = e
 
 pub prefixes_as_said : (policies : Policies) (mac : Mac) (options : List Said) → addresses.prefixes_in (read_options policies mac options) ≡ addresses.prefixes_in options
 prefixes_as_said = as_said addresses.prefixes_in prefixes_kept (λ mac options. refl) (λ mac options. refl)
+
+prefixes_first : (reading : Reading) (option : Said) (options : List Said)
+    → map (info_read reading) (addresses.prefixes_in options) ≡ addresses.prefixes_in (options_read reading options)
+    → map (info_read reading) (addresses.prefixes_in (option ∷ options)) ≡ addresses.prefixes_in (option_read reading option ∷ options_read reading options)
+prefixes_first reading (slla _) options e = e
+prefixes_first reading (tlla _) options e = e
+prefixes_first reading (prefix info) options e = ap (λ (more : List PrefixInfo). info_read reading info ∷ more) e
+prefixes_first reading (redirected _) options e = e
+prefixes_first reading (mtu _) options e = e
+prefixes_first reading (rdnss _ _) options e = e
+prefixes_first reading (dnssl _ _) options e = e
+prefixes_first reading (other _ _) options e = e
+
+-- each Prefix Information is read by itself
+pub prefixes_read : (reading : Reading) (options : List Said) → map (info_read reading) (addresses.prefixes_in options) ≡ addresses.prefixes_in (options_read reading options)
+prefixes_read reading [] = sym (ap addresses.prefixes_in (read_none reading))
+prefixes_read reading (option ∷ options) =
+    prefixes_first reading option options (prefixes_read reading options) ∙ sym (ap addresses.prefixes_in (read_first reading option options))
 
 pub prefixes_as_placed : (place : Bool) (options : List Said) → addresses.prefixes_in (as_placed place options) ≡ addresses.prefixes_in options
 prefixes_as_placed = as_read addresses.prefixes_in prefixes_kept (λ mac options. refl) (λ mac options. refl)

@@ -3,7 +3,7 @@ use Rattle.std.proofs.Common.{◌≡◌, ℕ, ◌∷◌, refl, sym, subst}
 use Rattle.nd_addr.specs.declared.why.Why.{Why}
 use Rattle.nd_chronicle.specs.Start.{Start}
 use Rattle.nd_chronicle.specs.Happening.{Chronicle, Dropped, Passed, Refused}
-use Rattle.nd_chronicle.specs.Event.{Event, EventAdds, FrameAdds, Receives, VerdictAdds}
+use Rattle.nd_chronicle.specs.Event.{Event, EventAdds, FrameAdds, VerdictAdds}
 use Rattle.nd_chronicle.specs.Hearing.{IsHeard, Verdict, drops}
 use Rattle.nd_chronicle.specs.Unchanged.{IsDropped, IsRefused, IsTurnedAway, IsUnchanged}
 use Rattle.nd_chronicle.proofs.Answering.{refusal_added}

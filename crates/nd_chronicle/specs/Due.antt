@@ -1,8 +1,6 @@
 -- What is due in a millisecond, in the order of its passes, and what comes with it.
-use Rattle.std.specs.Prelude.{◌≡◌, ◌≢◌, ℕ, ◌+◌, ◌*◌, Bool, true, false, ◌&&◌, ◌||◌, not, ◌==◌, nat_lt, if◌then◌else◌, List, [], ◌∷◌, Option, Some, None}
+use Rattle.std.specs.Prelude.{◌≡◌, ◌≢◌, ℕ, ◌+◌, ◌*◌, Bool, false, ◌&&◌, ◌||◌, not, ◌==◌, nat_lt, if◌then◌else◌, List, [], ◌∷◌, Option, Some, None}
 use Rattle.std.specs.Option.{option_map}
-use Rattle.nd_addr.specs.declared.role.Role.{Role}
-use Rattle.nd_addr.specs.declared.role.Role.TheVariants.{Host, Router}
 use Rattle.nd_addr.specs.Number.{addr_at, mac_at}
 use Rattle.nd_params.specs.History as parameters
 use Rattle.nd_neighbour.specs.Due as neighbours
@@ -10,7 +8,7 @@ use Rattle.nd_neighbour.specs.History as neighbour_rows
 use Rattle.nd_routers.specs.Due as routers
 use Rattle.nd_slaac.specs.Due as addresses
 use Rattle.nd_slaac.specs.History as address_rows
-use Rattle.nd_chronicle.specs.Start.{Start, link_local, link_local_key}
+use Rattle.nd_chronicle.specs.Start.{Start, is_host, link_local, link_local_key}
 use Rattle.nd_chronicle.specs.Happening.{Chronicle, Drew, ForReachableTime, Neighbour, Address, LeftRouter, SolicitedRouters, Sent}
 use Rattle.nd_chronicle.specs.Histories.{parameter_history, neighbour_history, router_history, address_history, advertising_history}
 use Rattle.nd_advertiser.specs.Advertising.{next_of}
@@ -47,10 +45,6 @@ abbrev pub assigned_at : ℕ → List address_rows.Row → Option ℕ
 assigned_at key [] = None
 assigned_at key ((at, k, address_rows.Assigned) ∷ history) = if k == key then Some at else assigned_at key history
 assigned_at key ((at, k, _) ∷ history) = assigned_at key history
-
-abbrev pub is_host : Role → Bool
-is_host Host = true
-is_host Router = false
 
 -- the date of the next one: the first comes with the link-local address, the others an interval later each
 abbrev pub router_solicitation_date : Start → Chronicle → Option ℕ

@@ -106,7 +106,7 @@ module _ (start : Start) (now : ℕ) where
       (gone : Option ℕ) × (placed : Chronicle) × RoomFor start c now (said c source message) gone placed
       × (d ≡ then_advertised start now source destination ra message true gone (neighbour_history c) placed)
   MessageAdds source destination message (bodies.Na na) c d =
-      (placed : Chronicle) × PlaceFor start c now (said c source message) placed × (d ≡ then_neighbor_advertised now source destination na.target message placed)
+      (placed : Chronicle) × PlaceFor start c now (said c source message) placed × (d ≡ then_neighbor_advertised start now source destination na.target message placed)
   MessageAdds source destination message (bodies.Redirect r) c d =
       (gone : Option ℕ) × (placed : Chronicle) × RoomFor start c now (said c source message) gone placed
       × (d ≡ releasing now (said c source message) (neighbour_history placed)

@@ -1,24 +1,28 @@
 -- What a node hears in a frame: what the frame says by itself, unless it is not for this node, or a Redirect that does not come from the
 -- current first hop (RFC 4861, sections 7.2.3, 7.2.5, 8.1 and RFC 4862, section 5.4).
-use Rattle.std.specs.Prelude.{◌≡◌, ◌≢◌, ℕ, Bool, true, false, ◌&&◌, ◌||◌, not, ◌⊎◌, bytes_eq, slice_range, List}
+use Rattle.std.specs.Prelude.{◌≡◌, ◌≢◌, ℕ, Bool, true, false, ◌&&◌, ◌||◌, not, ◌⊎◌, bytes_eq, nat_eq, slice_range, is_none, if◌then◌else◌, List}
+use Rattle.std.specs.List.{list_any}
 use Rattle.nd_addr.specs.declared.addr.Addr.{Addr}
 use Rattle.nd_addr.specs.declared.role.Role.TheVariants.{Router}
 use Rattle.nd_addr.specs.declared.why.Why.{Why}
 use Rattle.nd_addr.specs.declared.why.Why.TheVariants.{NotForUs, NotFirstHop}
 use Rattle.nd_addr.specs.Ip6.{PacketParts}
-use Rattle.nd_addr.specs.Kind.{unspecified_address, all_nodes_address, all_routers_address, solicited_node_of}
-use Rattle.nd_addr.specs.Number.{addr_at, number_of}
+use Rattle.nd_addr.specs.Kind.{unspecified_address, loopback_address, all_nodes_address, all_routers_address, solicited_node_of, multicast_prefix}
+use Rattle.nd_addr.specs.Number.{addr_at, holds, number_of}
 use Rattle.nd_decode.specs.Message.{Parts}
+use Rattle.nd_decode.specs.OfType.{kind_of}
+use Rattle.nd_decode.specs.Option.{Said}
 use Rattle.nd_decode.specs.declared.body.Body.{Body}
 use Rattle.nd_decode.specs.declared.body.Body.TheVariants as bodies
 use Rattle.nd_validity.specs.Hearing.{Outcome, valid, other, dropped}
 use Rattle.nd_nexthop.specs.NextHop.{NextHop, via}
 use Rattle.nd_forwarding.specs.Forward.{may_be_forwarded}
-use Rattle.nd_chronicle.specs.Start.{Start, link_local}
+use Rattle.nd_chronicle.specs.LinkLayerAddress.{first_slla}
+use Rattle.nd_chronicle.specs.Start.{Policies, Start, link_local}
 use Rattle.nd_chronicle.specs.Happening.{Chronicle}
 use Rattle.nd_chronicle.specs.NextHop.{IsNextHop}
 use Rattle.nd_chronicle.specs.OwnAddress.{is_tentative, is_assigned, is_own, is_up}
-use Rattle.nd_chronicle.specs.Reading.{IsRead}
+use Rattle.nd_chronicle.specs.Solicited.{IsReadAt}
 
 -- ---- to whom it goes
 
@@ -58,17 +62,51 @@ is_awake start c source body =
 abbrev pub is_foreign : Start → (List ℕ → Bool) → Addr → Bool
 is_foreign start counts source = not (start.policies.own && counts source.0)
 
+-- ---- what is forbidden
+
+-- an option of type 1, of any length (RFC 4861, section 4.6.1)
+abbrev pub is_source_address : Said → Bool
+is_source_address option = nat_eq (kind_of option) 1
+
+-- what the policy `strict` drops for its options: a solicitation from :: with such an option, which "MUST NOT be included" there, and a Neighbor
+-- Solicitation to a group without one that counts, which "MUST be included in multicast solicitations" (sections 4.1 and 4.3)
+abbrev pub is_forbidden : Addr → Addr → List Said → Body → Bool
+is_forbidden source destination options bodies.Rs = bytes_eq source.0 unspecified_address && list_any is_source_address options
+is_forbidden source destination options (bodies.Ns ns) =
+    if bytes_eq source.0 unspecified_address then list_any is_source_address options
+    else holds multicast_prefix destination.0 && is_none (first_slla options)
+is_forbidden source destination options _ = false
+
+-- no packet from the loopback address leaves its node (RFC 4291, section 2.5.3)
+abbrev pub is_loopback : Addr → Bool
+is_loopback source = bytes_eq source.0 loopback_address
+
+abbrev pub is_redirect : Body → Bool
+is_redirect (bodies.Redirect r) = true
+is_redirect _ = false
+
+-- no policy drops the message: `unredirected` drops each Redirect, and `strict` what is forbidden
+abbrev pub is_allowed : Policies → Addr → Addr → Parts → Bool
+is_allowed policies source destination message =
+    not (policies.unredirected && is_redirect message.body) && not (policies.strict && (is_loopback source || is_forbidden source destination message.options message.body))
+
+-- no policy drops the packet: a multicast address is no source (RFC 4291, section 2.7)
+abbrev pub is_allowed_packet : Policies → Addr → Bool
+is_allowed_packet policies source = not (policies.strict && (is_loopback source || holds multicast_prefix source.0))
+
 -- the message is for this node. The source of a defender's advertisement is the address that is tentative here: only an assigned one is the node's own.
 pub record IsForUs (start : Start) (c : Chronicle) (source destination : Addr) (message : Parts) : Type 0 where
   pub destination_is : IsOurs start (is_own c) destination
   pub target : takes_target c source message.body ≡ true
   pub awake : is_awake start c source message.body ≡ true
   pub foreign : is_foreign start (is_assigned c) source ≡ true
+  pub allowed : is_allowed start.policies source destination message ≡ true
 
 -- the packet is for this node: for an address that is assigned
 pub record IsPacketForUs (start : Start) (c : Chronicle) (packet : PacketParts) : Type 0 where
   pub destination_is : IsOurs start (is_assigned c) packet.header.destination
   pub up : is_up start c ≡ true
+  pub allowed : is_allowed_packet start.policies packet.header.source ≡ true
 
 -- with the policy `unicast`: the frame came to the node's own link-layer address, and to no group
 abbrev pub came_to : Start → List ℕ → Bool
@@ -124,5 +162,5 @@ pub data Judges (start : Start) (c : Chronicle) (now : ℕ) (frame : List ℕ) :
 -- this is made of the frame
 pub record IsHeard (start : Start) (c : Chronicle) (now : ℕ) (frame : List ℕ) (verdict : Verdict) : Type 0 where
   pub outcome : Outcome
-  pub by_frame : IsRead start.policies start.mac frame start.role outcome
+  pub by_frame : IsReadAt start c now frame outcome
   pub by_node : Judges start c now frame outcome verdict

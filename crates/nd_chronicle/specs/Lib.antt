@@ -9,6 +9,7 @@ pub mod Refused
 pub mod Packet
 pub mod NextHop
 pub mod Reading
+pub mod Solicited
 pub mod Hearing
 pub mod Message
 pub mod RouterAdvertisement

@@ -1,13 +1,15 @@
 -- What a node takes of what a frame says, by its policies.
-use Rattle.std.specs.Prelude.{◌≡◌, ℕ, Bool, false, ◌&&◌, ◌||◌, nat_le, bytes_eq, slice_index, replicate, if◌then◌else◌, List, [], ◌∷◌, Option, Some, None}
+use Rattle.std.specs.Prelude.{◌≡◌, ℕ, Bool, false, ◌&&◌, ◌||◌, nat_le, nat_lt, bytes_eq, slice_index, replicate, if◌then◌else◌, List, [], ◌∷◌, Option, Some, None}
 use Rattle.nd_addr.specs.declared.mac.Mac.{Mac}
 use Rattle.nd_addr.specs.declared.role.Role.{Role}
 use Rattle.nd_decode.specs.Message.{Parts}
 use Rattle.nd_decode.specs.Option.{Said, slla, tlla, is_set}
 use Rattle.nd_decode.specs.declared.body.Body.{Body}
 use Rattle.nd_decode.specs.declared.body.Body.TheVariants as bodies
+use Rattle.nd_decode.specs.Reading.{options_read}
+use Rattle.nd_decode.specs.declared.reading.Reading.{Reading}
 use Rattle.nd_decode.specs.declared.router_advertisement.RouterAdvertisement.{RouterAdvertisement}
-use Rattle.nd_advertiser.specs.Config.{greatest_reachable_time}
+use Rattle.nd_advertiser.specs.Config.{greatest_lifetime, greatest_reachable_time}
 use Rattle.nd_validity.specs.Hearing.{Outcome, valid, Hears}
 use Rattle.nd_chronicle.specs.Start.{Policies}
 
@@ -26,8 +28,22 @@ in_ranges ra = record ra {
   retrans_timer = in_range 100 30000 ra.retrans_timer;
 }
 
+abbrev pub read_timers : Policies → RouterAdvertisement → RouterAdvertisement
+read_timers policies ra = if policies.timers then in_ranges ra else ra
+
+-- ---- the policy `lifetimes`
+
+-- a router lifetime, in seconds, of at most what a router may be set to (RFC 4861, section 6.2.1)
+abbrev pub bounded_lifetime : ℕ → ℕ
+bounded_lifetime seconds = if nat_lt greatest_lifetime seconds then greatest_lifetime else seconds
+
+abbrev pub bounded : RouterAdvertisement → RouterAdvertisement
+bounded ra = record ra { router_lifetime = bounded_lifetime ra.router_lifetime }
+
 abbrev pub read_advertisement : Policies → RouterAdvertisement → RouterAdvertisement
-read_advertisement policies ra = if policies.timers then in_ranges ra else ra
+read_advertisement policies ra = if policies.lifetimes then bounded (read_timers policies ra) else read_timers policies ra
+
+-- ---- the body of a message
 
 abbrev pub read_body : Policies → Body → Body
 read_body policies (bodies.Ra ra) = bodies.Ra (read_advertisement policies ra)
@@ -66,10 +82,19 @@ without own (option ∷ options) = if passes_over own option then without own op
 abbrev pub read_options : Policies → Mac → List Said → List Said
 read_options policies mac options = without (own_address policies mac) options
 
+-- ---- the policies `unformed` and `lifetimes`
+
+-- how the options are read: `unformed` reads the flag A of a Prefix Information as clear, and `lifetimes` each lifetime as at most a week
+abbrev pub reading_of : Policies → Reading
+reading_of policies = record { unformed = policies.unformed; bounded = policies.lifetimes }
+
 -- ---- what is read
 
 abbrev pub read_message : Policies → Mac → Parts → Parts
-read_message policies mac message = record { body = read_body policies message.body; options = read_options policies mac message.options }
+read_message policies mac message = record {
+  body = read_body policies message.body;
+  options = read_options policies mac (options_read (reading_of policies) message.options);
+}
 
 -- no policy reads a frame otherwise that is dropped, or another packet
 abbrev pub read_outcome : Policies → Mac → Outcome → Outcome

@@ -34,7 +34,7 @@ ghost use Rattle.nd_chronicle.specs.Histories.{address_history, neighbour_histor
 ghost use Rattle.nd_chronicle.specs.OwnAddress.{is_own, is_up, story_of};
 ghost use Rattle.nd_chronicle.specs.OwnAddress as own_addresses;
 ghost use Rattle.nd_chronicle.specs.Event.{ComeAsBytes, Event, EventAdds, FrameAdds, VerdictAdds};
-ghost use Rattle.nd_chronicle.specs.Hearing.{hears, is_awake, is_foreign};
+ghost use Rattle.nd_chronicle.specs.Hearing.{hears, is_allowed, is_awake, is_foreign};
 ghost use Rattle.nd_chronicle.specs.Reading.{read_message};
 ghost use Rattle.nd_chronicle.specs.NeighborAdvertisement.{then_neighbor_advertised};
 ghost use Rattle.nd_chronicle.specs.NeighborSolicitation.{then_tried};
@@ -173,16 +173,19 @@ pub fn rows_have_places()
 
 /// If another node tries one of the node's own addresses, the node reports a duplicate or says to all nodes that it has the address. If another
 /// node says to all nodes that it has an address, this is a duplicate if it is tentative here (RFC 4861, section 7.2.4; RFC 4862, sections 5.4.3
-/// and 5.4.4). Neither is refused, and nothing else happens before it. With the policy `self` this needs that the source is no address that is assigned here.
+/// and 5.4.4). Neither is refused, and nothing else happens before it. With the policy `self` this needs that the source is no address that is assigned here,
+/// and with `strict` that a solicitation has no option of type 1.
 pub fn rivals_are_heard()
     ensures tried { (start : Start) (c d : Chronicle) (now : ℕ) (frame : List ℕ) (address : Addr) → AreBytes 16 address.0 → IsUnicast address → (t : IsDetection frame address)
         → is_own c address.0 ≡ true → is_awake start c unspecified (bodies.Ns (record { target = address })) ≡ true
         → is_foreign start (own_addresses.is_assigned c) unspecified ≡ true
+        → is_allowed start.policies unspecified (solicited_node address) (read_message start.policies start.mac t.message) ≡ true
         → FrameAdds start now frame c d → d ≡ then_tried start now address ((now, Heard unspecified (solicited_node address) (read_message start.policies start.mac t.message)) ∷ c) }
     ensures held { (start : Start) (c d : Chronicle) (now : ℕ) (frame : List ℕ) (address : Addr) → AreBytes 16 address.0 → IsUnicast address → (t : IsDefence frame address)
         → is_awake start c address (bodies.Na (record { router = t.router; solicited = false; override_flag = t.overrides; target = address })) ≡ true
         → is_foreign start (own_addresses.is_assigned c) address ≡ true
-        → FrameAdds start now frame c d → d ≡ then_neighbor_advertised now address all_nodes address (read_message start.policies start.mac t.message) c }
+        → is_allowed start.policies address all_nodes (read_message start.policies start.mac t.message) ≡ true
+        → FrameAdds start now frame c d → d ≡ then_neighbor_advertised start now address all_nodes address (read_message start.policies start.mac t.message) c }
 {}
 
 /// Milliseconds in which nothing is due add nothing: a caller that knows the moment before which nothing is due may go there at once.

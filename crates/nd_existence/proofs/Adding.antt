@@ -274,7 +274,7 @@ module _ (start : Start) (c : Chronicle) (now : ℕ) where
     whole : (body : Body) → PlacedFor (said c source (message options body)) (needs c source (message options body) body) true → (d : Chronicle) × Adds body d
     whole (bodies.Ra ra) p = behind_room (bodies.Ra ra) (λ gone made. then_advertised start now source destination ra (message options (bodies.Ra ra)) true gone (neighbour_history c) made) p
     whole (bodies.Ns ns) p = solicited ns.target (bytes_eq source.0 unspecified_address) refl p
-    whole (bodies.Na na) p = behind na (λ made. then_neighbor_advertised now source destination na.target (message options (bodies.Na na)) made)
+    whole (bodies.Na na) p = behind na (λ made. then_neighbor_advertised start now source destination na.target (message options (bodies.Na na)) made)
     whole (bodies.Redirect r) p =
         behind_room (bodies.Redirect r) (λ gone made. releasing now (said c source (message options (bodies.Redirect r))) (neighbour_history made)
         (failing_for now gone (neighbour_history c) ((now, Heard source destination (message options (bodies.Redirect r))) ∷ made))) p

@@ -17,13 +17,13 @@ use Rattle.nd_slaac.specs.Ends.{valid_end}
 use Rattle.nd_slaac.specs.History.{Row, Story, story, Formed, Solicited, Assigned}
 use Rattle.nd_slaac.proofs.Steps.{other_story, same_story}
 use Rattle.nd_slaac.proofs.Histories.{assigned_tentative}
-use Rattle.nd_chronicle.specs.Start.{Start, link_local_key}
+use Rattle.nd_chronicle.specs.Start.{Start, is_host, link_local_key}
 use Rattle.nd_chronicle.specs.Happening.{Chronicle, Happening, Address, Drew, ForReachableTime, LeftRouter, Sent}
 use Rattle.nd_chronicle.specs.Histories.{address_history, advertising_history, neighbour_history}
 use Rattle.nd_chronicle.specs.OwnAddress.{story_of}
 use Rattle.nd_chronicle.specs.InForce.{retrans_timer}
 use Rattle.nd_chronicle.specs.History.{beginning, first_delay, with_reachable_time}
-use Rattle.nd_chronicle.specs.Due.{What, RouterEnds, AddressFalls, NeighbourFalls, RoutersSolicited, RouterAdvertises, Redraws, Due, comes, is_host}
+use Rattle.nd_chronicle.specs.Due.{What, RouterEnds, AddressFalls, NeighbourFalls, RoutersSolicited, RouterAdvertises, Redraws, Due, comes}
 use Rattle.nd_chronicle.proofs.Keeping.{not_both}
 use Rattle.nd_link_log.proofs.Timely.{known_by}
 

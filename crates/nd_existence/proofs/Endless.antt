@@ -9,12 +9,12 @@ use Rattle.nd_advertiser.specs.Advertising.{is_on, settings_of, advertised_by, b
 use Rattle.nd_advertiser.specs.Config.{Settings}
 use Rattle.nd_neighbour.specs.Due as neighbours
 use Rattle.nd_slaac.specs.Due as addresses
-use Rattle.nd_chronicle.specs.Start.{Start, link_local_key}
+use Rattle.nd_chronicle.specs.Start.{Start, is_host, link_local_key}
 use Rattle.nd_chronicle.specs.Happening.{Chronicle}
 use Rattle.nd_chronicle.specs.Histories.{advertising_history}
 use Rattle.nd_chronicle.specs.Generator.{stream_left, interval_drawn}
 use Rattle.nd_chronicle.specs.Advertising.{advertising_by, then_advertising}
-use Rattle.nd_chronicle.specs.Due.{What, RouterEnds, AddressFalls, NeighbourFalls, RoutersSolicited, RouterAdvertises, Redraws, is_host, router_advertisement_date, then_address, then_neighbour, comes}
+use Rattle.nd_chronicle.specs.Due.{What, RouterEnds, AddressFalls, NeighbourFalls, RoutersSolicited, RouterAdvertises, Redraws, router_advertisement_date, then_address, then_neighbour, comes}
 use Rattle.nd_chronicle.specs.History.{Walk, over, adds, passes}
 use Rattle.nd_existence.proofs.Timed.{of_router, dated_on}
 use Rattle.nd_existence.proofs.Walking.{losing_keeps}

@@ -30,6 +30,7 @@ use Rattle.nd_chronicle.specs.Histories.{router_history, prefix_history, redirec
 use Rattle.nd_chronicle.specs.NextHop.{candidate, IsNextHop, routed_hop, IsHopOf}
 use Rattle.nd_chronicle.specs.OwnAddress.{story_of, is_assigned, is_own, is_up}
 use Rattle.nd_chronicle.specs.Reading.{read_outcome}
+use Rattle.nd_chronicle.specs.Solicited.{outcome_at}
 use Rattle.nd_chronicle.specs.Hearing.{came_to, is_foreign, IsCounted, IsOurs, takes_target, is_awake, IsForUs, IsPacketForUs, IsInTransit, FromFirstHop, NotFromFirstHop, Verdict, Judges, IsDropped, IsTaken, IsStrange, IsMisdirected, IsPacket, IsPassing, IsStrangePacket, IsHeard}
 use Rattle.nd_existence.proofs.Deciding.{either_or, both_or, true_or, false_or, same_or, some_below}
 use Rattle.nd_existence.proofs.Tables.{address_bound, nothing_of_address}
@@ -119,16 +120,17 @@ module _ (c : Chronicle) (counts : List ℕ → Bool) (counted : Counts c counts
 module _ (start : Start) (c : Chronicle) where
   for_us_or : (source destination : Addr) (message : Parts) → IsForUs start c source destination message ⊎ (IsForUs start c source destination message → ⊥)
   for_us_or source destination message =
-      elim (both_or (ours_or c (is_own c) (own_counts c) destination start) (both_or (true_or (takes_target c source message.body)) (both_or (true_or (is_awake start c source message.body)) (true_or (is_foreign start (is_assigned c) source))))) [
-        | inl p ↦ inl (record { destination_is = p.0; target = p.1.0; awake = p.1.1.0; foreign = p.1.1.1 })
-        | inr none ↦ inr (λ is. none (is.destination_is, (is.target, (is.awake, is.foreign))))
+      elim (both_or (ours_or c (is_own c) (own_counts c) destination start) (both_or (true_or (takes_target c source message.body)) (both_or (true_or (is_awake start c source message.body))
+      (both_or (true_or (is_foreign start (is_assigned c) source)) (true_or (is_allowed start.policies source destination message)))))) [
+        | inl p ↦ inl (record { destination_is = p.0; target = p.1.0; awake = p.1.1.0; foreign = p.1.1.1.0; allowed = p.1.1.1.1 })
+        | inr none ↦ inr (λ is. none (is.destination_is, (is.target, (is.awake, (is.foreign, is.allowed)))))
       ]
 
   packet_for_us_or : (packet : PacketParts) → IsPacketForUs start c packet ⊎ (IsPacketForUs start c packet → ⊥)
   packet_for_us_or packet =
-      elim (both_or (ours_or c (is_assigned c) (assigned_counts c) packet.header.destination start) (true_or (is_up start c))) [
-        | inl p ↦ inl (record { destination_is = p.0; up = p.1 })
-        | inr none ↦ inr (λ is. none (is.destination_is, is.up))
+      elim (both_or (ours_or c (is_assigned c) (assigned_counts c) packet.header.destination start) (both_or (true_or (is_up start c)) (true_or (is_allowed_packet start.policies packet.header.source)))) [
+        | inl p ↦ inl (record { destination_is = p.0; up = p.1.0; allowed = p.1.1 })
+        | inr none ↦ inr (λ is. none (is.destination_is, (is.up, is.allowed)))
       ]
 
   in_transit_or : (frame : List ℕ) (packet : PacketParts) → (IsPacketForUs start c packet → ⊥) → IsInTransit start c frame packet ⊎ (IsInTransit start c frame packet → ⊥)
@@ -168,5 +170,7 @@ module _ (start : Start) (c : Chronicle) (now : ℕ) where
   pub frame_heard : (frame : List ℕ) → (verdict : Verdict) × IsHeard start c now frame verdict
   frame_heard frame =
       let said = hearing_of frame start.role in
-      let j = judged frame (read_outcome start.policies start.mac said) in
-      (j.0, record { outcome = read_outcome start.policies start.mac said; by_frame = record { said = said; by_frame = hears frame start.role; as_read = refl }; by_node = j.1 })
+      let read = read_outcome start.policies start.mac said in
+      let j = judged frame (outcome_at start c now read) in
+      let by_frame = record { read = read; by_frame = record { said = said; by_frame = hears frame start.role; as_read = refl }; at_moment = refl } in
+      (j.0, record { outcome = outcome_at start c now read; by_frame = by_frame; by_node = j.1 })

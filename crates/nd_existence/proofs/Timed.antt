@@ -10,12 +10,12 @@ use Rattle.nd_advertiser.specs.Config.{Settings, is_max_interval, is_min_interva
 use Rattle.nd_advertiser.specs.declared.config_fault.ConfigFault.{ConfigFault}
 use Rattle.nd_advertiser.proofs.Dates.{interval_stays}
 use Rattle.nd_slaac.specs.History as addresses
-use Rattle.nd_chronicle.specs.Start.{Start, link_local_key}
+use Rattle.nd_chronicle.specs.Start.{Start, is_host, link_local_key}
 use Rattle.nd_chronicle.specs.Happening.{Chronicle, Passed, Drew, Heard, Dropped, Up, Neighbour, Address, LeftRouter, Unlisted, ClearedPrefixes, ClearedRedirects, ClearedDns, SolicitedRouters, Configured, Offered, Ceased, Advertised, Planned, RoutePut, RedirectMade, Sent, Lost, Path, Resolved, Refused, Ignored, Shown, TooLate}
 use Rattle.nd_chronicle.specs.Histories.{advertising_history, then_assigned}
 use Rattle.nd_chronicle.specs.Generator.{stream_left, interval_drawn}
 use Rattle.nd_chronicle.specs.Advertising.{advertising_by, then_advertising}
-use Rattle.nd_chronicle.specs.Due.{is_host, router_advertisement_date}
+use Rattle.nd_chronicle.specs.Due.{router_advertisement_date}
 use Rattle.nd_existence.specs.Intervals.{AreTimed}
 
 -- of a list that may have a row of an assignment on top

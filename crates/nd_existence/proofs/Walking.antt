@@ -24,13 +24,13 @@ use Rattle.nd_slaac.specs.Dates as dates
 use Rattle.nd_slaac.specs.Due as addresses
 use Rattle.nd_slaac.specs.TableKept as own
 use Rattle.nd_slaac.proofs.Dues.{turn_falls, rest_falls, turn_gains, turn_fewer}
-use Rattle.nd_chronicle.specs.Start.{Start}
+use Rattle.nd_chronicle.specs.Start.{Start, is_host}
 use Rattle.nd_chronicle.specs.Happening.{Chronicle, Loss, Lost, LeftRouter}
 use Rattle.nd_chronicle.specs.Histories.{router_history, address_history, neighbour_history, advertising_history, parameter_history}
 use Rattle.nd_chronicle.specs.InForce.{next_redraw}
 use Rattle.nd_chronicle.specs.Packet.{losing}
 use Rattle.nd_chronicle.specs.Advertising.{with_interval, advertising_by, then_advertising}
-use Rattle.nd_chronicle.specs.Due.{What, RouterEnds, AddressFalls, NeighbourFalls, RoutersSolicited, RouterAdvertises, Redraws, Due, NoRouter, NoAddress, NoNeighbour, NoSolicitation, NoAdvertisement, is_host, solicited_routers, heard_router, router_solicitation_date, router_advertisement_date, then_address, then_neighbour, comes}
+use Rattle.nd_chronicle.specs.Due.{What, RouterEnds, AddressFalls, NeighbourFalls, RoutersSolicited, RouterAdvertises, Redraws, Due, NoRouter, NoAddress, NoNeighbour, NoSolicitation, NoAdvertisement, solicited_routers, heard_router, router_solicitation_date, router_advertisement_date, then_address, then_neighbour, comes}
 use Rattle.nd_chronicle.specs.History.{Walk, over, adds, passes}
 use Rattle.nd_existence.specs.Intervals.{AreTimed}
 use Rattle.nd_existence.proofs.Deciding.{dated}

@@ -27,7 +27,7 @@ use Rattle.nd_chronicle.specs.Start.{Policies, Start, link_local, link_local_key
 use Rattle.nd_chronicle.specs.Happening.{Address, Chronicle, Heard, Sent}
 use Rattle.nd_chronicle.specs.Histories.{neighbour_history}
 use Rattle.nd_chronicle.specs.Reading.{read_message}
-use Rattle.nd_chronicle.specs.Hearing.{conflicts_with, is_awake, is_foreign}
+use Rattle.nd_chronicle.specs.Hearing.{conflicts_with, is_allowed, is_awake, is_foreign}
 use Rattle.nd_chronicle.specs.Message.{leaving, releasing, said}
 use Rattle.nd_chronicle.specs.NeighborAdvertisement.{conflicting, ends_in_list, then_neighbor_advertised}
 use Rattle.nd_chronicle.specs.NeighborSolicitation.{is_router, then_tried}
@@ -92,6 +92,9 @@ module _ (Bytes : Type 0) (b : Bytes) (start : Start) (c : Chronicle) (now : ℕ
   foreign : (source : Addr) → is_foreign start (is_assigned c) source ≡ true
   foreign source = ap (λ (p : Policies). not (p.own && is_assigned c source.0)) l.policies
 
+  allowed : (source destination : Addr) (message : Parts) → is_allowed start.policies source destination message ≡ true
+  allowed source destination message = ap (λ (p : Policies). is_allowed p source destination message) l.policies
+
   as_said : (message : Parts) → read_message start.policies start.mac message ≡ message
   as_said message = ap (λ (p : Policies). read_message p start.mac message) l.policies ∙ read_by_none start.mac message
 
@@ -103,7 +106,8 @@ module _ (Bytes : Type 0) (b : Bytes) (start : Start) (c : Chronicle) (now : ℕ
         → d ≡ (if assigned then (now, Sent (defence_frame (is_router start.role) start.mac address)) ∷ (now, Heard unspecified (solicited_node address) t.message) ∷ c
         else (now, Address (number_of address.0) Conflict) ∷ (now, Heard unspecified (solicited_node address) t.message) ∷ c)
     by_state t assigned e =
-        tried start c now frame address bytes d unicast t own (awake unspecified (bodies.Ns (record { target = address })) (λ same. ap (λ (k : Bool). k && true) (itself same))) (foreign unspecified) adds
+        tried start c now frame address bytes d unicast t own (awake unspecified (bodies.Ns (record { target = address })) (λ same. ap (λ (k : Bool). k && true) (itself same))) (foreign unspecified)
+        (allowed unspecified (solicited_node address) (read_message start.policies start.mac t.message)) adds
         ∙ ap (λ (m : Parts). then_tried start now address ((now, Heard unspecified (solicited_node address) m) ∷ c)) (as_said t.message)
         ∙ ap (λ (k : Bool). if k then (now, Sent (defence_frame (is_router start.role) start.mac address)) ∷ (now, Heard unspecified (solicited_node address) t.message) ∷ c
         else (now, Address (number_of address.0) Conflict) ∷ (now, Heard unspecified (solicited_node address) t.message) ∷ c) e
@@ -124,11 +128,12 @@ module _ (Bytes : Type 0) (b : Bytes) (start : Start) (c : Chronicle) (now : ℕ
     yields t trying =
         let heard : Chronicle = (now, Heard address all_nodes t.message) ∷ c in
         let conflict : Chronicle = (now, Address (number_of address.0) Conflict) ∷ heard in
-        let more : Chronicle → Chronicle = λ x. leaving now (ends_in_list now c (said c address t.message)) (number_of address.0) (releasing now (said c address t.message) (neighbour_history c) x) in
-        let g = leaving_grows now start (ends_in_list now c (said c address t.message)) (number_of address.0) _
+        let more : Chronicle → Chronicle = λ x. leaving now (ends_in_list start now c (said c address t.message)) (number_of address.0) (releasing now (said c address t.message) (neighbour_history c) x) in
+        let g = leaving_grows now start (ends_in_list start now c (said c address t.message)) (number_of address.0) _
         (releasing_grows now start (said c address t.message) (neighbour_history c) conflict (stays now conflict)) in (
           g.newer,
-          told start c now frame address bytes d unicast t (awake address (bodies.Na (record { router = t.router; solicited = false; override_flag = t.overrides; target = address })) itself) (foreign address) adds
-              ∙ ap (λ (m : Parts). then_neighbor_advertised now address all_nodes address m c) (as_said t.message)
+          told start c now frame address bytes d unicast t (awake address (bodies.Na (record { router = t.router; solicited = false; override_flag = t.overrides; target = address })) itself) (foreign address)
+              (allowed address all_nodes (read_message start.policies start.mac t.message)) adds
+              ∙ ap (λ (m : Parts). then_neighbor_advertised start now address all_nodes address m c) (as_said t.message)
               ∙ ap (λ (t : Bool). more (conflicting now t (number_of address.0) heard)) trying ∙ g.all,
         )

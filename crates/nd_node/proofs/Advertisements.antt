@@ -1,10 +1,11 @@
 -- A Neighbor Advertisement, and the chronicle that a node stands for.
 use Rattle.std.proofs.Common.{◌≡◌, ◌↔◌, ℕ, ◌<◌, ◌≤◌, Bool, true, false, List, [], ◌∷◌, ◌++◌, append-nil, Option, Some, None, refl, sym, ◌∙◌, ap, subst, arith}
-use Rattle.std.specs.Prelude.{◌&&◌, if◌then◌else◌}
+use Rattle.std.specs.Prelude.{◌&&◌, ◌||◌, if◌then◌else◌}
 use Rattle.std.specs.List.{flat_map}
 use Rattle.std.specs.Option.{option_map}
 use Rattle.rand_core.specs.Stream.{Stream}
 use Rattle.nd_addr.specs.declared.addr.Addr.{Addr}
+use Rattle.nd_addr.specs.declared.role.Role.{Role}
 use Rattle.nd_addr.specs.Number.{number_of}
 use Rattle.nd_decode.specs.Message.{Parts}
 use Rattle.nd_decode.specs.Option.{Said}
@@ -17,8 +18,9 @@ use Rattle.nd_neighbour.specs.declared.news.News.TheVariants as news
 use Rattle.nd_neighbour.specs.declared.news.Times.{Times}
 use Rattle.nd_neighbour.specs.EntryKept as neighbour_entries
 use Rattle.nd_neighbour.specs.History as rows
+use Rattle.nd_neighbour.specs.News.{ends_router}
 use Rattle.nd_neighbour.specs.TableKept as neighbours
-use Rattle.nd_routers.specs.History.{announcements}
+use Rattle.nd_routers.specs.History.{RouterRow, announcements}
 use Rattle.nd_routers.specs.RoutersKept as routers
 use Rattle.nd_routers.specs.Routers.{same}
 use Rattle.nd_routers.specs.RoutersKept.{IsSettled}
@@ -28,6 +30,7 @@ use Rattle.nd_slaac.specs.Dates as address_dates
 use Rattle.nd_slaac.specs.Due as address_due
 use Rattle.nd_slaac.specs.History as address_rows
 use Rattle.nd_slaac.specs.TableKept as addresses
+use Rattle.nd_chronicle.specs.Start.{Policies, is_host}
 use Rattle.nd_chronicle.specs.Happening.{Chronicle, Heard, Passed, last_moment}
 use Rattle.nd_chronicle.specs.Histories.{neighbour_history, router_history, address_history, redirect_history, said_of_neighbour, advertised_by}
 use Rattle.nd_chronicle.specs.InForce.{reachable_time}
@@ -157,7 +160,8 @@ module _ {R A : Type 0} (stream : R → Stream) (old new : Node R A) (x room y1 
     (conflicts : Conflicts now (number_of na.target.0) old.addresses.addresses new.addresses.addresses y1 y2 tentative)
     (hears : HearsOf old.neighbours.limit now (option_map (said_by times) news) old.neighbours.entries new.neighbours.entries y2 y3 ends)
     (first second : choice.Table) (holds : first ≡ (if tentative then record old.choice { memory = forgotten old.choice.memory } else old.choice)) (may : MayRemember first second old.neighbours.entries new.neighbours.entries)
-    (leaves : Leaves now (number_of na.target.0) ends old.routers new.routers second new.choice y3 z left)
+    (left_says : (history : List RouterRow) → routers.Stands old.routers history → left ≡ (ends && ((old.policies.strict && is_host old.role) || stands same (number_of na.target.0) (announcements history) now)))
+    (leaves : Leaves now (number_of na.target.0) left old.routers new.routers second new.choice y3 z)
     (routers_settled : IsSettled new.routers.entries now) where
   pub adds_advertisement : AddsMessage stream old new x z now source destination (advertisement na options) Done
   adds_advertisement = record {
@@ -176,10 +180,14 @@ module _ {R A : Type 0} (stream : R → Stream) (old new : Node R A) (x room y1 
         (subst (λ (o : Option (ℕ × rows.RowKind)). HearsOf old.neighbours.limit now o old.neighbours.entries new.neighbours.entries y2 y3 ends) this_is hears) in
         let h = hears'.each history s.neighbours in
         let cf = conflicts.stands (address_history c) s.addresses in
-        let lv = leaves.routers (router_history c) s.routers in
         let t : Bool = is_tentative later na.target.0 in
-        let l : Bool = ends_in_list now later this in
-        let left_is : left ≡ l = lv.0 ∙ ap (λ (b : Bool). b && stands same key (announcements (router_history c)) now) h.4 in
+        let l : Bool = ends_in_list start now later this in
+        let listed : Bool = stands same key (announcements (router_history c)) now in
+        let left_is : left ≡ l =
+        left_says (router_history c) s.routers
+        ∙ ap (λ (b : Bool). b && ((old.policies.strict && is_host old.role) || listed)) h.4
+        ∙ ap (λ (p : Policies). ends_router now kind (rows.story key history) && ((p.strict && is_host old.role) || listed)) s.policies
+        ∙ ap (λ (r : Role). ends_router now kind (rows.story key history) && ((start.policies.strict && is_host r) || listed)) s.role in
         let e0 : Chronicle = (now, Heard source destination message) ∷ later in
         let e1 : Chronicle = conflicting now t key e0 in
         let e2 : Chronicle = releasing now this history e1 in
@@ -196,7 +204,7 @@ module _ {R A : Type 0} (stream : R → Stream) (old new : Node R A) (x room y1 
         k3.redirects ∙ ap (λ r. with_gone now l key r) (q.redirects ∙ k1.redirects) in
         let addresses_are : address_history d ≡ with_conflict now t key (address_history c) = k3.addresses ∙ (q.addresses ∙ k1.addresses) in
         let neighbours_are : neighbour_history d ≡ (now, key, kind) ∷ history = k3.neighbours ∙ (q.neighbours ∙ k1.neighbours) in
-        let routers' = subst (λ r. routers.Stands new.routers r) (sym routers_are) (subst (λ (b : Bool). routers.Stands new.routers (with_left now b key (router_history c))) left_is lv.1) in
+        let routers' = subst (λ r. routers.Stands new.routers r) (sym routers_are) (subst (λ (b : Bool). routers.Stands new.routers (with_left now b key (router_history c))) left_is (leaves.routers (router_history c) s.routers)) in
         let redirects' = subst (λ r. choice.Stands new.choice r) (sym redirects_are) (subst (λ (b : Bool). choice.Stands new.choice (with_gone now b key (redirect_history c))) left_is (leaves.redirects (redirect_history c) (redirects_stand old.choice second (redirect_history c) (may_redirects first second old.neighbours.entries new.neighbours.entries may ∙ forgot_redirects tentative old.choice first holds) s.redirects))) in
         let own' : addresses.Stands new.addresses.addresses (with_conflict now t key (address_history c)) = subst (λ (b : Bool). addresses.Stands new.addresses.addresses (with_conflict now b key (address_history c))) cf.0 cf.1 in
         let addresses' = subst (λ r. addresses.Stands new.addresses.addresses r) (sym addresses_are) own' in

@@ -15,9 +15,8 @@ use Rattle.nd_params.specs.ParamsKept as parameters
 use Rattle.nd_dns.specs.DnsKept as dns
 use Rattle.nd_routers.specs.PrefixesKept.{Prefixes}
 use Rattle.nd_nexthop.specs.Choice as choice
-use Rattle.nd_chronicle.specs.Start.{Policies, Start, link_local_key}
+use Rattle.nd_chronicle.specs.Start.{Policies, Start, link_local_key, is_host}
 use Rattle.nd_chronicle.specs.Histories.{parameter_history, address_history}
-use Rattle.nd_chronicle.specs.Due.{is_host}
 use Rattle.nd_chronicle.specs.Generator.{stream_left}
 use Rattle.nd_chronicle.specs.History.{beginning}
 use Rattle.nd_steps.specs.SolicitRouters.{Solicitations, next_solicitation}

@@ -11,7 +11,9 @@ use Rattle.nd_addr.specs.declared.why.Why.TheVariants.{NotForUs, NotFirstHop}
 use Rattle.nd_addr.specs.Ip6.{PacketParts, ipv6_header_length, payload_length_of}
 use Rattle.nd_addr.specs.Number.{number_of}
 use Rattle.nd_addr.specs.Places.{packet_in}
-use Rattle.nd_decode.specs.Message.{Parts}
+use Rattle.nd_decode.specs.Message.{Parts, parts}
+use Rattle.nd_decode.specs.Pieces.{options_left}
+use Rattle.nd_decode.specs.declared.message_ref.MessageRef.{MessageRef}
 use Rattle.nd_decode.specs.Option.{Said}
 use Rattle.nd_decode.specs.declared.body.Body.{Body}
 use Rattle.nd_decode.specs.declared.body.Body.TheVariants as bodies
@@ -19,7 +21,10 @@ use Rattle.nd_decode.specs.declared.redirect.Redirect.{Redirect}
 use Rattle.nd_validity.specs.Hearing.{Outcome, Hears, valid, other, dropped}
 use Rattle.nd_nexthop.specs.NextHop.{NextHop, via}
 use Rattle.nd_chronicle.specs.Start.{Policies, Start}
-use Rattle.nd_chronicle.specs.Reading.{IsRead, read_outcome}
+use Rattle.nd_chronicle.specs.Reading.{read_body, read_options, read_outcome, reading_of}
+use Rattle.nd_chronicle.specs.Solicited.{IsReadAt, body_at, outcome_at}
+use Rattle.nd_decode.specs.Reading.{options_read}
+use Rattle.nd_node.specs.Hearing as kept
 use Rattle.nd_chronicle.specs.Happening.{Chronicle, Happening, Dropped, Up, Passed, last_moment}
 use Rattle.nd_chronicle.specs.Hearing as verdicts
 use Rattle.nd_chronicle.specs.Hearing.{FromFirstHop, NotFromFirstHop, IsForUs, IsPacketForUs, IsInTransit, IsDropped, IsTaken, IsStrange, IsMisdirected, IsPacket, IsPassing, IsStrangePacket, Judges, Verdict, takes_target}
@@ -191,10 +196,18 @@ from_any start c now source (bodies.Redirect r) n = absurd (n r refl)
 
 -- whether a packet is in transit is the same once time has passed
 pub in_transit_later : (start : Start) (c : Chronicle) (now : ℕ) (frame : List ℕ) (packet : PacketParts) → IsInTransit start c frame packet → IsInTransit start ((now, Passed) ∷ c) frame packet
-in_transit_later start c now frame packet t = record { role = t.role; not_ours = λ f. t.not_ours (record { destination_is = f.destination_is; up = f.up }); not_own = t.not_own; may = t.may; up = t.up; came = t.came; foreign = t.foreign }
+in_transit_later start c now frame packet t = record { role = t.role; not_ours = λ f. t.not_ours (record { destination_is = f.destination_is; up = f.up; allowed = f.allowed }); not_own = t.not_own; may = t.may; up = t.up; came = t.came; foreign = t.foreign }
 
 in_transit_before : (start : Start) (c : Chronicle) (now : ℕ) (frame : List ℕ) (packet : PacketParts) → IsInTransit start ((now, Passed) ∷ c) frame packet → IsInTransit start c frame packet
-in_transit_before start c now frame packet t = record { role = t.role; not_ours = λ f. t.not_ours (record { destination_is = f.destination_is; up = f.up }); not_own = t.not_own; may = t.may; up = t.up; came = t.came; foreign = t.foreign }
+in_transit_before start c now frame packet t = record { role = t.role; not_ours = λ f. t.not_ours (record { destination_is = f.destination_is; up = f.up; allowed = f.allowed }); not_own = t.not_own; may = t.may; up = t.up; came = t.came; foreign = t.foreign }
+
+-- what the node makes of a message by its policies, and of its flag S by its neighbours, is what it reads
+pub as_read : {R A : Type 0} (start : Start) (c : Chronicle) (node : Node R A) (now : ℕ) (source destination : Addr) (message read : MessageRef) (body : Body)
+    → read.body ≡ read_body node.policies message.body → options_left read.options ≡ options_read (reading_of node.policies) (options_left message.options) → body ≡ body_at start c now read.body
+    → valid source destination (record { body = body; options = kept.options_read node read.options }) ≡ outcome_at start c now (read_outcome node.policies node.mac (valid source destination (parts message)))
+as_read start c node now source destination message read body body_is options_are at_moment =
+    ap (λ (b : Body). let m : Parts = record { body = b; options = kept.options_read node read.options } in valid source destination m) (at_moment ∙ ap (body_at start c now) body_is)
+    ∙ ap (λ (os : List Said). let m : Parts = record { body = body_at start c now (read_body node.policies message.body); options = read_options node.policies node.mac os } in valid source destination m) options_are
 
 pub is_not : (answer : Bool) (P : Type 0) → answer ≡ true ↔ P → answer ≡ false → P → ⊥
 is_not answer P says is p = let yes' = says.1 p in let never : ⊥ = cc in never
@@ -204,13 +217,15 @@ module _ {R A : Type 0} (stream : R → Stream) (old new : Node R A) (x y : List
   by_role : (start : Start) (c : Chronicle) (outcome : Outcome) → Stands stream start old c → Hears frame old.role outcome → Hears frame start.role outcome
   by_role start c outcome s h = subst (λ (r : Role). Hears frame r outcome) s.role h
 
-  -- the same as it is read, which the policies of the node say
-  read_by_start : (start : Start) (c : Chronicle) (outcome : Outcome) → Stands stream start old c → IsRead old.policies old.mac frame old.role outcome
-      → IsRead start.policies start.mac frame start.role outcome
-  read_by_start start c outcome s h = record {
-    said = h.said;
-    by_frame = by_role start c h.said s h.by_frame;
-    as_read = h.as_read ∙ ap (λ (p : Policies). read_outcome p old.mac h.said) s.policies ∙ ap (λ (m : Mac). read_outcome start.policies m h.said) s.mac;
+  -- the same as it is read, which the policies and the neighbours of the node say
+  pub read_by_start : (start : Start) (c : Chronicle) (said outcome : Outcome) → Stands stream start old c → Hears frame old.role said → outcome ≡ outcome_at start c now (read_outcome old.policies old.mac said)
+      → IsReadAt start ((now, Passed) ∷ c) now frame outcome
+  read_by_start start c said outcome s h is = record {
+    read = read_outcome start.policies start.mac said;
+    by_frame = record { said = said; by_frame = by_role start c said s h; as_read = refl };
+    at_moment = is
+        ∙ ap (λ (p : Policies). outcome_at start c now (read_outcome p old.mac said)) s.policies
+        ∙ ap (λ (m : Mac). outcome_at start c now (read_outcome start.policies m said)) s.mac;
   }
 
   -- it is dropped for what it says by itself
@@ -219,21 +234,21 @@ module _ {R A : Type 0} (stream : R → Stream) (old new : Node R A) (x y : List
     each = λ start c s le.
         let a = adds.each start c s le in (
           (now, Dropped why) ∷ (now, Passed) ∷ c,
-          record { verdict = verdicts.drops why; heard = record { outcome = dropped why; by_frame = record { said = dropped why; by_frame = by_role start c (dropped why) s h; as_read = refl }; by_node = IsDropped }; adds = refl },
+          record { verdict = verdicts.drops why; heard = record { outcome = dropped why; by_frame = record { read = dropped why; by_frame = record { said = dropped why; by_frame = by_role start c (dropped why) s h; as_read = refl }; at_moment = refl }; by_node = IsDropped }; adds = refl },
           a.0,
           a.1,
           refl,
         );
   }
 
-  module _ (source destination : Addr) (message : Parts) (h : IsRead old.policies old.mac frame old.role (valid source destination message)) (ours : Bool)
+  module _ (source destination : Addr) (message : Parts) (h : (start : Start) (c : Chronicle) → Stands stream start old c → IsReadAt start ((now, Passed) ∷ c) now frame (valid source destination message)) (ours : Bool)
       (says : (start : Start) (c : Chronicle) → Stands stream start old c → ours ≡ true ↔ IsForUs start c source destination message) (same : SameTarget now source message) where
     -- time that passed doesn't change for whom it is
     for_us_later : (start : Start) (c : Chronicle) → IsForUs start c source destination message → IsForUs start ((now, Passed) ∷ c) source destination message
-    for_us_later start c f = record { destination_is = f.destination_is; target = same c ∙ f.target; awake = f.awake; foreign = f.foreign }
+    for_us_later start c f = record { destination_is = f.destination_is; target = same c ∙ f.target; awake = f.awake; foreign = f.foreign; allowed = f.allowed }
 
     for_us_before : (start : Start) (c : Chronicle) → IsForUs start ((now, Passed) ∷ c) source destination message → IsForUs start c source destination message
-    for_us_before start c f = record { destination_is = f.destination_is; target = sym (same c) ∙ f.target; awake = f.awake; foreign = f.foreign }
+    for_us_before start c f = record { destination_is = f.destination_is; target = sym (same c) ∙ f.target; awake = f.awake; foreign = f.foreign; allowed = f.allowed }
 
     pub message_taken : {answer : Answer} → ours ≡ true
         → ((start : Start) (c : Chronicle) → Stands stream start old c → last_moment start.at c ≤ now → FromFirstHop start ((now, Passed) ∷ c) now source message.body)
@@ -245,7 +260,7 @@ module _ {R A : Type 0} (stream : R → Stream) (old new : Node R A) (x y : List
             a.0,
             record {
               verdict = verdicts.hears source destination message;
-              heard = record { outcome = valid source destination message; by_frame = read_by_start start c (valid source destination message) s h; by_node = IsTaken (for_us_later start c for_us) (from start c s le) };
+              heard = record { outcome = valid source destination message; by_frame = h start c s; by_node = IsTaken (for_us_later start c for_us) (from start c s le) };
               adds = a.1;
             },
             a.2,
@@ -265,7 +280,7 @@ module _ {R A : Type 0} (stream : R → Stream) (old new : Node R A) (x y : List
               verdict = verdicts.drops NotFirstHop;
               heard = record {
                 outcome = valid source destination message;
-                by_frame = read_by_start start c (valid source destination message) s h;
+                by_frame = h start c s;
                 by_node = IsMisdirected (for_us_later start c ((says start c s).0 is)) (not_from start c s le);
               };
               adds = refl;
@@ -285,7 +300,7 @@ module _ {R A : Type 0} (stream : R → Stream) (old new : Node R A) (x y : List
               verdict = verdicts.drops NotForUs;
               heard = record {
                 outcome = valid source destination message;
-                by_frame = read_by_start start c (valid source destination message) s h;
+                by_frame = h start c s;
                 by_node = IsStrange (λ f. let yes' = (says start c s).1 (for_us_before start c f) in let never : ⊥ = cc in never);
               };
               adds = refl;
@@ -311,8 +326,8 @@ module _ {R A : Type 0} (stream : R → Stream) (old new : Node R A) (x y : List
                 verdict = verdicts.drops NotForUs;
                 heard = record {
                   outcome = other packet;
-                  by_frame = record { said = other packet; by_frame = by_role start c (other packet) s h; as_read = refl };
-                  by_node = IsStrangePacket (λ f. not_ours start c s (record { destination_is = f.destination_is; up = f.up }))
+                  by_frame = record { read = other packet; by_frame = record { said = other packet; by_frame = by_role start c (other packet) s h; as_read = refl }; at_moment = refl };
+                  by_node = IsStrangePacket (λ f. not_ours start c s (record { destination_is = f.destination_is; up = f.up; allowed = f.allowed }))
                       (λ t. is_not passes (IsInTransit start c frame packet) (in_transit start c s (not_ours start c s)) is (in_transit_before start c now frame packet t));
                 };
                 adds = refl;
@@ -332,7 +347,7 @@ module _ {R A : Type 0} (stream : R → Stream) (old new : Node R A) (x y : List
                 verdict = verdicts.goes_on packet;
                 heard = record {
                   outcome = other packet;
-                  by_frame = record { said = other packet; by_frame = by_role start c (other packet) s h; as_read = refl };
+                  by_frame = record { read = other packet; by_frame = record { said = other packet; by_frame = by_role start c (other packet) s h; as_read = refl }; at_moment = refl };
                   by_node = IsPassing (in_transit_later start c now frame packet ((in_transit start c s (not_ours start c s)).0 is));
                 };
                 adds = a.1;
@@ -353,8 +368,8 @@ module _ {R A : Type 0} (stream : R → Stream) (old new : Node R A) (x y : List
               verdict = verdicts.goes_up packet;
               heard = record {
                 outcome = other packet;
-                by_frame = record { said = other packet; by_frame = by_role start c (other packet) s h; as_read = refl };
-                by_node = IsPacket (record { destination_is = f.destination_is; up = f.up });
+                by_frame = record { read = other packet; by_frame = record { said = other packet; by_frame = by_role start c (other packet) s h; as_read = refl }; at_moment = refl };
+                by_node = IsPacket (record { destination_is = f.destination_is; up = f.up; allowed = f.allowed });
               };
               adds = refl;
             },

@@ -29,7 +29,7 @@ use Rattle.nd_neighbour.proofs.Leases.{in_lease, leased_fresh}
 use Rattle.nd_routers.specs.RoutersKept as routers
 use Rattle.nd_slaac.specs.Dates as address_dates
 use Rattle.nd_params.specs.ReachableTime.{redraw_after}
-use Rattle.nd_nexthop.specs.NextHop.{NextHop, direct, hop, no_route, via}
+use Rattle.nd_nexthop.specs.NextHop.{NextHop, direct, no_route, via}
 use Rattle.nd_chronicle.specs.Happening.{Chronicle, last_moment}
 use Rattle.nd_chronicle.specs.Start.{Start}
 use Rattle.nd_steps.specs.RouterTables.{next_advertisement}

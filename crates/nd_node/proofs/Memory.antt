@@ -19,7 +19,9 @@ use Rattle.nd_addr.specs.declared.role.Role.{Role}
 use Rattle.nd_addr.specs.declared.why.Why.{Why}
 use Rattle.nd_addr.specs.Ip6.{PacketParts}
 use Rattle.nd_chronicle.specs.Start.{Policies, Start}
-use Rattle.nd_chronicle.specs.Reading.{IsRead, read_outcome}
+use Rattle.nd_decode.specs.Reading.{options_read}
+use Rattle.nd_chronicle.specs.Reading.{IsRead, read_outcome, reading_of}
+use Rattle.nd_chronicle.specs.Solicited.{outcome_at}
 use Rattle.nd_chronicle.specs.Happening.{Chronicle}
 use Rattle.nd_chronicle.specs.Hearing.{IsForUs, IsInTransit, IsPacketForUs, IsHeard, Judges, IsStrange, IsMisdirected, IsStrangePacket, NotFromFirstHop, Verdict, drops}
 use Rattle.nd_chronicle.specs.Histories.{given_or_marked}
@@ -68,9 +70,11 @@ one_reading start frame role policies mac said outcome same asked own only h =
 
 -- the node judges what it reads in the frame
 pub judged_by_frame : (start : Start) (c : Chronicle) (now : ℕ) (frame : List ℕ) (role : Role) (policies : Policies) (mac : Mac) (said : Outcome) (verdict : Verdict) → role ≡ start.role → policies ≡ start.policies → mac ≡ start.mac
-    → ((o : Outcome) → Hears frame role o → said ≡ o) → IsHeard start c now frame verdict → Judges start c now frame (read_outcome policies mac said) verdict
+    → ((o : Outcome) → Hears frame role o → said ≡ o) → IsHeard start c now frame verdict → Judges start c now frame (outcome_at start c now (read_outcome policies mac said)) verdict
 judged_by_frame start c now frame role policies mac said verdict same asked own only h =
-    subst (λ (o : Outcome). Judges start c now frame o verdict) (sym (one_reading start frame role policies mac said h.outcome same asked own only h.by_frame)) h.by_node
+    let read = h.by_frame in
+    let is = ap (outcome_at start c now) (one_reading start frame role policies mac said read.read same asked own only read.by_frame) ∙ sym read.at_moment in
+    subst (λ (o : Outcome). Judges start c now frame o verdict) (sym is) h.by_node
 
 -- ---- a frame says one thing
 
@@ -86,7 +90,7 @@ module _ {R A : Type 0} (node : Node R A) (now : ℕ) (frame : List ℕ) (places
     pub record IsSuch : Type 0 where
       pub ra : RouterAdvertisement
       pub body : message.body ≡ bodies.Ra ra
-      pub adds : AddsNoName node now source message.options places
+      pub adds : AddsNoName node now source (options_read (reading_of node.policies) message.options) places
 
     pub nameless : IsNameless node now frame places → IsSuch
     nameless n =
@@ -97,5 +101,5 @@ module _ {R A : Type 0} (node : Node R A) (now : ℕ) (frame : List ℕ) (places
         record {
           ra = n.ra;
           body = ap (λ (m : Parts). m.body) message_is;
-          adds = subst (λ (m : Parts). AddsNoName node now source m.options places) (sym message_is) (subst (λ (s : Addr). AddsNoName node now s n.options places) (sym source_is) n.adds);
+          adds = subst (λ (m : Parts). AddsNoName node now source (options_read (reading_of node.policies) m.options) places) (sym message_is) (subst (λ (s : Addr). AddsNoName node now s (options_read (reading_of node.policies) n.options) places) (sym source_is) n.adds);
         }

@@ -25,6 +25,7 @@ use Rattle.nd_slaac.specs.State.{is_by_hand, is_known}
 use Rattle.nd_nexthop.specs.NextHop.{NextHop, direct}
 use Rattle.nd_chronicle.specs.Start.{Policies, Start}
 use Rattle.nd_chronicle.specs.Reading.{read_outcome}
+use Rattle.nd_chronicle.specs.Solicited.{outcome_at}
 use Rattle.nd_chronicle.specs.Happening.{Chronicle, Full, Heard, Limit, Loss, Lost, Passed, Refusal, Refused, Forgotten, Neighbour, Sent, Unreachable}
 use Rattle.nd_chronicle.specs.Advertising.{planning, wants_answer}
 use Rattle.nd_chronicle.specs.Event as events
@@ -183,7 +184,7 @@ module _ (at : ℕ) where
           let claimed : Chronicle = conflicting at (is_tentative placed na.target.0) (number_of na.target.0) heard in
           let released : Chronicle = releasing at (said placed source message) (neighbour_history placed) claimed in
           ap is_refusal h.2
-          ∙ leaving_adds (ends_in_list at placed (said placed source message)) (number_of na.target.0) released
+          ∙ leaving_adds (ends_in_list start at placed (said placed source message)) (number_of na.target.0) released
           (releasing_adds (said placed source message) (neighbour_history placed) claimed (conflicting_adds (is_tentative placed na.target.0) (number_of na.target.0) heard refl))
       message_adds (bodies.Redirect r) c d h =
           ap is_refusal h.3 ∙ releasing_adds (said c source message) (neighbour_history h.1) _ (failing_adds h.0 (neighbour_history c) _ refl)
@@ -382,7 +383,7 @@ module _ (start : Start) (now : ℕ) (frame : List ℕ) (packet : PacketParts) (
 -- what is read in the frame is judged so
 pub judged_frame : (start : Start) (c : Chronicle) (now : ℕ) (frame : List ℕ) (role : Role) (policies : Policies) (mac : Mac) (said : Outcome) → role ≡ start.role → policies ≡ start.policies → mac ≡ start.mac
     → ((o : Outcome) → Hears frame role o → said ≡ o) → AddsRefusal now c (FrameAdds start now frame)
-    → (verdict : Verdict) × Judges start ((now, Passed) ∷ c) now frame (read_outcome policies mac said) verdict × AddsRefusal now c (VerdictAdds start now frame verdict)
+    → (verdict : Verdict) × Judges start ((now, Passed) ∷ c) now frame (outcome_at start c now (read_outcome policies mac said)) verdict × AddsRefusal now c (VerdictAdds start now frame verdict)
 judged_frame start c now frame role policies mac said same asked own only adds =
     (adds.1.verdict, judged_by_frame start ((now, Passed) ∷ c) now frame role policies mac said adds.1.verdict same asked own only adds.1.heard, (adds.0, adds.1.adds))
 

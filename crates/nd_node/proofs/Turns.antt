@@ -27,13 +27,13 @@ use Rattle.nd_advertiser.specs.History as advertising_rows
 use Rattle.nd_advertiser.specs.Overdue.{IsOf}
 use Rattle.nd_advertiser.specs.Table as advertising
 use Rattle.nd_nexthop.specs.Choice as choice
-use Rattle.nd_chronicle.specs.Start.{Start, link_local_key}
+use Rattle.nd_chronicle.specs.Start.{Start, link_local_key, is_host}
 use Rattle.nd_chronicle.specs.Advertising.{advertising_by}
 use Rattle.nd_chronicle.specs.Happening.{Advertised, Chronicle, Drew, ForInterval, Neighbour, Address, LeftRouter, Unreachable, last_moment}
 use Rattle.nd_chronicle.specs.Histories.{advertising_history, parameter_history, neighbour_history, router_history, prefix_history, address_history, server_history, name_history, redirect_history, then_failed, then_target}
 use Rattle.nd_chronicle.specs.InForce.{next_redraw}
 use Rattle.nd_chronicle.specs.Generator.{stream_left, interval_drawn, reachable_drawn}
-use Rattle.nd_chronicle.specs.Due.{RouterEnds, AddressFalls, NeighbourFalls, RoutersSolicited, RouterAdvertises, Redraws, comes, max_rtr_solicitations, router_solicitation_date, rtr_solicitation_interval, is_host, solicited_routers, assigned_at}
+use Rattle.nd_chronicle.specs.Due.{RouterEnds, AddressFalls, NeighbourFalls, RoutersSolicited, RouterAdvertises, Redraws, comes, max_rtr_solicitations, router_solicitation_date, rtr_solicitation_interval, solicited_routers, assigned_at}
 use Rattle.nd_steps.specs.SolicitRouters as solicitations
 use Rattle.nd_steps.specs.SolicitRouters.{Solicitations, next_solicitation, after_address}
 use Rattle.nd_steps.specs.RouterTables as router_only

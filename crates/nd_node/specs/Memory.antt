@@ -5,6 +5,7 @@ use Rattle.nd_addr.specs.declared.why.Why.{Why}
 use Rattle.nd_addr.specs.Kind.{multicast_prefix}
 use Rattle.nd_addr.specs.Number.{holds, number_of}
 use Rattle.nd_decode.specs.Option.{Said}
+use Rattle.nd_decode.specs.Reading.{options_read}
 use Rattle.nd_decode.specs.declared.body.Body.TheVariants as bodies
 use Rattle.nd_decode.specs.declared.router_advertisement.RouterAdvertisement.{RouterAdvertisement}
 use Rattle.nd_validity.specs.Hearing.{Hears, valid}
@@ -17,6 +18,7 @@ use Rattle.nd_packet.specs.Waiting.{max_waiting}
 use Rattle.nd_nexthop.specs.NextHop.{NextHop, direct, no_route, via}
 use Rattle.nd_chronicle.specs.Start.{Start}
 use Rattle.nd_chronicle.specs.Happening.{Chronicle, Passed, Refusal, Refused}
+use Rattle.nd_chronicle.specs.Reading.{reading_of}
 use Rattle.nd_chronicle.specs.Hearing.{IsHeard, drops}
 use Rattle.nd_chronicle.specs.NextHop.{IsHopOf}
 use Rattle.nd_chronicle.specs.Event as events
@@ -35,14 +37,14 @@ pub record AddsNoName {R A : Type 0} (node : Node R A) (now : ℕ) (source : Add
   pub names : new_names now options node.dns ≡ []
   pub told : told_at (entry_in (number_of source.0) node.neighbours.entries) + 2 + (if node.policies.speakers then max_waiting + 1 else 0) + (if node.policies.parts then 6 else 0) ≤ places
 
--- the frame is such an advertisement
+-- the frame is such an advertisement, as the policies read its options
 pub record IsNameless {R A : Type 0} (node : Node R A) (now : ℕ) (frame : List ℕ) (places : ℕ) : Type 0 where
   pub source : Addr
   pub destination : Addr
   pub ra : RouterAdvertisement
   pub options : List Said
   pub hears : Hears frame node.role (valid source destination (record { body = bodies.Ra ra; options = options }))
-  pub adds : AddsNoName node now source options places
+  pub adds : AddsNoName node now source (options_read (reading_of node.policies) options) places
 
 -- a table that is cleared without a word
 abbrev pub TellsNothing : events.Clearable → Type 0

@@ -5,9 +5,9 @@ use Rattle.nd_advertiser.specs.Contents.{contents_length}
 use Rattle.nd_compose.specs.Frames.{longest_message}
 use Rattle.nd_compose.specs.Room.{HasRoomFor}
 use Rattle.nd_compose.specs.declared.frame_room.FrameRoom.{FrameRoom}
-use Rattle.nd_chronicle.specs.Start.{Start}
+use Rattle.nd_chronicle.specs.Start.{Start, is_host}
 use Rattle.nd_chronicle.specs.Happening.{Chronicle, last_moment}
-use Rattle.nd_chronicle.specs.Due.{What, Due, comes, is_host}
+use Rattle.nd_chronicle.specs.Due.{What, Due, comes}
 use Rattle.nd_chronicle.specs.History.{Walk}
 use Rattle.nd_steps.specs.Outputs.{Tells}
 use Rattle.nd_node.specs.declared.node.Node.{Node}

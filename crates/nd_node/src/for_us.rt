@@ -2,8 +2,8 @@
 
 ghost use Rattle.std.specs.Prelude.{◌≡◌, ◌↔◌, true, bytes_eq, slice_range};
 ghost use Rattle.nd_addr.specs.Ip6.{PacketParts};
-ghost use Rattle.nd_decode.specs.Message.{Parts};
 ghost use Rattle.nd_chronicle.specs.Happening.{Chronicle};
+ghost use Rattle.nd_chronicle.specs.Hearing.{is_redirect};
 ghost use Rattle.nd_chronicle.specs.Start.{Start};
 
 use crate::node::Node;
@@ -11,9 +11,20 @@ use nd_addr::{Addr, Ip6, Mac, Role};
 use nd_decode::Body;
 use nd_forwarding::may_be_forwarded;
 use nd_slaac::Counted;
-use nd_steps::{is_awake, is_to_nodes, is_to_routers, takes_target};
+use nd_steps::{is_awake, is_forbidden, is_to_nodes, is_to_routers, takes_target};
+use nd_validity::Heard;
 use rand_core::Rng;
 use std::alloc::Allocator;
+
+/// Returns true if a message is a Redirect.
+fn is_redirect(body: &Body) -> bool
+    ensures { result ≡ is_redirect body.now }
+{
+    match body {
+        Body::Redirect(_) => true,
+        Body::Rs | Body::Ra(_) | Body::Ns(_) | Body::Na(_) => false,
+    }
+}
 
 /// Returns true if the Ethernet destination of a frame is `mac`.
 fn is_to(frame: &[u8], mac: Mac) -> bool
@@ -26,10 +37,11 @@ fn is_to(frame: &[u8], mac: Mac) -> bool
 }
 
 impl<R: Rng + Drop, A: Allocator + Clone> Node<R, A> {
-    ghost use Rattle.nd_chronicle.specs.Hearing.{came_to, is_foreign, IsOurs, IsForUs, IsInTransit, IsPacketForUs};
+    ghost use Rattle.nd_chronicle.specs.Hearing.{came_to, is_allowed, is_foreign, IsOurs, IsForUs, IsInTransit, IsPacketForUs};
     ghost use Rattle.nd_chronicle.specs.Reading.{own_address};
     ghost use Rattle.nd_chronicle.specs.OwnAddress.{is_up};
     ghost use Rattle.nd_steps.specs.OwnAddresses.{counting};
+    ghost use Rattle.nd_node.specs.Hearing.{parts_read};
     ghost use Rattle.nd_node.specs.NodeKept.{Stands};
     ghost use Rattle.nd_node.specs.PathKept.{up_kept};
 
@@ -67,10 +79,34 @@ impl<R: Rng + Drop, A: Allocator + Clone> Node<R, A> {
         self.policies.own_address(self.mac)
     }
 
-    /// Returns true if a valid message is for this node.
-    pub(crate) fn is_for_us(&self, source: Addr, destination: Addr, body: &Body) -> bool
-        ensures { (start : Start) (c : Chronicle) (message : Parts) → Stands R.stream start self.now c → message.body ≡ body.now → result ≡ true ↔ IsForUs start c source destination message }
+    /// Returns false for a message that the policies `unredirected` and `strict` drop.
+    fn is_allowed(&self, heard: &Heard<'_>) -> bool
+        ensures { result ≡ is_allowed self.now.policies heard.now.source heard.now.destination (parts_read self.now heard.now.message) }
     {
+        if self.policies.unredirected() && is_redirect(&heard.message.body) {
+            return false;
+        }
+        if !self.policies.strict() {
+            return true;
+        }
+        if heard.source.is_loopback() {
+            return false;
+        }
+        !is_forbidden(
+            heard.source,
+            heard.destination,
+            &heard.message.body,
+            heard.message.options,
+            self.own_mac(),
+        )
+    }
+
+    /// Returns true if a valid message, as the policies read it, is for this node.
+    pub(crate) fn is_for_us(&self, heard: &Heard<'_>) -> bool
+        ensures { (start : Start) (c : Chronicle) → Stands R.stream start self.now c → result ≡ true ↔ IsForUs start c heard.now.source heard.now.destination (parts_read self.now heard.now.message) }
+    {
+        let source = heard.source;
+        let body = &heard.message.body;
         if !takes_target(&self.addresses, source, body) {
             return false;
         }
@@ -80,7 +116,10 @@ impl<R: Rng + Drop, A: Allocator + Clone> Node<R, A> {
         if !self.is_foreign(Counted::Assigned, source) {
             return false;
         }
-        self.is_ours(Counted::Own, destination)
+        if !self.is_allowed(heard) {
+            return false;
+        }
+        self.is_ours(Counted::Own, heard.destination)
     }
 
     /// Returns true if the link-local address is assigned.
@@ -92,14 +131,17 @@ impl<R: Rng + Drop, A: Allocator + Clone> Node<R, A> {
         self.addresses.counts(Counted::Assigned, own)
     }
 
-    /// Returns true if a packet that is no message of Neighbor Discovery is for this node: its destination is an assigned address.
-    pub(crate) fn is_packet_for_us(&self, destination: Addr) -> bool
-        ensures { (start : Start) (c : Chronicle) (packet : PacketParts) → Stands R.stream start self.now c → packet.header.destination ≡ destination → result ≡ true ↔ IsPacketForUs start c packet }
+    /// Returns true if a packet that is no message of Neighbor Discovery is for this node: its destination is an assigned address, and no policy drops it.
+    pub(crate) fn is_packet_for_us(&self, header: &Ip6) -> bool
+        ensures { (start : Start) (c : Chronicle) (packet : PacketParts) → Stands R.stream start self.now c → packet.header ≡ header.now → result ≡ true ↔ IsPacketForUs start c packet }
     {
         if !self.is_up() {
             return false;
         }
-        self.is_ours(Counted::Assigned, destination)
+        if !self.policies.is_allowed_packet(header.source) {
+            return false;
+        }
+        self.is_ours(Counted::Assigned, header.destination)
     }
 
     /// Returns true if the packet of a frame may be sent on by the frame's Ethernet destination: with the policy `unicast` that is the node's own address.

@@ -10,7 +10,7 @@ ghost use Rattle.nd_addr.specs.declared.why.Why.{Why};
 ghost use Rattle.nd_table.specs.Moment.{IsMoment};
 ghost use Rattle.nd_chronicle.specs.Start.{Start};
 ghost use Rattle.nd_chronicle.specs.Happening.{Chronicle, Dropped, Passed, last_moment};
-ghost use Rattle.nd_chronicle.specs.Reading.{IsRead};
+ghost use Rattle.nd_chronicle.specs.Solicited.{IsReadAt};
 ghost use Rattle.nd_chronicle.specs.Hearing.{IsHeard, Judges, Verdict, drops};
 ghost use Rattle.nd_chronicle.specs.Event as events;
 ghost use Rattle.nd_chronicle.specs.Event.{EventAdds, VerdictAdds};
@@ -61,7 +61,7 @@ impl<R: Rng + Drop, A: Allocator + Clone> Node<R, A> {
         ensures refused { (verdict : Verdict) (start : Start) (c : Chronicle) → Stands R.stream start self.old c → last_moment start.at c ≤ now → Judges start ((now, Passed) ∷ c) now frame.now (other (packet_parts packet.entry)) verdict → AddsRefusal now c (VerdictAdds start now frame.now verdict) → 0 < outs.old.free → IsOk result }
         ensures quiet { (why : Why) (start : Start) (c : Chronicle) → Stands R.stream start self.old c → last_moment start.at c ≤ now → Judges start ((now, Passed) ∷ c) now frame.now (other (packet_parts packet.entry)) (drops why) → 0 < outs.old.free → IsOk result }
     {
-        if !self.is_packet_for_us(packet.header.destination) {
+        if !self.is_packet_for_us(&packet.header) {
             if self.is_in_transit(frame, &packet.header) {
                 let answer = self.forward(now, frame, &packet, outs)?;
                 return Ok(Reception {
@@ -112,7 +112,7 @@ impl<R: Rng + Drop, A: Allocator + Clone> Node<R, A> {
     ) -> Result<Reception, AllocError>
         requires moment { IsMoment now }
         requires settled { now < next_of self.old }
-        ensures adds { IfOk result (λ reception. (frame : List ℕ) → IsRead self.old.policies self.old.mac frame self.old.role (valid heard.now.source heard.now.destination (parts_read self.old heard.now.message)) → AddsEvent R.stream self.old self.new outs.old.items outs.new.items now (events.Receives frame) (answer_of reception.answer)) }
+        ensures adds { IfOk result (λ reception. (frame : List ℕ) → ((start : Start) (c : Chronicle) → Stands R.stream start self.old c → IsReadAt start ((now, Passed) ∷ c) now frame (valid heard.now.source heard.now.destination (parts_read self.old heard.now.message))) → AddsEvent R.stream self.old self.new outs.old.items outs.new.items now (events.Receives frame) (answer_of reception.answer)) }
         ensures leaves { IfOk result (λ reception. reception.changes_tables ≡ false → self.new ≡ record self.old { last = now }) }
         ensures idle { (frame : List ℕ) (verdict : Verdict) (start : Start) (c : Chronicle) → Stands R.stream start self.old c → last_moment start.at c ≤ now → Judges start ((now, Passed) ∷ c) now frame (valid heard.now.source heard.now.destination (parts_read self.old heard.now.message)) verdict → LeavesTables verdict → IfOk result (λ reception. reception.changes_tables ≡ false) }
         ensures stays { OnErr result (Stays R.stream self.old self.new) }
@@ -121,7 +121,7 @@ impl<R: Rng + Drop, A: Allocator + Clone> Node<R, A> {
         ensures quiet { (ra : RouterAdvertisement) → heard.now.message.body ≡ bodies.Ra ra → AddsNoName self.old now heard.now.source (options_left heard.now.message.options) outs.old.free → IsOk result }
         ensures dropped { (frame : List ℕ) (why : Why) (start : Start) (c : Chronicle) → Stands R.stream start self.old c → last_moment start.at c ≤ now → Judges start ((now, Passed) ∷ c) now frame (valid heard.now.source heard.now.destination (parts_read self.old heard.now.message)) (drops why) → 0 < outs.old.free → IsOk result }
     {
-        if !self.is_for_us(heard.source, heard.destination, &heard.message.body) {
+        if !self.is_for_us(heard) {
             return self.drop_unheard(now, Why::NotForUs, outs);
         }
         if !self.is_from_first_hop(now, heard) {
@@ -157,7 +157,8 @@ impl<R: Rng + Drop, A: Allocator + Clone> Node<R, A> {
             Hearing::Drop(why) => self.drop_unheard(now, why, outs),
             Hearing::Other(packet) => self.hear_packet(now, frame, packet, outs),
             Hearing::Valid(mut heard) => {
-                self.policies.read_body(&mut heard.message.body);
+                self.policies.read_message(&mut heard.message);
+                self.read_answer(now, &mut heard.message.body);
                 self.judge_message(now, &heard, outs)
             }
         }

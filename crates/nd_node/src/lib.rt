@@ -84,6 +84,7 @@ mod room;
 mod router_advertisement;
 mod router_solicitation;
 mod shown;
+mod solicited;
 mod static_route;
 mod tables;
 mod time;

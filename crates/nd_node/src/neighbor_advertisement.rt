@@ -1,17 +1,23 @@
 //! Handles a Neighbor Advertisement (RFC 4861, section 7.2.5; RFC 4862, section 5.4.4).
 
-ghost use Rattle.std.specs.Prelude.{◌≡◌, ◌∷◌, ◌<◌, ◌≤◌, Some, IsOk, OnErr, IfOk};
+ghost use Rattle.std.specs.Prelude.{◌≡◌, ◌∷◌, ◌<◌, ◌≤◌, ◌&&◌, ◌||◌, List, Some, IsOk, OnErr, IfOk};
+ghost use Rattle.nd_addr.specs.Number.{number_of};
 ghost use Rattle.nd_decode.specs.declared.body.Body.TheVariants as bodies;
 ghost use Rattle.nd_table.specs.Moment.{IsMoment};
+ghost use Rattle.nd_table.specs.Announcements.{stands};
+ghost use Rattle.nd_routers.specs.History.{RouterRow, announcements};
+ghost use Rattle.nd_routers.specs.Routers.{same};
+ghost use Rattle.nd_routers.specs.RoutersKept as routers;
 ghost use Rattle.nd_chronicle.specs.Full.{Fills};
 ghost use Rattle.nd_chronicle.specs.Happening.{Chronicle, Limit as Table, Passed, last_moment};
-ghost use Rattle.nd_chronicle.specs.Start.{Start};
+ghost use Rattle.nd_chronicle.specs.Start.{Start, is_host};
 ghost use Rattle.nd_node.specs.Hearing.{AddsMessage, options_read};
 ghost use Rattle.nd_node.specs.Answer.{answer_of};
 
 use crate::answer::Answer;
 use crate::message::MOST_ROWS;
 use crate::node::Node;
+use nd_addr::{Addr, Role};
 use nd_decode::NeighborAdvertisement;
 use nd_out::Reports;
 use nd_packet::MAX_WAITING;
@@ -22,6 +28,20 @@ use std::alloc::{AllocError, Allocator};
 
 impl<R: Rng + Drop, A: Allocator + Clone> Node<R, A> {
     ghost use Rattle.nd_node.specs.NodeKept.{Stands, next_of};
+
+    /// Returns true if a neighbour that is no longer a router ends as one at `now`, in milliseconds, where `ends`: it is in the list of default routers, or the
+    /// policy `strict` ends it at a host without that (RFC 4861, sections 7.2.5 and 7.3.3).
+    fn ends_router(&self, now: u64, neighbour: Addr, ends: bool) -> bool
+        ensures { (history : List RouterRow) → routers.Stands self.now.routers history → result ≡ (ends && ((self.now.policies.strict && is_host self.now.role) || stands same (number_of neighbour.0) (announcements history) now)) }
+    {
+        if !ends {
+            return false;
+        }
+        if self.policies.strict() && self.role == Role::Host {
+            return true;
+        }
+        self.routers.holds(now, neighbour)
+    }
 
     /// Handles a Neighbor Advertisement at `now`, in milliseconds (RFC 4861, section 7.2.5; RFC 4862, section 5.4.4). If its target is one of the
     /// node's own tentative addresses, this address is a duplicate. The neighbour's entry takes what the advertisement says, and the packets that
@@ -65,6 +85,7 @@ impl<R: Rng + Drop, A: Allocator + Clone> Node<R, A> {
             times,
             outs,
         );
+        let leaves = self.ends_router(now, na.target, ends);
         // Section 7.2.5: "In those cases where the IsRouter flag changes from TRUE to FALSE as a result of this update, the node MUST remove that
         // router from the Default Router List".
         end_router(
@@ -72,7 +93,7 @@ impl<R: Rng + Drop, A: Allocator + Clone> Node<R, A> {
             &mut self.choice,
             now,
             na.target,
-            ends,
+            leaves,
             outs,
         );
         Ok(Answer::Done)

@@ -1,12 +1,15 @@
 //! The policies of a node, chosen when it is made, and how it reads a message by them. The definition is in `specs/Reading.antt` of nd_chronicle.
 
 ghost use Rattle.std.specs.Prelude.{◌≡◌, true};
-ghost use Rattle.nd_chronicle.specs.Reading.{in_range, own_address, read_advertisement, read_body};
+ghost use Rattle.nd_decode.specs.Pieces.{options_left};
+ghost use Rattle.nd_decode.specs.Reading.{options_read};
+ghost use Rattle.nd_chronicle.specs.Hearing.{is_allowed_packet};
+ghost use Rattle.nd_chronicle.specs.Reading.{in_range, own_address, read_advertisement, read_body, read_timers, reading_of};
 ghost use Rattle.nd_chronicle.specs.Start.{no_policies};
 
-use nd_addr::Mac;
-use nd_advertiser::GREATEST_REACHABLE_TIME;
-use nd_decode::{Body, RouterAdvertisement};
+use nd_addr::{Addr, Mac};
+use nd_advertiser::{GREATEST_LIFETIME, GREATEST_REACHABLE_TIME};
+use nd_decode::{Body, MessageRef, Reading, RouterAdvertisement};
 use std::marker::Model;
 
 /// The least Cur Hop Limit that the policy `timers` takes (our choice).
@@ -29,6 +32,11 @@ pub struct Policies {
     timers: bool,
     own: bool,
     unicast: bool,
+    unformed: bool,
+    asked: bool,
+    lifetimes: bool,
+    unredirected: bool,
+    strict: bool,
 }
 
 impl Model for Policies {
@@ -36,9 +44,9 @@ impl Model for Policies {
 
     ghost Value = { Policies };
 
-    ghost view = { λ p. record { parts = p.parts; speakers = p.speakers; timers = p.timers; own = p.own; unicast = p.unicast } };
+    ghost view = { λ p. record { parts = p.parts; speakers = p.speakers; timers = p.timers; own = p.own; unicast = p.unicast; unformed = p.unformed; asked = p.asked; lifetimes = p.lifetimes; unredirected = p.unredirected; strict = p.strict } };
 
-    ghost inverse = { λ v. record { parts = v.parts; speakers = v.speakers; timers = v.timers; own = v.own; unicast = v.unicast } };
+    ghost inverse = { λ v. record { parts = v.parts; speakers = v.speakers; timers = v.timers; own = v.own; unicast = v.unicast; unformed = v.unformed; asked = v.asked; lifetimes = v.lifetimes; unredirected = v.unredirected; strict = v.strict } };
 }
 
 impl Policies {
@@ -52,6 +60,11 @@ impl Policies {
             timers: false,
             own: false,
             unicast: false,
+            unformed: false,
+            asked: false,
+            lifetimes: false,
+            unredirected: false,
+            strict: false,
         }
     }
 
@@ -112,6 +125,62 @@ impl Policies {
         }
     }
 
+    /// Returns these policies with `unformed`: the flag A of each prefix option is read as clear, so the node forms no address by itself. The caller gives
+    /// it addresses, by rules of its own (RFC 7217, RFC 8981).
+    pub fn with_unformed(self) -> Policies
+        ensures { result ≡ record self { unformed = true } }
+    {
+        Policies {
+            unformed: true,
+            ..self
+        }
+    }
+
+    /// Returns these policies with `asked`: the flag S of a Neighbor Advertisement is read as clear unless the neighbour is INCOMPLETE or in PROBE, so that
+    /// only then a solicitation of the node's is out (RFC 4861, section 7.2.5).
+    pub fn with_asked(self) -> Policies
+        ensures { result ≡ record self { asked = true } }
+    {
+        Policies {
+            asked: true,
+            ..self
+        }
+    }
+
+    /// Returns these policies with `lifetimes`: a Router Lifetime above 9,000 seconds is read as 9,000 (RFC 4861, section 6.2.1), and a lifetime of a prefix,
+    /// of servers or of search names above 604,800 seconds, a week, as that (our choice). So what is announced once ends.
+    pub fn with_lifetimes(self) -> Policies
+        ensures { result ≡ record self { lifetimes = true } }
+    {
+        Policies {
+            lifetimes: true,
+            ..self
+        }
+    }
+
+    /// Returns these policies with `unredirected`: a Redirect is dropped.
+    pub fn with_unredirected(self) -> Policies
+        ensures { result ≡ record self { unredirected = true } }
+    {
+        Policies {
+            unredirected: true,
+            ..self
+        }
+    }
+
+    /// Returns these policies with `strict`, that what the RFCs forbid to send is dropped: a solicitation from `::` that gives a link-layer address in an
+    /// option of any length, a Neighbor Solicitation from another source to a multicast address that gives none (RFC 4861, sections 4.1 and 4.3), a
+    /// message from `::1`, and a packet for this node from `::1` or a multicast address (RFC 4291, sections 2.5.3 and 2.7). A host also ends a router that
+    /// says that it is none where that is in no list, so that redirects to it end (RFC 4861, section 7.3.3).
+    pub fn with_strict(self) -> Policies
+        ensures { result ≡ record self { strict = true } }
+    {
+        Policies {
+            strict: true,
+            ..self
+        }
+    }
+
     /// Returns true if a message is taken in part where a table has no room for all of it, by the policy `parts`.
     pub fn parts(self) -> bool
         ensures { result ≡ self.parts }
@@ -147,6 +216,48 @@ impl Policies {
         self.unicast
     }
 
+    /// Returns true if no address is formed, by the policy `unformed`.
+    pub fn unformed(self) -> bool
+        ensures { result ≡ self.unformed }
+    {
+        self.unformed
+    }
+
+    /// Returns true if the flag S counts only where a solicitation is out, by the policy `asked`.
+    pub fn asked(self) -> bool
+        ensures { result ≡ self.asked }
+    {
+        self.asked
+    }
+
+    /// Returns true if lifetimes are read by the policy `lifetimes`.
+    pub fn lifetimes(self) -> bool
+        ensures { result ≡ self.lifetimes }
+    {
+        self.lifetimes
+    }
+
+    /// Returns true if Redirects are dropped, by the policy `unredirected`.
+    pub fn unredirected(self) -> bool
+        ensures { result ≡ self.unredirected }
+    {
+        self.unredirected
+    }
+
+    /// Returns true if what is forbidden is dropped, by the policy `strict`.
+    pub fn strict(self) -> bool
+        ensures { result ≡ self.strict }
+    {
+        self.strict
+    }
+
+    /// Returns false if a packet for this node from `source` is dropped, by the policy `strict`.
+    pub(crate) fn is_allowed_packet(self, source: Addr) -> bool
+        ensures { result ≡ is_allowed_packet self source }
+    {
+        !(self.strict && (source.is_loopback() || source.is_multicast()))
+    }
+
     /// Returns `mac`, the link-layer address of the node, if options that give it are passed over: with the policy `self`.
     pub(crate) fn own_address(self, mac: Mac) -> Option<Mac>
         ensures { result ≡ own_address self mac }
@@ -157,8 +268,20 @@ impl Policies {
         None
     }
 
+    /// Reads a message by these policies.
+    pub(crate) fn read_message(self, message: &mut MessageRef<'_>)
+        ensures body { message.new.body ≡ read_body self message.old.body }
+        ensures options { options_left message.new.options ≡ options_read (reading_of self) (options_left message.old.options) }
+    {
+        self.read_body(&mut message.body);
+        message.options = message.options.read_by(Reading {
+            unformed: self.unformed,
+            bounded: self.lifetimes,
+        });
+    }
+
     /// Reads the body of a message by these policies.
-    pub(crate) fn read_body(self, body: &mut Body)
+    fn read_body(self, body: &mut Body)
         ensures { body.new ≡ read_body self body.old }
     {
         match body {
@@ -170,6 +293,16 @@ impl Policies {
     /// Reads an advertisement by these policies.
     fn read_advertisement(self, ra: &mut RouterAdvertisement)
         ensures { ra.new ≡ read_advertisement self ra.old }
+    {
+        self.read_timers(ra);
+        if self.lifetimes && ra.router_lifetime > GREATEST_LIFETIME {
+            ra.router_lifetime = GREATEST_LIFETIME;
+        }
+    }
+
+    /// Reads the numbers of an advertisement by the policy `timers`.
+    fn read_timers(self, ra: &mut RouterAdvertisement)
+        ensures { ra.new ≡ read_timers self ra.old }
     {
         if !self.timers {
             return;

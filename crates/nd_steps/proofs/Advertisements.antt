@@ -1,11 +1,7 @@
 -- The steps of a Neighbor Advertisement: an address that another node has, and a router that is no longer one.
 use Rattle.std.proofs.Common.{◌≡◌, ℕ, Bool, true, List, [], ◌∷◌, ◌++◌, sym, ◌∙◌, ap}
-use Rattle.std.specs.Prelude.{◌&&◌}
-use Rattle.nd_table.specs.Announcements.{stands}
 use Rattle.nd_routers.specs.History as router_rows
-use Rattle.nd_routers.specs.History.{announcements}
 use Rattle.nd_routers.specs.RoutersKept as routers
-use Rattle.nd_routers.specs.Routers.{same}
 use Rattle.nd_nexthop.specs.History as redirect_rows
 use Rattle.nd_nexthop.specs.Choice as choice
 use Rattle.nd_nexthop.specs.Memo.{forgotten}
@@ -30,16 +26,12 @@ conflicts_now now key old new x y out result is tentative gains told out_is = re
   told = one_more x y now out told ∙ ap (λ w. happenings x ++ (now, w) ∷ []) out_is;
 }
 
-both_hold : (e h s : Bool) → e ≡ true → h ≡ true → h ≡ s → true ≡ (e && s)
-both_hold e h s a b is = rw a (sym b ∙ is)
-
-pub leaves_now : {A : Type 0} (now key : ℕ) (ends held : Bool) (old new : routers.Table) (old_choice new_choice : choice.Table) (x y : List (ℕ × Out A)) (out : Out A)
-    → ends ≡ true → held ≡ true → ((history : List router_rows.RouterRow) → routers.Stands old history → held ≡ stands same key (announcements history) now)
+pub leaves_now : {A : Type 0} (now key : ℕ) (old new : routers.Table) (old_choice new_choice : choice.Table) (x y : List (ℕ × Out A)) (out : Out A)
     → routers.GainsRow old new (router_rows.LeftList now key) → choice.GainsRow old_choice new_choice (redirect_rows.TargetGone now key) → new_choice.memory ≡ forgotten old_choice.memory
-    → y ≡ x ++ (now, out) ∷ [] → happening out ≡ LeftRouter key → Leaves now key ends old new old_choice new_choice x y true
-leaves_now now key ends held old new old_choice new_choice x y out e h held_is gains gone forgets told out_is = record {
+    → y ≡ x ++ (now, out) ∷ [] → happening out ≡ LeftRouter key → Leaves now key true old new old_choice new_choice x y
+leaves_now now key old new old_choice new_choice x y out gains gone forgets told out_is = record {
   remembers = forgets;
-  routers = λ history s. (both_hold ends held (stands same key (announcements history) now) e h (held_is history s), gains.stands history s);
+  routers = λ history s. gains.stands history s;
   redirects = λ history s. gone.stands history s;
   told = one_more x y now out told ∙ ap (λ w. happenings x ++ (now, w) ∷ []) out_is;
 }

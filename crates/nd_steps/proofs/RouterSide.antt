@@ -13,10 +13,10 @@ use Rattle.nd_advertiser.specs.Table as advertising
 use Rattle.nd_advertiser.proofs.Dates.{due_is_on, has_settings, next_is, spaced, still}
 use Rattle.nd_slaac.specs.Due.{Falls, Ends, Solicits, Assigns, key_in, happens}
 use Rattle.nd_slaac.specs.History as address_rows
-use Rattle.nd_chronicle.specs.Start.{Start, link_local_key}
+use Rattle.nd_chronicle.specs.Start.{Start, link_local_key, is_host}
 use Rattle.nd_chronicle.specs.Happening.{Chronicle, Address}
 use Rattle.nd_chronicle.specs.Histories.{advertising_history, route_history}
-use Rattle.nd_chronicle.specs.Due.{is_host, router_advertisement_date}
+use Rattle.nd_chronicle.specs.Due.{router_advertisement_date}
 use Rattle.nd_steps.specs.declared.router_tables.RouterTables.{RouterTables}
 use Rattle.nd_steps.specs.RouterTables.{NotesAddress, Stands, next_advertisement, router_side}
 

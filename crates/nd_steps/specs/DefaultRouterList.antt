@@ -1,12 +1,10 @@
 -- What happens to the Default Router List, and to the redirects to a router that leaves it (RFC 4861, sections 6.3.4, 6.3.6, 7.2.5 and 7.3.3).
-use Rattle.std.specs.Prelude.{ℕ, Bool, true, false, List, ◌∷◌, [], ◌≡◌, ◌&&◌, MatchBool, ◌++◌}
+use Rattle.std.specs.Prelude.{ℕ, Bool, true, false, List, ◌∷◌, [], ◌≡◌, MatchBool, ◌++◌}
 use Rattle.nd_addr.specs.declared.preference.Preference.{Preference}
-use Rattle.nd_routers.specs.History.{RouterRow, Heard, LeftList, Failed, announcements}
+use Rattle.nd_routers.specs.History.{RouterRow, Heard, LeftList, Failed}
 use Rattle.nd_nexthop.specs.History.{RedirectRow, TargetGone}
 use Rattle.nd_neighbour.specs.Due.{Falls, Fails}
 use Rattle.nd_chronicle.specs.Happening.{Happening, LeftRouter}
-use Rattle.nd_table.specs.Announcements.{stands}
-use Rattle.nd_routers.specs.Routers.{same}
 use Rattle.nd_nexthop.specs.Memo.{forgotten}
 use Rattle.nd_out.specs.declared.out.Out.{Out}
 use Rattle.nd_steps.specs.Outputs.{happenings}
@@ -56,10 +54,10 @@ abbrev pub told_left : ℕ → Bool → ℕ → List (ℕ × Happening)
 told_left now true key = (now, LeftRouter key) ∷ []
 told_left now false key = []
 
--- A neighbour that may no longer be a router: for each history that was stood for, it leaves the list if it is there and is one no longer,
--- the redirects to it end with it, and that is reported.
-pub record Leaves {A : Type 0} (now key : ℕ) (ends : Bool) (old new : routers.Table) (old_choice new_choice : choice.Table) (before after : List (ℕ × Out A)) (left : Bool) : Type 0 where
-  pub routers : (history : List RouterRow) → routers.Stands old history → (left ≡ (ends && stands same key (announcements history) now)) × routers.Stands new (with_left now left key history)
+-- A neighbour that may no longer be a router: for each history that was stood for, it leaves the list if it ends, the redirects to it end with it, and that
+-- is reported.
+pub record Leaves {A : Type 0} (now key : ℕ) (left : Bool) (old new : routers.Table) (old_choice new_choice : choice.Table) (before after : List (ℕ × Out A)) : Type 0 where
+  pub routers : (history : List RouterRow) → routers.Stands old history → routers.Stands new (with_left now left key history)
   pub redirects : (history : List RedirectRow) → choice.Stands old_choice history → choice.Stands new_choice (with_gone now left key history)
   pub told : happenings after ≡ happenings before ++ told_left now left key
   -- nothing is remembered where it leaves, and else nothing changes

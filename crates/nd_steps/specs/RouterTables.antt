@@ -10,10 +10,9 @@ use Rattle.nd_advertiser.specs.Contents.{contents_of}
 use Rattle.nd_advertiser.specs.Overdue.{IsSpaced}
 use Rattle.nd_decode.specs.Message.{Parts}
 use Rattle.nd_compose.specs.Frames.{router_advertisement_frame}
-use Rattle.nd_chronicle.specs.Start.{Start, link_local}
+use Rattle.nd_chronicle.specs.Start.{Start, link_local, is_host}
 use Rattle.nd_chronicle.specs.Happening.{Chronicle, Happening, Sent}
 use Rattle.nd_chronicle.specs.Histories.{advertising_history, route_history, then_assigned}
-use Rattle.nd_chronicle.specs.Due.{is_host}
 use Rattle.nd_chronicle.specs.Generator.{answer_delay_drawn, interval_drawn}
 use Rattle.nd_chronicle.specs.NeighborSolicitation.{is_router}
 use Rattle.nd_steps.specs.declared.router_tables.RouterTables.{RouterTables}

@@ -3,10 +3,10 @@ use Rattle.std.specs.Prelude.{◌≡◌, ℕ, ◌+◌, ◌*◌, ◌==◌, Bool, 
 use Rattle.std.specs.Option.{option_map}
 use Rattle.nd_addr.specs.declared.role.Role.{Role}
 use Rattle.nd_slaac.specs.Due.{Falls, Assigns}
-use Rattle.nd_chronicle.specs.Start.{Start, link_local_key}
+use Rattle.nd_chronicle.specs.Start.{Start, link_local_key, is_host}
 use Rattle.nd_chronicle.specs.Happening.{Chronicle}
 use Rattle.nd_chronicle.specs.Histories.{parameter_history, address_history}
-use Rattle.nd_chronicle.specs.Due.{max_rtr_solicitations, rtr_solicitation_interval, solicited_routers, heard_router, assigned_at, is_host}
+use Rattle.nd_chronicle.specs.Due.{max_rtr_solicitations, rtr_solicitation_interval, solicited_routers, heard_router, assigned_at}
 
 -- when the link-local address was assigned, how many were sent, and whether a router was heard
 pub record Solicitations : Type 0 where

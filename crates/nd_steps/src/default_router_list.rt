@@ -108,9 +108,8 @@ pub fn tell_left<A: Allocator>(outs: &mut Reports<A>, now: u64, source: Addr, ti
     }
 }
 
-/// Removes a neighbour that is no longer a router from the list of default routers at `now`, in milliseconds, if `ends` and the neighbour is in the
-/// list. The redirects to it end, and that is reported (RFC 4861, section 7.2.5). Returns true if it left the list. It takes no memory: the caller
-/// has made room.
+/// Removes a neighbour that is no longer a router from the list of default routers at `now`, in milliseconds, if `ends`. The redirects to it end, and that is
+/// reported (RFC 4861, section 7.2.5). It takes no memory: the caller has made room.
 #[inline(always)]
 pub fn end_router<A: Allocator>(
     routers: &mut Routers<A>,
@@ -119,23 +118,19 @@ pub fn end_router<A: Allocator>(
     addr: Addr,
     ends: bool,
     outs: &mut Reports<A>,
-) -> bool
+)
     requires room { 1 ≤ outs.old.free }
-    ensures leaves { Leaves now (number_of addr.0) ends routers.old routers.new choice.old choice.new outs.old.items outs.new.items result }
+    ensures leaves { Leaves now (number_of addr.0) ends routers.old routers.new choice.old choice.new outs.old.items outs.new.items }
     ensures settled { (moment : ℕ) → IsSettled routers.old.entries moment → IsSettled routers.new.entries moment }
     ensures limit { routers.new.limit ≡ routers.old.limit }
     ensures limits { KeepsRoom choice.old choice.new }
 {
     if !ends {
-        return false;
-    }
-    if !routers.holds(now, addr) {
-        return false;
+        return;
     }
     routers.ended(addr);
     choice.target_gone(addr);
     outs.push_reserved((now, Out::EndedRouter(addr)));
-    true
 }
 
 /// Notes what is due for a neighbour. If the neighbour failed and is a router, the router failed too, and the redirects to it end (RFC 4861,

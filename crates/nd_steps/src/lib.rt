@@ -17,6 +17,7 @@ mod destination_cache;
 mod dns;
 mod draws;
 mod due_rows;
+mod forbidden;
 mod giving_way;
 mod neighbour_cache;
 mod news;
@@ -38,6 +39,7 @@ pub use draws::{
     MAX_RTR_SOLICITATION_DELAY, answer_delay_drawn, drawn_from, interval_drawn, reachable_drawn,
 };
 pub use due_rows::{MOST_TOLD, tell, tell_advertisement, tell_lost};
+pub use forbidden::is_forbidden;
 pub use giving_way::{hear_giver, most_told_of_way, note_way};
 pub use neighbour_cache::{
     has_place, hear_of_neighbour, note_use, note_wish, ready_for, ready_for_two, ready_for_wish,

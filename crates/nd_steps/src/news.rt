@@ -29,7 +29,7 @@ fn is_group(mac: Mac) -> bool
 
 /// Returns true if an option that gives `mac` is passed over: `own` is the node's own link-layer address, and no other node has `mac`, since it is a
 /// group's, with the lowest bit of its first byte set (RFC 7042, section 2.1), zeros, or `own`. Without `own` none is passed over.
-fn is_passed_over(mac: Mac, own: Option<Mac>) -> bool
+pub(crate) fn is_passed_over(mac: Mac, own: Option<Mac>) -> bool
     ensures { result ≡ is_passed_over own mac }
 {
     match own {
@@ -40,7 +40,7 @@ fn is_passed_over(mac: Mac, own: Option<Mac>) -> bool
 
 /// Returns the first Source Link-Layer Address that isn't passed over (RFC 4861, section 4.6.1).
 #[tactic(auto, using(crate::proofs::OfType::first_slla_from))]
-fn first_slla(options: Options<'_>, own: Option<Mac>) -> Option<Mac>
+pub(crate) fn first_slla(options: Options<'_>, own: Option<Mac>) -> Option<Mac>
     ensures { result ≡ first_slla (without own (options_left options.entry)) }
 {
     let mut rest = options;

@@ -1,4 +1,4 @@
-use Rattle.std.specs.Prelude.{true, ◌≡◌, ◌<◌, ◌≤◌, ◌⊎◌}
+use Rattle.std.specs.Prelude.{true, ◌≡◌, ◌<◌, ◌⊎◌}
 use Rattle.nd_steps.specs.Outputs.{Grows, SendsFrame}
 use Rattle.nd_node.specs.Time.{Leads, Onward, longest_due}
 use Rattle.nd_node.specs.NodeKept.{next_of, turns_left}

@@ -1,15 +1,16 @@
-use Rattle.std.proofs.Common.{◌≡◌, ◌∷◌, false, ⊎_elim, sym, ◌∙◌, ap, subst, arith}
+use Rattle.std.proofs.Common.{◌≡◌, List, ◌∷◌, false, ⊎_elim, sym, ◌∙◌, ap, subst, arith}
 use Rattle.std.proofs.lemmas.Result.{IfOk-weaker}
 use Rattle.nd_addr.specs.Ip6.{packet_parts}
 use Rattle.nd_decode.specs.Message.{parts}
-use Rattle.nd_node.specs.Hearing.{options_read}
-use Rattle.nd_decode.specs.declared.body.Body.{Body}
+use Rattle.nd_decode.specs.Option.{Said}
+use Rattle.nd_node.specs.Memory.{AddsNoName}
 use Rattle.nd_validity.specs.Hearing.{Outcome, Hears, outcome, other, valid}
 use Rattle.nd_validity.specs.declared.hearing.Hearing.{Hearing}
 use Rattle.nd_chronicle.specs.Happening.{Passed}
 use Rattle.nd_chronicle.specs.Hearing.{Judges, drops}
 use Rattle.nd_chronicle.specs.Reading.{read_advertisement, read_body}
-use Rattle.nd_node.proofs.Judging.{dropped_by_frame}
+use Rattle.nd_chronicle.specs.Solicited.{body_at}
+use Rattle.nd_node.proofs.Judging.{as_read, dropped_by_frame, read_by_start}
 use Rattle.nd_node.proofs.Memory.{judged_by_frame, nameless, no_other}
 use Rattle.nd_node.proofs.Refusals.{judged_frame}
 use Rattle.nd_node.specs.declared.answer.Answer.TheVariants.{Done}
@@ -27,8 +28,9 @@ returns-in-Valid-clause-adds g c =
     let h = subst (λ (r : Hearing). Hears c.args.frame.now c.args.self.now.role (outcome r)) c.in-Valid.is c.hear.ensures.heard in
     let heard = c.in-Valid.heard in
     let said = valid heard.source heard.destination (parts heard.message) in
-    let read = λ (b : Body). valid heard.source heard.destination (record { body = b; options = options_read c.args.self.now heard.message.options }) in
-    IfOk-weaker c.judge_message.result _ _ (λ r adds. adds c.args.frame.now (record { said = said; by_frame = h; as_read = ap read c.read_body.ensures })) c.judge_message.ensures.adds
+    IfOk-weaker c.judge_message.result _ _ (λ r adds. adds c.args.frame.now (λ start c' s.
+    read_by_start g.R.Rng.stream c.args.self.now c.args.self.now c.args.outs.now.items c.args.outs.now.items c.args.now c.args.frame.now start c' said _ s h (as_read start c' c.args.self.now c.args.now heard.source heard.destination heard.message c.read_message.new.message c.read_answer.new.body
+    c.read_message.ensures.body c.read_message.ensures.options (c.read_answer.ensures start c' s)))) c.judge_message.ensures.adds
 
 pub returns-in-Drop-clause-quiet : goal.returns-in-Drop-clause-quiet
 returns-in-Drop-clause-quiet g c = λ start c' s le asks.
@@ -48,14 +50,16 @@ returns-in-Valid-clause-quiet g c = λ start c' s le asks.
     let heard = c.in-Valid.heard in
     let policies = c.args.self.now.policies in
     let said = valid heard.source heard.destination (parts heard.message) in
-    let read = λ (b : Body). valid heard.source heard.destination (record { body = b; options = options_read c.args.self.now heard.message.options }) in
+    let is = as_read start c' c.args.self.now c.args.now heard.source heard.destination heard.message c.read_message.new.message c.read_answer.new.body
+    c.read_message.ensures.body c.read_message.ensures.options (c.read_answer.ensures start c' s) in
     let only = subst (λ (r : Hearing). (o : Outcome) → Hears c.args.frame.now c.args.self.now.role o → outcome r ≡ o) c.in-Valid.is c.hear.ensures.only in
     ⊎_elim
     (λ d. c.judge_message.ensures.dropped c.args.frame.now d.why start c' s le
-    (subst (λ (b : Body). Judges start ((c.args.now, Passed) ∷ c') c.args.now c.args.frame.now (read b) (drops d.why)) (sym c.read_body.ensures)
+    (subst (λ (o : Outcome). Judges start ((c.args.now, Passed) ∷ c') c.args.now c.args.frame.now o (drops d.why)) (sym is)
     (judged_by_frame start ((c.args.now, Passed) ∷ c') c.args.now c.args.frame.now c.args.self.now.role policies c.args.self.now.mac said (drops d.why) s.role s.policies s.mac only d.heard)) (omega (arith, d.told)))
     (λ n. (let such = nameless c.args.self.now c.args.now c.args.frame.now _ heard.source heard.destination (parts heard.message) only n in
-    c.judge_message.ensures.quiet (read_advertisement policies such.ra) (c.read_body.ensures ∙ ap (read_body policies) such.body) such.adds))
+    c.judge_message.ensures.quiet (read_advertisement policies such.ra)
+    (c.read_answer.ensures start c' s ∙ ap (body_at start c' c.args.now) (c.read_message.ensures.body ∙ ap (read_body policies) such.body)) (subst (λ (os : List Said). AddsNoName c.args.self.now c.args.now heard.source os c.args.outs.now.free) (sym c.read_message.ensures.options) such.adds)))
     asks
 
 pub returns-in-Other-clause-refused : goal.returns-in-Other-clause-refused
@@ -68,10 +72,11 @@ pub returns-in-Valid-clause-refused : goal.returns-in-Valid-clause-refused
 returns-in-Valid-clause-refused g c = λ start c' s le adds place.
     let heard = c.in-Valid.heard in
     let said = valid heard.source heard.destination (parts heard.message) in
-    let read = λ (b : Body). valid heard.source heard.destination (record { body = b; options = options_read c.args.self.now heard.message.options }) in
+    let is = as_read start c' c.args.self.now c.args.now heard.source heard.destination heard.message c.read_message.new.message c.read_answer.new.body
+    c.read_message.ensures.body c.read_message.ensures.options (c.read_answer.ensures start c' s) in
     let only = subst (λ (r : Hearing). (o : Outcome) → Hears c.args.frame.now c.args.self.now.role o → outcome r ≡ o) c.in-Valid.is c.hear.ensures.only in
     let j = judged_frame start c' c.args.now c.args.frame.now c.args.self.now.role c.args.self.now.policies c.args.self.now.mac said s.role s.policies s.mac only adds in
-    c.judge_message.ensures.refused c.args.frame.now j.0 start c' s le (subst (λ (b : Body). Judges start ((c.args.now, Passed) ∷ c') c.args.now c.args.frame.now (read b) j.0) (sym c.read_body.ensures) j.1) j.2 place
+    c.judge_message.ensures.refused c.args.frame.now j.0 start c' s le (subst (λ (o : Outcome). Judges start ((c.args.now, Passed) ∷ c') c.args.now c.args.frame.now o j.0) (sym is) j.1) j.2 place
 
 pub returns-in-Drop-clause-idle : goal.returns-in-Drop-clause-idle
 returns-in-Drop-clause-idle g c = λ verdict start c' s le heard leaves.
@@ -87,8 +92,9 @@ pub returns-in-Valid-clause-idle : goal.returns-in-Valid-clause-idle
 returns-in-Valid-clause-idle g c = λ verdict start c' s le is_heard leaves.
     let heard = c.in-Valid.heard in
     let said = valid heard.source heard.destination (parts heard.message) in
-    let read = λ (b : Body). valid heard.source heard.destination (record { body = b; options = options_read c.args.self.now heard.message.options }) in
+    let is = as_read start c' c.args.self.now c.args.now heard.source heard.destination heard.message c.read_message.new.message c.read_answer.new.body
+    c.read_message.ensures.body c.read_message.ensures.options (c.read_answer.ensures start c' s) in
     let only = subst (λ (r : Hearing). (o : Outcome) → Hears c.args.frame.now c.args.self.now.role o → outcome r ≡ o) c.in-Valid.is c.hear.ensures.only in
     c.judge_message.ensures.idle c.args.frame.now verdict start c' s le
-    (subst (λ (b : Body). Judges start ((c.args.now, Passed) ∷ c') c.args.now c.args.frame.now (read b) verdict) (sym c.read_body.ensures)
+    (subst (λ (o : Outcome). Judges start ((c.args.now, Passed) ∷ c') c.args.now c.args.frame.now o verdict) (sym is)
     (judged_by_frame start ((c.args.now, Passed) ∷ c') c.args.now c.args.frame.now c.args.self.now.role c.args.self.now.policies c.args.self.now.mac said verdict s.role s.policies s.mac only is_heard)) leaves

@@ -17,9 +17,10 @@ returns-clause-adds g c =
     let e = c.report_heard.ensures.clock in
     let holder = rw e at c.hear_holder.ensures in
     let heard = rw e at c.hear_of_neighbour-ends.ensures in
+    let leaves = rw e at c.ends_router-leaves.ensures in
     let router = rw e at c.end_router.ensures in
     rw e (adds_advertisement g.R.Rng.stream c.args.self.now _ c.args.outs.now.items c.reserve.new.self.items c.report_heard.new.outs.items c.hear_holder.new.outs.items c.hear_of_neighbour-ends.new.outs.items c.end_router.new.outs.items
-    c.args.now c.args.heard.now.source c.args.heard.now.destination c.args.na.now (options_read c.args.self.now c.args.heard.now.message.options) c.requires.settled times c.news_of-news.result c.hear_of_neighbour-ends.result c.end_router.result c.hear_holder.result _
+    c.args.now c.args.heard.now.source c.args.heard.now.destination c.args.na.now (options_read c.args.self.now c.args.heard.now.message.options) c.requires.settled times c.news_of-news.result c.hear_of_neighbour-ends.result c.ends_router-leaves.result c.hear_holder.result _
     c.none_overdue.ensures.still c.none_overdue.ensures.table c.one_is_pushed_out.ensures c.none_overdue-2.ensures.still c.none_overdue-2.ensures.table
     (record {
       role = refl;
@@ -43,5 +44,5 @@ returns-clause-adds g c =
       last = refl;
     })
     (rw (c.own_mac.ensures, c.requires.body) at (c.news_of-news.ensures times)) (rw e at c.times_in_force-times.ensures.reachable) c.reserve.ensures.items (rw c.requires.body at c.report_heard.ensures.items) refl holder.conflicts heard.hears
-    c.hear_holder.new.choice c.hear_of_neighbour-ends.new.choice holder.remembers heard.remembers router.leaves
+    c.hear_holder.new.choice c.hear_of_neighbour-ends.new.choice holder.remembers heard.remembers leaves router.leaves
     (router.settled c.args.now (settled_routers c.args.self.now c.args.now c.requires.settled)))

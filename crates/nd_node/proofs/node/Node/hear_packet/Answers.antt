@@ -57,12 +57,12 @@ returns-clause-adds g c =
 pub returns-in_err-clone-clause-quiet : goal.returns-in_err-clone-clause-quiet
 returns-in_err-clone-clause-quiet g c = λ why start c' s le judged place.
     let ours = (c.is_packet_for_us.ensures start c' (packet_parts c.args.packet) s refl).0 c.if-not-is_packet_for_us.false in
-    absurd (packet_stays start ((c.args.now, Passed) ∷ c') c.args.now (packet_parts c.args.packet) why (record { destination_is = ours.destination_is; up = ours.up }) judged)
+    absurd (packet_stays start ((c.args.now, Passed) ∷ c') c.args.now (packet_parts c.args.packet) why (record { destination_is = ours.destination_is; up = ours.up; allowed = ours.allowed }) judged)
 
 pub returns-in_err-extend_from_slice-clause-quiet : goal.returns-in_err-extend_from_slice-clause-quiet
 returns-in_err-extend_from_slice-clause-quiet g c = λ why start c' s le judged place.
     let ours = (c.is_packet_for_us.ensures start c' (packet_parts c.args.packet) s refl).0 c.if-not-is_packet_for_us.false in
-    absurd (packet_stays start ((c.args.now, Passed) ∷ c') c.args.now (packet_parts c.args.packet) why (record { destination_is = ours.destination_is; up = ours.up }) judged)
+    absurd (packet_stays start ((c.args.now, Passed) ∷ c') c.args.now (packet_parts c.args.packet) why (record { destination_is = ours.destination_is; up = ours.up; allowed = ours.allowed }) judged)
 
 pub returns-in_err-answer-clause-refused : goal.returns-in_err-answer-clause-refused
 returns-in_err-answer-clause-refused g c = λ verdict start c' s le judged adds place.
@@ -74,12 +74,12 @@ returns-in_err-answer-clause-refused g c = λ verdict start c' s le judged adds 
 pub returns-in_err-clone-clause-refused : goal.returns-in_err-clone-clause-refused
 returns-in_err-clone-clause-refused g c = λ verdict start c' s le judged adds place.
     let ours = (c.is_packet_for_us.ensures start c' (packet_parts c.args.packet) s refl).0 c.if-not-is_packet_for_us.false in
-    absurd (ours_left start c.args.now c.args.frame.now (packet_parts c.args.packet) c' verdict (record { destination_is = ours.destination_is; up = ours.up }) judged adds)
+    absurd (ours_left start c.args.now c.args.frame.now (packet_parts c.args.packet) c' verdict (record { destination_is = ours.destination_is; up = ours.up; allowed = ours.allowed }) judged adds)
 
 pub returns-in_err-extend_from_slice-clause-refused : goal.returns-in_err-extend_from_slice-clause-refused
 returns-in_err-extend_from_slice-clause-refused g c = λ verdict start c' s le judged adds place.
     let ours = (c.is_packet_for_us.ensures start c' (packet_parts c.args.packet) s refl).0 c.if-not-is_packet_for_us.false in
-    absurd (ours_left start c.args.now c.args.frame.now (packet_parts c.args.packet) c' verdict (record { destination_is = ours.destination_is; up = ours.up }) judged adds)
+    absurd (ours_left start c.args.now c.args.frame.now (packet_parts c.args.packet) c' verdict (record { destination_is = ours.destination_is; up = ours.up; allowed = ours.allowed }) judged adds)
 
 pub returns-then-is_in_transit-clause-idle : goal.returns-then-is_in_transit-clause-idle
 returns-then-is_in_transit-clause-idle g c = λ verdict start c' s le judged leaves.

@@ -1,4 +1,4 @@
-use Rattle.std.proofs.Common.{◌-◌, subst, sym}
+use Rattle.std.proofs.Common.{subst, sym}
 use Rattle.std.proofs.lemmas.Result.{IfOk-weaker}
 use Rattle.nd_chronicle.specs.Event as events
 use Rattle.nd_node.specs.Memory.{AsksForNone}
