@@ -13,7 +13,8 @@ use Rattle.nd_routers.specs.History as routers
 use Rattle.nd_nexthop.specs.History as redirects
 use Rattle.nd_chronicle.specs.Happening.{Chronicle, Happening, ForReachableTime, Drew, Heard, Neighbour, Address, LeftRouter, Unlisted, ClearedPrefixes, ClearedRedirects, ClearedDns}
 use Rattle.nd_chronicle.specs.Histories.{address_history, name_history, parameter_history, prefix_history, redirect_history, router_history, server_history, then_failed, then_names, then_parameters, then_prefixes, then_redirect, then_router, then_servers, then_target}
-use Rattle.nd_c_types.specs.Changes.{changes_addresses, changes_dns, changes_parameters, changes_prefixes, changes_redirects, changes_routers, is_advertisement, is_failure, is_redirect}
+use Rattle.nd_c_types.specs.Changes.{changes_addresses, changes_dns, changes_parameters, changes_prefixes, changes_redirects, changes_routers, is_advertisement, is_failure}
+use Rattle.nd_chronicle.specs.Hearing.{is_redirect}
 
 never : {A : Type 0} → true ≡ false → A
 never is = absurd (true≢false is)

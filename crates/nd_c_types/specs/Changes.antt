@@ -3,16 +3,13 @@ use Rattle.std.specs.Prelude.{ℕ, ◌+◌, ◌*◌, Bool, true, false}
 use Rattle.nd_decode.specs.declared.body.Body.{Body}
 use Rattle.nd_decode.specs.declared.body.Body.TheVariants as bodies
 use Rattle.nd_neighbour.specs.History as neighbours
+use Rattle.nd_chronicle.specs.Hearing.{is_redirect}
 use Rattle.nd_chronicle.specs.Happening.{Happening, ForReachableTime, Drew, Heard, Neighbour, Address, LeftRouter, Unlisted, ClearedPrefixes, ClearedRedirects, ClearedDns}
 use Rattle.nd_c_types.specs.Numbers.{flag_number}
 
 abbrev pub is_advertisement : Body → Bool
 is_advertisement (bodies.Ra ra) = true
 is_advertisement _ = false
-
-abbrev pub is_redirect : Body → Bool
-is_redirect (bodies.Redirect r) = true
-is_redirect _ = false
 
 -- a neighbour was not resolved or not reached (RFC 4861, sections 6.3.6 and 7.3.3)
 abbrev pub is_failure : neighbours.RowKind → Bool

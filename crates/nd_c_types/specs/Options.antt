@@ -42,13 +42,24 @@ are_draws draws seed = (draws == 0) || ((draws == 1) && nat_le seed (2 ^ 32 - 1)
 abbrev pub draws_in : ℕ → ℕ → Draws
 draws_in draws seed = if draws == 0 then Seed seed else Word seed
 
--- a sum of enum nd_policy
+-- a sum of those of enum nd_policy that a node can have
 abbrev pub are_policies : ℕ → Bool
-are_policies bits = bit_and bits (2 ^ 32 - 1 - 1 - 2 - 4 - 8 - 16) == 0
+are_policies bits = bit_and bits (2 ^ 32 - 1 - 1 - 2 - 4 - 8 - 16 - 32 - 512 - 2048 - 4096 - 8192) == 0
 
 -- the policies whose bits are set
 abbrev pub policies_in : ℕ → Policies
-policies_in bits = record { parts = is_set bits 1; speakers = is_set bits 2; timers = is_set bits 4; own = is_set bits 8; unicast = is_set bits 16 }
+policies_in bits = record {
+  parts = is_set bits 1;
+  speakers = is_set bits 2;
+  timers = is_set bits 4;
+  own = is_set bits 8;
+  unicast = is_set bits 16;
+  unformed = is_set bits 32;
+  asked = is_set bits 512;
+  lifetimes = is_set bits 2048;
+  unredirected = is_set bits 4096;
+  strict = is_set bits 8192;
+}
 
 -- the role of 0 or 1
 abbrev pub role_in : ℕ → Role

@@ -37,8 +37,35 @@ pub const POLICY_SELF: u32 = 8;
 /// A router sends on only what came to its own address.
 pub const POLICY_UNICAST: u32 = 16;
 
-/// All policies, for a link that isn't trusted.
-pub const POLICIES_ROBUST: u32 = 31;
+/// No address is formed from a prefix option.
+pub const POLICY_UNFORMED: u32 = 32;
+
+/// An address that is assigned is announced: not built yet, and refused.
+pub const POLICY_ANNOUNCE: u32 = 64;
+
+/// Router Solicitations go on: not built yet, and refused.
+pub const POLICY_SOLICIT: u32 = 128;
+
+/// Solicitations of a detection have a nonce: not built yet, and refused.
+pub const POLICY_NONCE: u32 = 256;
+
+/// The flag S of an advertisement counts only where a solicitation is out.
+pub const POLICY_ASKED: u32 = 512;
+
+/// At most half of the neighbours are looked for: not built yet, and refused.
+pub const POLICY_LOOKUPS: u32 = 1024;
+
+/// Lifetimes are read as at most 9,000 seconds of a router, and a week of all else.
+pub const POLICY_LIFETIMES: u32 = 2048;
+
+/// A Redirect is dropped.
+pub const POLICY_UNREDIRECTED: u32 = 4096;
+
+/// What the RFCs forbid to send is dropped.
+pub const POLICY_STRICT: u32 = 8192;
+
+/// The policies for a link that isn't trusted.
+pub const POLICIES_ROBUST: u32 = 31 + 512 + 2048 + 8192;
 
 // What a node reports: `enum nd_kind`.
 pub const OUT_FRAME: u32 = 1;

@@ -3,13 +3,16 @@
 ghost use Rattle.std.specs.Prelude.{◌≡◌, ◌<◌, ◌↔◌, ◌^◌, IfSome, IsTrue};
 ghost use Rattle.std.specs.List.{AllPass};
 ghost use Rattle.std.specs.Option.{SomeIff};
+ghost use Rattle.nd_decode.specs.Option.{is_set};
+ghost use Rattle.nd_chronicle.specs.Start.{no_policies};
 ghost use Rattle.nd_c_types.specs.Limits.{number_or};
 ghost use Rattle.nd_c_types.specs.Options.{are_draws, are_policies, draws_in, is_well_formed, is_zero, opening_in, policies_in, options_in, AreOptions, AreWellFormed, IsKnown};
 
 use crate::bytes::{byte_at, u32_at, u64_at};
 use crate::header::{
-    DRAWS_SEED, DRAWS_WORD, MOMENT_LIMIT, POLICY_PARTS, POLICY_SELF, POLICY_SPEAKERS,
-    POLICY_TIMERS, POLICY_UNICAST,
+    DRAWS_SEED, DRAWS_WORD, MOMENT_LIMIT, POLICY_ASKED, POLICY_LIFETIMES, POLICY_PARTS,
+    POLICY_SELF, POLICY_SPEAKERS, POLICY_STRICT, POLICY_TIMERS, POLICY_UNFORMED, POLICY_UNICAST,
+    POLICY_UNREDIRECTED,
 };
 use crate::limits::Limits;
 use crate::role::role_of;
@@ -193,16 +196,35 @@ fn are_draws(draws: u8, seed: u64) -> bool
     draws == DRAWS_SEED || (draws == DRAWS_WORD && seed <= u64::from(u32::MAX))
 }
 
-/// Returns true if no bit is set but those of policies.
+/// The policies that a node can have.
+const POLICIES: u32 = POLICY_PARTS
+    | POLICY_SPEAKERS
+    | POLICY_TIMERS
+    | POLICY_SELF
+    | POLICY_UNICAST
+    | POLICY_UNFORMED
+    | POLICY_ASKED
+    | POLICY_LIFETIMES
+    | POLICY_UNREDIRECTED
+    | POLICY_STRICT;
+
+/// Returns true if no bit is set but those of policies that a node can have.
 fn are_policies(bits: u32) -> bool
     ensures { result ≡ are_policies bits }
 {
-    bits & !(POLICY_PARTS | POLICY_SPEAKERS | POLICY_TIMERS | POLICY_SELF | POLICY_UNICAST) == 0
+    bits & !POLICIES == 0
 }
 
 /// Returns the policies whose bits are set.
 fn policies_of(bits: u32) -> Policies
     ensures { result ≡ policies_in bits }
+{
+    with_rules_of_a_message(bits, with_rules_of_a_link(bits))
+}
+
+/// Returns those whose bits are set of the policies `parts`, `speakers`, `timers`, `self` and `unicast`.
+fn with_rules_of_a_link(bits: u32) -> Policies
+    ensures { result ≡ record no_policies { parts = is_set bits 1; speakers = is_set bits 2; timers = is_set bits 4; own = is_set bits 8; unicast = is_set bits 16 } }
 {
     let none = Policies::none();
     let parts = if bits & POLICY_PARTS == 0 {
@@ -229,6 +251,38 @@ fn policies_of(bits: u32) -> Policies
         own
     } else {
         own.with_unicast()
+    }
+}
+
+/// Returns these policies with those whose bits are set of `unformed`, `asked`, `lifetimes`, `unredirected` and `strict`, of which it has none.
+fn with_rules_of_a_message(bits: u32, policies: Policies) -> Policies
+    requires { record policies { unformed = false; asked = false; lifetimes = false; unredirected = false; strict = false } ≡ policies }
+    ensures { result ≡ record policies { unformed = is_set bits 32; asked = is_set bits 512; lifetimes = is_set bits 2048; unredirected = is_set bits 4096; strict = is_set bits 8192 } }
+{
+    let unformed = if bits & POLICY_UNFORMED == 0 {
+        policies
+    } else {
+        policies.with_unformed()
+    };
+    let asked = if bits & POLICY_ASKED == 0 {
+        unformed
+    } else {
+        unformed.with_asked()
+    };
+    let lifetimes = if bits & POLICY_LIFETIMES == 0 {
+        asked
+    } else {
+        asked.with_lifetimes()
+    };
+    let unredirected = if bits & POLICY_UNREDIRECTED == 0 {
+        lifetimes
+    } else {
+        lifetimes.with_unredirected()
+    };
+    if bits & POLICY_STRICT == 0 {
+        unredirected
+    } else {
+        unredirected.with_strict()
     }
 }
 

@@ -89,7 +89,7 @@ fn with_policy<'a>(alloc: Global, command: Command<'a>) -> Result<Command<'a>, A
     ensures local { (out-Command command.entry).has_globals ≡ false → IfOk result (λ more. (out-Command more).has_globals ≡ false) }
 {
     let policy = Arg::new(alloc, "policy").long("policy").help(
-        "What it does on a link that isn't trusted, parted by commas: parts, speakers, timers, self, unicast",
+        "What it does on a link that isn't trusted, parted by commas: parts, speakers, timers, self, unicast, unformed, asked, lifetimes, unredirected, strict",
     );
     command.arg(policy)
 }

@@ -12,6 +12,11 @@ with_named word (Some policies) =
     if bytes_eq word (codes "timers") && not policies.timers then Some (record policies { timers = true }) else
     if bytes_eq word (codes "self") && not policies.own then Some (record policies { own = true }) else
     if bytes_eq word (codes "unicast") && not policies.unicast then Some (record policies { unicast = true }) else
+    if bytes_eq word (codes "unformed") && not policies.unformed then Some (record policies { unformed = true }) else
+    if bytes_eq word (codes "asked") && not policies.asked then Some (record policies { asked = true }) else
+    if bytes_eq word (codes "lifetimes") && not policies.lifetimes then Some (record policies { lifetimes = true }) else
+    if bytes_eq word (codes "unredirected") && not policies.unredirected then Some (record policies { unredirected = true }) else
+    if bytes_eq word (codes "strict") && not policies.strict then Some (record policies { strict = true }) else
     None
 
 -- with those that words name

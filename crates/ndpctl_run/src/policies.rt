@@ -15,6 +15,11 @@ fn with_named(word: &str, policies: Policies) -> Option<Policies>
         "timers" if !policies.timers() => Some(policies.with_timers()),
         "self" if !policies.own() => Some(policies.with_own()),
         "unicast" if !policies.unicast() => Some(policies.with_unicast()),
+        "unformed" if !policies.unformed() => Some(policies.with_unformed()),
+        "asked" if !policies.asked() => Some(policies.with_asked()),
+        "lifetimes" if !policies.lifetimes() => Some(policies.with_lifetimes()),
+        "unredirected" if !policies.unredirected() => Some(policies.with_unredirected()),
+        "strict" if !policies.strict() => Some(policies.with_strict()),
         _ => None,
     }
 }

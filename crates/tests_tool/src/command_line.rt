@@ -213,10 +213,15 @@ fn policies_are_named_once(rt: HostRuntime) {
         .with_speakers()
         .with_timers()
         .with_own()
-        .with_unicast();
+        .with_unicast()
+        .with_unformed()
+        .with_asked()
+        .with_lifetimes()
+        .with_unredirected()
+        .with_strict();
     for value in [
-        "parts,speakers,timers,self,unicast",
-        "unicast,timers,speakers,self,parts",
+        "parts,speakers,timers,self,unicast,unformed,asked,lifetimes,unredirected,strict",
+        "strict,unicast,lifetimes,timers,unformed,speakers,asked,self,unredirected,parts",
     ] {
         let read = options(&rt, &run_with("--policy", value));
         assert!(rt; read.policies == all);
@@ -231,6 +236,12 @@ fn policies_are_named_once(rt: HostRuntime) {
         "unicast,self,unicast",
         "speakers,speakers",
         "parts,self,parts",
+        "asked,asked",
+        "Strict",
+        "announce",
+        "solicit",
+        "nonce",
+        "lookups",
     ] {
         assert_eq!(rt; refused(&rt, &run_with("--policy", value)), "policy");
     }
