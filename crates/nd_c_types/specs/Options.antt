@@ -47,7 +47,7 @@ abbrev pub are_policies : ℕ → Bool
 are_policies bits = bit_and bits (2 ^ 32 - 1 - 1 - 2 - 4 - 8 - 16 - 32 - 512 - 2048 - 4096 - 8192) == 0
 
 -- the policies whose bits are set
-abbrev pub policies_in : ℕ → Policies
+unfoldable pub policies_in : ℕ → Policies
 policies_in bits = record {
   parts = is_set bits 1;
   speakers = is_set bits 2;

@@ -1,6 +1,6 @@
 //! What a node is opened with, from C. The definitions are in `specs/Options.antt`.
 
-ghost use Rattle.std.specs.Prelude.{◌≡◌, ◌<◌, ◌↔◌, ◌^◌, IfSome, IsTrue};
+ghost use Rattle.std.specs.Prelude.{◌≡◌, ◌<◌, ◌↔◌, ◌^◌, IfSome, IsTrue, false};
 ghost use Rattle.std.specs.List.{AllPass};
 ghost use Rattle.std.specs.Option.{SomeIff};
 ghost use Rattle.nd_decode.specs.Option.{is_set};
@@ -216,6 +216,7 @@ fn are_policies(bits: u32) -> bool
 }
 
 /// Returns the policies whose bits are set.
+#[tactic(auto, unfolding(crate::specs::Options::policies_in))]
 fn policies_of(bits: u32) -> Policies
     ensures { result ≡ policies_in bits }
 {
