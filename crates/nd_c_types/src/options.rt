@@ -220,11 +220,11 @@ fn are_policies(bits: u32) -> bool
 fn policies_of(bits: u32) -> Policies
     ensures { result ≡ policies_in bits }
 {
-    with_rules_of_a_message(bits, with_rules_of_a_link(bits))
+    with_sender_policies(bits, link_policies_of(bits))
 }
 
 /// Returns those whose bits are set of the policies `parts`, `speakers`, `timers`, `self` and `unicast`.
-fn with_rules_of_a_link(bits: u32) -> Policies
+fn link_policies_of(bits: u32) -> Policies
     ensures { result ≡ record no_policies { parts = is_set bits 1; speakers = is_set bits 2; timers = is_set bits 4; own = is_set bits 8; unicast = is_set bits 16 } }
 {
     let none = Policies::none();
@@ -256,7 +256,7 @@ fn with_rules_of_a_link(bits: u32) -> Policies
 }
 
 /// Returns these policies with those whose bits are set of `unformed`, `asked`, `lifetimes`, `unredirected` and `strict`, of which it has none.
-fn with_rules_of_a_message(bits: u32, policies: Policies) -> Policies
+fn with_sender_policies(bits: u32, policies: Policies) -> Policies
     requires { record policies { unformed = false; asked = false; lifetimes = false; unredirected = false; strict = false } ≡ policies }
     ensures { result ≡ record policies { unformed = is_set bits 32; asked = is_set bits 512; lifetimes = is_set bits 2048; unredirected = is_set bits 4096; strict = is_set bits 8192 } }
 {
