@@ -31,7 +31,7 @@ use Rattle.nd_chronicle.specs.NextHop.{candidate, IsNextHop, routed_hop, IsHopOf
 use Rattle.nd_chronicle.specs.OwnAddress.{story_of, is_assigned, is_own, is_up}
 use Rattle.nd_chronicle.specs.Reading.{read_outcome}
 use Rattle.nd_chronicle.specs.Solicited.{outcome_at}
-use Rattle.nd_chronicle.specs.Hearing.{came_to, is_foreign, IsCounted, IsOurs, takes_target, is_awake, IsForUs, IsPacketForUs, IsInTransit, FromFirstHop, NotFromFirstHop, Verdict, Judges, IsDropped, IsTaken, IsStrange, IsMisdirected, IsPacket, IsPassing, IsStrangePacket, IsHeard}
+use Rattle.nd_chronicle.specs.Hearing.{came_to, is_allowed, is_allowed_packet, is_foreign, IsCounted, IsOurs, takes_target, is_awake, IsForUs, IsPacketForUs, IsInTransit, FromFirstHop, NotFromFirstHop, Verdict, Judges, IsDropped, IsTaken, IsStrange, IsMisdirected, IsPacket, IsPassing, IsStrangePacket, IsHeard}
 use Rattle.nd_existence.proofs.Deciding.{either_or, both_or, true_or, false_or, same_or, some_below}
 use Rattle.nd_existence.proofs.Tables.{address_bound, nothing_of_address}
 use Rattle.nd_existence.proofs.Listings.{listed}
@@ -171,6 +171,11 @@ module _ (start : Start) (c : Chronicle) (now : ℕ) where
   frame_heard frame =
       let said = hearing_of frame start.role in
       let read = read_outcome start.policies start.mac said in
-      let j = judged frame (outcome_at start c now read) in
-      let by_frame = record { read = read; by_frame = record { said = said; by_frame = hears frame start.role; as_read = refl }; at_moment = refl } in
-      (j.0, record { outcome = outcome_at start c now read; by_frame = by_frame; by_node = j.1 })
+      let j = judged frame (outcome_at start c now read) in (
+        j.0,
+        record {
+          outcome = outcome_at start c now read;
+          by_frame = record { read = read; by_frame = record { said = said; by_frame = hears frame start.role; as_read = refl }; at_moment = refl };
+          by_node = j.1;
+        },
+      )

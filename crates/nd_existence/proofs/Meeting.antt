@@ -265,7 +265,7 @@ module _ (limits : Limits) (mac : Mac) (m : AreBytes 6 mac.0) (transmits : ℕ) 
 
   pub heard_is : heard.0 ≡ rows ++ c
   heard_is =
-      tried first c late frame address (sixteen key) heard.0 usable.unicast tries (or_right _ _ assigned) (or_left _ _ held2) refl heard.1
+      tried first c late frame address (sixteen key) heard.0 usable.unicast tries (or_right _ _ assigned) (or_left _ _ held2) refl refl heard.1
       ∙ ap (λ (said : Parts). then_tried first late address ((late, Heard unspecified (solicited_node address) said) ∷ c)) (read_by_none mac tries.message)
       ∙ ap (λ (b : Bool). if b then (late, Sent (defence_frame true mac address)) ∷ hearing else (late, Address (number_of address.0) Conflict) ∷ hearing) assigned
 
