@@ -1,6 +1,7 @@
 /* gateway NAME=PREFIX ..: a router in user space between Ethernet interfaces of Linux, with a node of nd.h and a prefix of 64 bits for each. It
  * advertises the prefix and forms the address PREFIX::1 of it, forwards packets between the links, answers echo requests and sends ICMPv6 errors. On
- * SIGTERM or SIGINT it ceases to be a router, and ends. It needs CAP_NET_RAW. The kernel's own IPv6 has to be off on these interfaces.
+ * SIGTERM or SIGINT it ceases to be a router, and ends. It needs CAP_NET_RAW. On these interfaces the kernel's own IPv6 has to be off, and so has
+ * receive offload (`ethtool -K NAME gro off lro off`): a packet that it has joined of several is longer than the link's, and is dropped.
  *
  * The nodes do all of Neighbor Discovery. A packet for an address of the router, or for the link that it was received from, is passed to a node by
  * nd_receive: the node reports it with ND_OUT_UP, or sends it on with a Redirect (RFC 4861, 8.2). A packet for another link is sent from here, to
