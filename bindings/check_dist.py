@@ -21,7 +21,7 @@ import dist  # noqa: E402
 import stamp  # noqa: E402
 
 DIST = f"{TOP}/dist"
-EXAMPLES = ("host", "router", "global", "stack", "hear", "many")
+EXAMPLES = ("host", "router", "global", "stack", "hear", "many", "gateway")
 SANITIZED = ["-O1", "-g1", "-fsanitize=undefined,address", "-fno-sanitize-recover=all"]
 # A way to compile a file of dist/: the compiler, its flags for the file and those for all that is linked with it, the file, and whether all programs
 # run over it, or the quick ones.

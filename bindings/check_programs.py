@@ -481,6 +481,7 @@ def check_examples(room, archive):
     if stack:
         check_keeping(stack)
     check_simulations(room, archive)
+    build(room, "gateway", [f"{TOP}/examples/c/gateway.c", HEAP, archive])
     loop = build(room, "loop", [f"{TOP}/examples/c/loop.c", HEAP, archive])
     if loop and not os.environ.get("ND_LIVE"):
         skip("a TAP device", "ND_LIVE=1 runs the example loop on one")
