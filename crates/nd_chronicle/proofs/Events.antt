@@ -50,7 +50,7 @@ use Rattle.nd_chronicle.specs.Parts.{Taken, TakenOfMessage, IsTakenInPart, as_pl
 use Rattle.nd_chronicle.specs.Shown as tables
 use Rattle.nd_chronicle.specs.Shown.{Table, AreRows, neighbour_row, router_row, prefix_row, address_row, server_row, search_row}
 use Rattle.nd_chronicle.specs.Event as events
-use Rattle.nd_chronicle.specs.Event.{Event, Clearable, packet_bytes, HeardAdds, InPart, MessageAdds, PartAdds, VerdictAdds, FrameAdds, PacketAdds, SendAdds, refusal_of_packet, ClearAdds, clearing, all_leaving, EventAdds}
+use Rattle.nd_chronicle.specs.Event.{Event, Clearable, packet_bytes, HeardAdds, InPart, MessageAdds, PartAdds, VerdictAdds, FrameAdds, PacketAdds, HopAdds, SendAdds, packet_sent, refusal_of_packet, CarryAdds, refusal_of_carried, ClearAdds, clearing, all_leaving, EventAdds}
 use Rattle.nd_routers.specs.History.{preference_of}
 use Rattle.nd_routers.specs.Shown as routers_shown
 use Rattle.nd_chronicle.specs.History.{Walk, Follows, Runs}
@@ -256,15 +256,25 @@ module _ (start : Start) (c : Chronicle) (now : ℕ) where
       one_verdict frame k.verdict d e
       (subst (λ (v : Verdict). VerdictAdds start now frame v c d) (one_heard c now start frame h.verdict k.verdict h.heard k.heard) h.adds) k.adds
 
-  module _ (source destination : Addr) (next_header : ℕ) (payload : List ℕ) where
-    one_packet : (next : NextHop) (d e : Chronicle) → PacketAdds start now next source destination next_header payload c d → PacketAdds start now next source destination next_header payload c e → d ≡ e
+  module _ (packet : PacketParts) where
+    one_packet : (next : NextHop) (d e : Chronicle) → PacketAdds start now next packet c d → PacketAdds start now next packet c e → d ≡ e
     one_packet no_route d e h k = h ∙ sym k
-    one_packet direct d e h k = by_test (holds multicast_prefix destination.0) (λ x y. x ∙ sym y) (one_if_placed _ _ d e) h k
+    one_packet direct d e h k = by_test (holds multicast_prefix packet.header.destination.0) (λ x y. x ∙ sym y) (one_if_placed _ _ d e) h k
     one_packet (via key) d e h k = one_if_placed key _ d e h k
 
-    one_send : (d e : Chronicle) → SendAdds start now source destination next_header payload c d → SendAdds start now source destination next_header payload c e → d ≡ e
-    one_send d e h k = unless_refused (refusal_of_packet start now source payload c) _ d e
-        (λ x y. one_packet y.0 d e (subst (λ (next : NextHop). PacketAdds start now next source destination next_header payload c d) (one_hop c now start start.role destination x.0 y.0 x.1 y.1) x.2) y.2) h k
+    one_by_hop : (d e : Chronicle) → HopAdds start now packet c d → HopAdds start now packet c e → d ≡ e
+    one_by_hop d e x y =
+        let same : x.0 ≡ y.0 = one_hop c now start start.role packet.header.destination x.0 y.0 x.1 y.1 in
+        one_packet y.0 d e (subst (λ (next : NextHop). PacketAdds start now next packet c d) same x.2) y.2
+
+  one_send : (source destination : Addr) (next_header : ℕ) (payload : List ℕ) (d e : Chronicle) → SendAdds start now source destination next_header payload c d
+      → SendAdds start now source destination next_header payload c e → d ≡ e
+  one_send source destination next_header payload d e h k =
+      unless_refused (refusal_of_packet start now source payload c) _ d e (one_by_hop (packet_sent start now source destination next_header payload c) d e) h k
+
+  one_carry : (packet : PacketParts) (d e : Chronicle) → CarryAdds start now packet c d → CarryAdds start now packet c e → d ≡ e
+  one_carry packet d e h k =
+      unless_refused (refusal_of_carried start now packet c) _ d e (one_by_hop packet d e) h k
 
   module _ (destination : Addr) where
     one_if_wanted : (key : ℕ) (d e : Chronicle) → WantsIfPlaced start now destination key c d → WantsIfPlaced start now destination key c e → d ≡ e
@@ -322,6 +332,7 @@ module _ (start : Start) (c : Chronicle) (now : ℕ) where
   one_event events.Passes d e h k = h ∙ sym k
   one_event (events.Receives frame) d e h k = one_frame frame d e h k
   one_event (events.Sends source destination next_header payload) d e h k = one_send source destination next_header payload d e h k
+  one_event (events.Carries packet) d e h k = one_carry packet d e h k
   one_event (events.Resolves destination) d e h k = one_resolve destination d e h k
   one_event (events.Confirms neighbour) d e h k = h ∙ sym k
   one_event (events.Forgets neighbour) d e h k = h ∙ sym k

@@ -59,7 +59,7 @@ use Rattle.nd_chronicle.specs.NeighborAdvertisement.{conflicting, ends_in_list}
 use Rattle.nd_chronicle.specs.ByHand.{FormsByHand, no_room, setting}
 use Rattle.nd_chronicle.specs.Resolve.{PathAdds, ResolveAdds, Wants, WantsIfPlaced, then_wanted, wanting_of}
 use Rattle.nd_chronicle.specs.Event as events
-use Rattle.nd_chronicle.specs.Event.{Event, Clearable, packet_bytes, HeardAdds, InPart, MessageAdds, PartAdds, VerdictAdds, PacketAdds, SendAdds, refusal_of_packet, ClearAdds, clearing, all_leaving, EventAdds}
+use Rattle.nd_chronicle.specs.Event.{Event, Clearable, packet_bytes, HeardAdds, InPart, MessageAdds, PartAdds, VerdictAdds, PacketAdds, HopAdds, SendAdds, packet_sent, refusal_of_packet, CarryAdds, refusal_of_carried, ClearAdds, clearing, all_leaving, EventAdds}
 use Rattle.nd_chronicle.specs.Due.{then_neighbour}
 
 -- it is no row of one of the node's addresses, no message that was heard, no refusal and no settings of a router
@@ -405,19 +405,25 @@ module _ (start : Start) (at : ℕ) (Kept : Chronicle → Type 0) (plain : (what
       verdict_keeps frame (hears source destination message) d h k =
           heard_keeps source destination message h.0 d h.2 k
 
-      module _ (source destination : Addr) (next_header : ℕ) (payload : List ℕ) where
-        direct_keeps : (t : Bool) (what : List ℕ) (key : ℕ) (packet : List ℕ) (d : Chronicle)
-            → MatchBool t (d ≡ (at, Sent what) ∷ c) (GoesIfPlaced start at key packet c d) → Kept c → End d
-        direct_keeps true what key packet d h k = end_at h (plain _ c refl k)
-        direct_keeps false what key packet d h k = placed_keeps key packet d h k
+      module _ (packet : PacketParts) where
+        direct_keeps : (t : Bool) (what : List ℕ) (key : ℕ) (frame : List ℕ) (d : Chronicle)
+            → MatchBool t (d ≡ (at, Sent what) ∷ c) (GoesIfPlaced start at key frame c d) → Kept c → End d
+        direct_keeps true what key frame d h k = end_at h (plain _ c refl k)
+        direct_keeps false what key frame d h k = placed_keeps key frame d h k
 
-        next_keeps : (next : NextHop) (d : Chronicle) → PacketAdds start at next source destination next_header payload c d → Kept c → End d
+        next_keeps : (next : NextHop) (d : Chronicle) → PacketAdds start at next packet c d → Kept c → End d
         next_keeps no_route d h k = end_at h (plain _ c refl k)
-        next_keeps direct d h k = direct_keeps (holds multicast_prefix destination.0) _ _ _ d h k
+        next_keeps direct d h k = direct_keeps (holds multicast_prefix packet.header.destination.0) _ _ _ d h k
         next_keeps (via key) d h k = placed_keeps key _ d h k
 
-        send_keeps : (d : Chronicle) → SendAdds start at source destination next_header payload c d → Kept c → End d
-        send_keeps d h k = refused_keeps (refusal_of_packet start at source payload c) _ d (λ x. next_keeps x.0 d x.2 k) h
+        hop_keeps : (d : Chronicle) → Kept c → HopAdds start at packet c d → End d
+        hop_keeps d k x = next_keeps x.0 d x.2 k
+
+      send_keeps : (source destination : Addr) (next_header : ℕ) (payload : List ℕ) (d : Chronicle) → SendAdds start at source destination next_header payload c d → Kept c → End d
+      send_keeps source destination next_header payload d h k = refused_keeps (refusal_of_packet start at source payload c) _ d (hop_keeps (packet_sent start at source destination next_header payload c) d k) h
+
+      carry_keeps : (packet : PacketParts) (d : Chronicle) → CarryAdds start at packet c d → Kept c → End d
+      carry_keeps packet d h k = refused_keeps (refusal_of_carried start at packet c) _ d (hop_keeps packet d k) h
 
       module _ (destination : Addr) where
         wants_placed_keeps : (key : ℕ) (d : Chronicle) → WantsIfPlaced start at destination key c d → Kept c → End d
@@ -461,6 +467,7 @@ module _ (start : Start) (at : ℕ) (Kept : Chronicle → Type 0) (plain : (what
       event_keeps events.Passes d settles h k = end_at h k
       event_keeps (events.Receives frame) d settles h k = verdict_keeps frame h.verdict d h.adds k
       event_keeps (events.Sends source destination next_header payload) d settles h k = send_keeps source destination next_header payload d h k
+      event_keeps (events.Carries packet) d settles h k = carry_keeps packet d h k
       event_keeps (events.Resolves destination) d settles h k = resolve_keeps destination d h k
       event_keeps (events.Confirms neighbour) d settles h k = end_at h (plain _ c refl k)
       event_keeps (events.Forgets neighbour) d settles h k =

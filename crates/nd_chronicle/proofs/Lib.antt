@@ -20,3 +20,4 @@ pub mod TurnedAway
 pub mod Unchanged
 pub mod Refusals
 pub mod Answering
+pub mod Carrying

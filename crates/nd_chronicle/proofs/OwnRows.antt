@@ -73,7 +73,7 @@ use Rattle.nd_chronicle.specs.NeighborAdvertisement.{conflicting, ends_in_list, 
 use Rattle.nd_chronicle.specs.ByHand.{FormsByHand, no_room, setting}
 use Rattle.nd_chronicle.specs.Resolve.{PathAdds, Wants, WantsIfPlaced, then_wanted, wanting_of}
 use Rattle.nd_chronicle.specs.Event as events
-use Rattle.nd_chronicle.specs.Event.{Event, Clearable, packet_bytes, HeardAdds, InPart, MessageAdds, PartAdds, VerdictAdds, PacketAdds, refusal_of_packet, ClearAdds, clearing, all_leaving, EventAdds}
+use Rattle.nd_chronicle.specs.Event.{Event, Clearable, packet_bytes, HeardAdds, InPart, MessageAdds, PartAdds, VerdictAdds, PacketAdds, HopAdds, packet_sent, refusal_of_packet, refusal_of_carried, ClearAdds, clearing, all_leaving, EventAdds}
 use Rattle.nd_chronicle.specs.Due.{What, RouterEnds, AddressFalls, NeighbourFalls, RoutersSolicited, RouterAdvertises, Redraws, Due, then_address, then_neighbour, comes}
 
 -- ---- what doesn't concern the own addresses
@@ -456,16 +456,19 @@ module _ (start : Start) (now : ℕ) (event : Event) (c : Chronicle) where
 
   -- ---- a packet is to be sent
 
-  module _ (source destination : Addr) (next_header : ℕ) (payload : List ℕ) where
-    brings_direct : (t : Bool) (frame : List ℕ) (key : ℕ) (packet : List ℕ) (d : Chronicle)
-        → MatchBool t (d ≡ (now, Sent frame) ∷ c) (GoesIfPlaced start now key packet c d) → Brings start now event c d
-    brings_direct true frame key packet d h = Nothing (ap address_history h)
-    brings_direct false frame key packet d h = brings_placed key packet d h
+  module _ (packet : PacketParts) where
+    brings_direct : (t : Bool) (what : List ℕ) (key : ℕ) (frame : List ℕ) (d : Chronicle)
+        → MatchBool t (d ≡ (now, Sent what) ∷ c) (GoesIfPlaced start now key frame c d) → Brings start now event c d
+    brings_direct true what key frame d h = Nothing (ap address_history h)
+    brings_direct false what key frame d h = brings_placed key frame d h
 
-    brings_packet : (next : NextHop) (d : Chronicle) → PacketAdds start now next source destination next_header payload c d → Brings start now event c d
+    brings_packet : (next : NextHop) (d : Chronicle) → PacketAdds start now next packet c d → Brings start now event c d
     brings_packet no_route d h = Nothing (ap address_history h)
-    brings_packet direct d h = brings_direct (holds multicast_prefix destination.0) _ _ _ d h
+    brings_packet direct d h = brings_direct (holds multicast_prefix packet.header.destination.0) _ _ _ d h
     brings_packet (via key) d h = brings_placed key _ d h
+
+    brings_by_hop : (d : Chronicle) → HopAdds start now packet c d → Brings start now event c d
+    brings_by_hop d x = brings_packet x.0 d x.2
 
   -- ---- a caller asks where packets go
 
@@ -519,7 +522,10 @@ event_brings start now events.Passes c d h = Nothing (ap address_history h)
 event_brings start now (events.Receives frame) c d h = brings_verdict start now (events.Receives frame) c frame refl h.heard.outcome h.verdict d h.heard.by_frame h.heard.by_node h.adds
 event_brings start now (events.Sends source destination next_header payload) c d h =
     let event = events.Sends source destination next_header payload in
-    brings_refused start now event c (refusal_of_packet start now source payload c) _ d (λ x. brings_packet start now event c source destination next_header payload x.0 d x.2) h
+    brings_refused start now event c (refusal_of_packet start now source payload c) _ d (brings_by_hop start now event c (packet_sent start now source destination next_header payload c) d) h
+event_brings start now (events.Carries packet) c d h =
+    let event = events.Carries packet in
+    brings_refused start now event c (refusal_of_carried start now packet c) _ d (brings_by_hop start now event c packet d) h
 event_brings start now (events.Resolves destination) c d h =
     let event = events.Resolves destination in
     brings_refused start now event c (refusal_unless_up start c) _ d (λ x. brings_path start now event c destination x.0 d x.2) h

@@ -3,7 +3,7 @@ use Rattle.std.specs.Prelude.{ℕ, Bool, true, false, nat_lt, if◌then◌else�
 use Rattle.nd_chronicle.specs.Start.{Start}
 use Rattle.nd_chronicle.specs.Happening as rows
 use Rattle.nd_chronicle.specs.Happening.{Chronicle, Happening, Loss, Refusal, last_moment}
-use Rattle.nd_chronicle.specs.Event.{Event, Sends}
+use Rattle.nd_chronicle.specs.Event.{Carries, Event, Sends}
 
 -- the event took place, or its frame was dropped; its packet has no next hop, and is lost (RFC 4861, section 5.2); it was refused; it is
 -- earlier than the moment up to which time had passed
@@ -16,6 +16,7 @@ pub data Answer : Type 0 where
 -- a packet of the upper layer is to be sent
 abbrev pub is_packet : Event → Bool
 is_packet (Sends source destination next_header payload) = true
+is_packet (Carries packet) = true
 is_packet _ = false
 
 -- Such a packet is lost without a next hop. One in transit is too, but nobody asked this node to send it.

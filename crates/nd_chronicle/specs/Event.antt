@@ -1,11 +1,11 @@
 -- What an event adds to a chronicle: a frame, a packet to be sent, a command. The milliseconds up to it have passed.
-use Rattle.std.specs.Prelude.{◌≡◌, ℕ, true, ◌+◌, nat_lt, if◌then◌else◌, MatchBool, List, [], ◌∷◌, length, take, Option, Some, None}
+use Rattle.std.specs.Prelude.{◌≡◌, ℕ, Bool, true, ◌+◌, ◌&&◌, ◌||◌, not, nat_lt, if◌then◌else◌, MatchBool, List, [], ◌∷◌, length, take, Option, Some, None}
 use Rattle.std.specs.List.{All}
 use Rattle.nd_addr.specs.declared.addr.Addr.{Addr}
 use Rattle.nd_addr.specs.declared.mac.Mac.{Mac}
 use Rattle.nd_addr.specs.Bytes.{IsBytes}
 use Rattle.nd_addr.specs.Frame.{written_frame}
-use Rattle.nd_addr.specs.Ip6.{ipv6_header_length, payload_length_of}
+use Rattle.nd_addr.specs.Ip6.{PacketParts, ipv6_header_length, payload_length_of}
 use Rattle.nd_addr.specs.Kind.{multicast_prefix}
 use Rattle.nd_addr.specs.Number.{number_of, holds}
 use Rattle.nd_addr.specs.Places.{packet_in}
@@ -27,11 +27,12 @@ use Rattle.nd_slaac.specs.ByHand.{AddressByHand, IsOwnAddress}
 use Rattle.nd_routers.specs.History.{announcements}
 use Rattle.nd_routers.specs.Routers.{same}
 use Rattle.nd_forwarding.specs.declared.route.Route.{Route}
+use Rattle.nd_forwarding.specs.Forward.{may_be_forwarded}
 use Rattle.nd_chronicle.specs.Start.{Start}
-use Rattle.nd_chronicle.specs.Happening.{Chronicle, Heard, Dropped, Up, Neighbour, LeftRouter, ClearedPrefixes, ClearedRedirects, ClearedDns, Configured, Offered, RoutePut, Sent, Lost, Shown, Limit, Refusal, Refused, Full, Disabled, NotOurs, TooLong, NoRoute, Forgotten}
+use Rattle.nd_chronicle.specs.Happening.{Chronicle, Heard, Dropped, Up, Neighbour, LeftRouter, ClearedPrefixes, ClearedRedirects, ClearedDns, Configured, Offered, RoutePut, Sent, Lost, Shown, Limit, Refusal, Refused, Full, Disabled, Tentative, NotOurs, TooLong, NoRoute, Forgotten}
 use Rattle.nd_chronicle.specs.Histories.{neighbour_history, router_history}
 use Rattle.nd_chronicle.specs.InForce.{hop_limit, link_mtu, reachable_time}
-use Rattle.nd_chronicle.specs.OwnAddress.{is_assigned, is_disabled}
+use Rattle.nd_chronicle.specs.OwnAddress.{is_assigned, is_disabled, is_own, is_up}
 use Rattle.nd_compose.specs.Frames.{multicast_mac, open_mac}
 use Rattle.nd_chronicle.specs.Packet.{losing, GoesIfPlaced}
 use Rattle.nd_chronicle.specs.NextHop.{IsHopOf}
@@ -39,7 +40,7 @@ use Rattle.nd_chronicle.specs.Hearing.{Verdict, hears, goes_up, goes_on, drops, 
 use Rattle.nd_chronicle.specs.Message.{said, PlaceFor, RoomFor, failing_for, releasing}
 use Rattle.nd_chronicle.specs.RouterAdvertisement.{then_advertised}
 use Rattle.nd_chronicle.specs.ByHand.{SetAdds, withdrawing}
-use Rattle.nd_chronicle.specs.NeighborSolicitation.{ThenSolicited, then_answered}
+use Rattle.nd_chronicle.specs.NeighborSolicitation.{ThenSolicited, is_router, then_answered}
 use Rattle.nd_chronicle.specs.NeighborAdvertisement.{then_neighbor_advertised}
 use Rattle.nd_chronicle.specs.Full.{Fills}
 use Rattle.nd_chronicle.specs.Parts.{Taken, IsTakenInPart, ignoring}
@@ -64,6 +65,8 @@ pub data Event : Type 0 where
   Receives : (frame : List ℕ) → Event
   -- a packet is to be sent
   Sends : (source destination : Addr) (next_header : ℕ) (payload : List ℕ) → Event
+  -- a whole packet is to be sent, which a stack has built or received on another interface
+  Carries : (packet : PacketParts) → Event
   -- a caller that keeps its packets asks where those to a destination go
   Resolves : (destination : Addr) → Event
   -- an upper layer confirms that a neighbour is reached (RFC 4861, section 7.3.1)
@@ -152,26 +155,35 @@ module _ (start : Start) (now : ℕ) where
 
   -- ---- a packet is to be sent (RFC 4861, section 5.2)
 
-  abbrev pub packet_frame : Mac → Addr → Addr → ℕ → List ℕ → Chronicle → List ℕ
-  packet_frame to source destination next_header payload c = written_frame to start.mac (record {
-    traffic_class = 0;
-    flow_label = 0;
-    next_header = next_header;
-    hop_limit = hop_limit c;
-    source = source;
-    destination = destination;
-  }) payload
+  -- the packet with the hop limit in force
+  abbrev pub packet_sent : Addr → Addr → ℕ → List ℕ → Chronicle → PacketParts
+  packet_sent source destination next_header payload c = record {
+    header = record {
+      traffic_class = 0;
+      flow_label = 0;
+      next_header = next_header;
+      hop_limit = hop_limit c;
+      source = source;
+      destination = destination;
+    };
+    payload = payload;
+  }
+
+  -- a packet behind an Ethernet header, each of its bytes as it is
+  abbrev pub frame_with : PacketParts → Mac → List ℕ
+  frame_with packet to = written_frame to start.mac packet.header packet.payload
 
   -- what goes to a multicast address goes out at once (RFC 2464, section 7)
-  abbrev pub PacketAdds : NextHop → Addr → Addr → ℕ → List ℕ → Chronicle → Chronicle → Type 0
-  PacketAdds no_route source destination next_header payload c d =
-      d ≡ (now, Lost NoRoute (packet_frame open_mac source destination next_header payload c)) ∷ c
-  PacketAdds direct source destination next_header payload c d =
-      MatchBool (holds multicast_prefix destination.0)
-      (d ≡ (now, Sent (packet_frame (multicast_mac destination) source destination next_header payload c)) ∷ c)
-      (GoesIfPlaced start now (number_of destination.0) (packet_frame open_mac source destination next_header payload c) c d)
-  PacketAdds (via key) source destination next_header payload c d =
-      GoesIfPlaced start now key (packet_frame open_mac source destination next_header payload c) c d
+  abbrev pub PacketAdds : NextHop → PacketParts → Chronicle → Chronicle → Type 0
+  PacketAdds no_route packet c d = d ≡ (now, Lost NoRoute (frame_with packet open_mac)) ∷ c
+  PacketAdds direct packet c d =
+      MatchBool (holds multicast_prefix packet.header.destination.0) (d ≡ (now, Sent (frame_with packet (multicast_mac packet.header.destination))) ∷ c)
+      (GoesIfPlaced start now (number_of packet.header.destination.0) (frame_with packet open_mac) c d)
+  PacketAdds (via key) packet c d = GoesIfPlaced start now key (frame_with packet open_mac) c d
+
+  -- it goes to its next hop
+  abbrev pub HopAdds : PacketParts → Chronicle → Chronicle → Type 0
+  HopAdds packet c d = (next : NextHop) × IsHopOf start start.role c now packet.header.destination next × PacketAdds next packet c d
 
   -- why it isn't sent at all, the first that holds
   abbrev pub refusal_of_packet : Addr → List ℕ → Chronicle → Option Refusal
@@ -182,8 +194,27 @@ module _ (start : Start) (now : ℕ) where
       else Some (NotOurs source)
 
   abbrev pub SendAdds : Addr → Addr → ℕ → List ℕ → Chronicle → Chronicle → Type 0
-  SendAdds source destination next_header payload c d = UnlessRefused now (refusal_of_packet source payload c)
-      (λ e. (next : NextHop) × IsHopOf start start.role c now destination next × PacketAdds next source destination next_header payload c e) c d
+  SendAdds source destination next_header payload c d =
+      UnlessRefused now (refusal_of_packet source payload c) (HopAdds (packet_sent source destination next_header payload c) c) c d
+
+  -- ---- a whole packet is to be sent, as it is (this project's own)
+
+  -- a router carries what another node sent, unless an address of it keeps it on its link (RFC 4291, section 2.5.6)
+  abbrev pub is_of_others : PacketParts → Chronicle → Bool
+  is_of_others packet c = is_router start.role && not (is_own c packet.header.source.0) && may_be_forwarded packet.header
+
+  -- why it isn't sent at all, the first that holds
+  abbrev pub refusal_of_carried : PacketParts → Chronicle → Option Refusal
+  refusal_of_carried packet c =
+      if is_disabled start c then Some Disabled else
+      if is_up start c then
+      (if is_assigned c packet.header.source.0 || is_of_others packet c then
+      (if nat_lt (link_mtu c) (ipv6_header_length + length packet.payload) then Some TooLong else None)
+      else Some (NotOurs packet.header.source))
+      else Some Tentative
+
+  abbrev pub CarryAdds : PacketParts → Chronicle → Chronicle → Type 0
+  CarryAdds packet c d = UnlessRefused now (refusal_of_carried packet c) (HopAdds packet c) c d
 
   -- ---- commands
 
@@ -215,6 +246,7 @@ module _ (start : Start) (now : ℕ) where
   EventAdds Passes c d = d ≡ c
   EventAdds (Receives frame) c d = FrameAdds frame c d
   EventAdds (Sends source destination next_header payload) c d = SendAdds source destination next_header payload c d
+  EventAdds (Carries packet) c d = CarryAdds packet c d
   EventAdds (Resolves destination) c d = ResolveAdds start now destination c d
   EventAdds (Confirms neighbour) c d = d ≡ (now, Neighbour (number_of neighbour.0) (neighbours.Confirmed (reachable_time c))) ∷ c
   EventAdds (Forgets neighbour) c d = d ≡ forgetting (number_of neighbour.0) c

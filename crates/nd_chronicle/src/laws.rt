@@ -1,6 +1,6 @@
 //! Laws of the definitions, each the contract of a function that does nothing.
 
-ghost use Rattle.std.specs.Prelude.{◌≡◌, ◌≢◌, ◌<◌, ◌≤◌, ◌+◌, ◌++◌, ◌∷◌, ◌==◌, ◌&&◌, ◌||◌, not, ℕ, Bool, IsSomeAnd, List, None, [], false, if◌then◌else◌, is_some, length, nat_lt, true};
+ghost use Rattle.std.specs.Prelude.{◌≡◌, ◌≢◌, ◌↔◌, ◌<◌, ◌≤◌, ◌+◌, ◌++◌, ◌∷◌, ◌==◌, ◌&&◌, ◌||◌, not, ℕ, Bool, IsSomeAnd, List, None, [], false, if◌then◌else◌, is_some, length, nat_lt, true};
 ghost use Rattle.nd_addr.specs.Bytes.{AreBytes};
 ghost use Rattle.nd_addr.specs.Number.{addr_at, number_of};
 ghost use Rattle.nd_addr.specs.declared.addr.Addr.{Addr};
@@ -33,7 +33,7 @@ ghost use Rattle.nd_chronicle.specs.Happening.{Address, Chronicle, Happening, He
 ghost use Rattle.nd_chronicle.specs.Histories.{address_history, neighbour_history};
 ghost use Rattle.nd_chronicle.specs.OwnAddress.{is_own, is_up, story_of};
 ghost use Rattle.nd_chronicle.specs.OwnAddress as own_addresses;
-ghost use Rattle.nd_chronicle.specs.Event.{ComeAsBytes, Event, EventAdds, FrameAdds, VerdictAdds};
+ghost use Rattle.nd_chronicle.specs.Event.{CarryAdds, ComeAsBytes, Event, EventAdds, FrameAdds, SendAdds, VerdictAdds, packet_sent, refusal_of_packet};
 ghost use Rattle.nd_chronicle.specs.Hearing.{hears, is_allowed, is_awake, is_foreign};
 ghost use Rattle.nd_chronicle.specs.Reading.{read_message};
 ghost use Rattle.nd_chronicle.specs.NeighborAdvertisement.{then_neighbor_advertised};
@@ -161,6 +161,13 @@ pub fn link_local_address_comes_first()
     ensures later { (start : Start) (events later : List (ℕ × Event)) (c d : Chronicle)
         → ComeAsBytes events → ComeAsBytes later
         → IsChronicle start events c → Runs start c later d → is_up start c ≡ true → is_up start d ≡ true }
+{}
+
+/// A packet of the upper layer that isn't refused adds what the whole packet adds that the node builds of it (RFC 4861, section 5.2).
+pub fn a_send_is_a_carry()
+    ensures { (start : Start) (events : List (ℕ × Event)) (c d e : Chronicle) (now : ℕ) (source destination : Addr) (next_header : ℕ) (payload : List ℕ) → ComeAsBytes events
+        → IsChronicle start events c → Past d c → refusal_of_packet start now source payload d ≡ None
+        → SendAdds start now source destination next_header payload d e ↔ CarryAdds start now (packet_sent start now source destination next_header payload d) d e }
 {}
 
 /// What happened to the node's own addresses is in the chronicle, row by row, and each solicitation for one is sent in the moment of its row, with

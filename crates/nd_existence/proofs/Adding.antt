@@ -73,7 +73,7 @@ use Rattle.nd_chronicle.specs.Hearing.{Verdict, hears, goes_up, goes_on, drops}
 use Rattle.nd_chronicle.specs.Shown as tables
 use Rattle.nd_chronicle.specs.Shown.{Table, AreRows, neighbour_row, router_row, prefix_row, address_row, server_row, search_row}
 use Rattle.nd_chronicle.specs.Event as events
-use Rattle.nd_chronicle.specs.Event.{Event, Clearable, packet_bytes, HeardAdds, InPart, MessageAdds, PartAdds, VerdictAdds, FrameAdds, packet_frame, PacketAdds, refusal_of_packet, SendAdds, forgetting, clearing, all_leaving, ClearAdds, EventAdds}
+use Rattle.nd_chronicle.specs.Event.{Event, Clearable, packet_bytes, HeardAdds, InPart, MessageAdds, PartAdds, VerdictAdds, FrameAdds, packet_sent, frame_with, PacketAdds, HopAdds, refusal_of_packet, SendAdds, CarryAdds, refusal_of_carried, forgetting, clearing, all_leaving, ClearAdds, EventAdds}
 use Rattle.nd_chronicle.specs.Parts.{Filling, Taken, TakenOfAdvertisement, TakenOfMessage, IsTakenInPart, as_placed, ignoring, options_taken, passed_over}
 use Rattle.nd_chronicle.proofs.Parts.{slla_stays}
 use Rattle.nd_chronicle.proofs.Reading.{no_slla_placed, no_tlla_placed}
@@ -512,25 +512,30 @@ module _ (start : Start) (c : Chronicle) (now : ℕ) where
   unless_refused None A d = d
   unless_refused (Some refusal) A d = ((now, Refused refusal) ∷ c, refl)
 
-  module _ (source destination : Addr) (next_header : ℕ) (payload : List ℕ) where
-    direct_adds : (t : Bool) → (d : Chronicle) × MatchBool t
-        (d ≡ (now, Sent (packet_frame start now (multicast_mac destination) source destination next_header payload c)) ∷ c)
-        (GoesIfPlaced start now (number_of destination.0) (packet_frame start now open_mac source destination next_header payload c) c d)
+  module _ (packet : PacketParts) where
+    direct_adds : (t : Bool) → (d : Chronicle) × MatchBool t (d ≡ (now, Sent (frame_with start now packet (multicast_mac packet.header.destination))) ∷ c)
+        (GoesIfPlaced start now (number_of packet.header.destination.0) (frame_with start now packet open_mac) c d)
     direct_adds true = (_, refl)
-    direct_adds false = goes_if_placed start c now (number_of destination.0) (packet_frame start now open_mac source destination next_header payload c)
+    direct_adds false = goes_if_placed start c now (number_of packet.header.destination.0) (frame_with start now packet open_mac)
 
-    packet_adds : (next : NextHop) → (d : Chronicle) × PacketAdds start now next source destination next_header payload c d
+    packet_adds : (next : NextHop) → (d : Chronicle) × PacketAdds start now next packet c d
     packet_adds no_route = (_, refl)
-    packet_adds direct = direct_adds (holds multicast_prefix destination.0)
-    packet_adds (via key) = goes_if_placed start c now key (packet_frame start now open_mac source destination next_header payload c)
+    packet_adds direct = direct_adds (holds multicast_prefix packet.header.destination.0)
+    packet_adds (via key) = goes_if_placed start c now key (frame_with start now packet open_mac)
 
-    send_adds : (d : Chronicle) × SendAdds start now source destination next_header payload c d
-    send_adds =
-        let next = hop_of start start.role c now destination in
+    hop_adds : (d : Chronicle) × HopAdds start now packet c d
+    hop_adds =
+        let next = hop_of start start.role c now packet.header.destination in
         let d = packet_adds next.0 in
-        unless_refused (refusal_of_packet start now source payload c)
-        (λ e. (next : NextHop) × IsHopOf start start.role c now destination next × PacketAdds start now next source destination next_header payload c e)
         (d.0, (next.0, next.1, d.1))
+
+  send_adds : (source destination : Addr) (next_header : ℕ) (payload : List ℕ) → (d : Chronicle) × SendAdds start now source destination next_header payload c d
+  send_adds source destination next_header payload =
+      let packet = packet_sent start now source destination next_header payload c in
+      unless_refused (refusal_of_packet start now source payload c) (HopAdds start now packet c) (hop_adds packet)
+
+  carry_adds : (packet : PacketParts) → (d : Chronicle) × CarryAdds start now packet c d
+  carry_adds packet = unless_refused (refusal_of_carried start now packet c) (HopAdds start now packet c) (hop_adds packet)
 
   -- ---- a caller asks where packets go
 
@@ -622,6 +627,7 @@ module _ (start : Start) (c : Chronicle) (now : ℕ) where
   event_adds events.Passes = (c, refl)
   event_adds (events.Receives frame) = frame_adds frame
   event_adds (events.Sends source destination next_header payload) = send_adds source destination next_header payload
+  event_adds (events.Carries packet) = carry_adds packet
   event_adds (events.Resolves destination) = resolve_adds destination
   event_adds (events.Confirms neighbour) = ((now, Neighbour (number_of neighbour.0) (neighbours.Confirmed (reachable_time c))) ∷ c, refl)
   event_adds (events.Forgets neighbour) = (forgetting start now (number_of neighbour.0) c, refl)

@@ -33,6 +33,7 @@ hears_or : (event : nodes.Event) → Decided ((frame : List ℕ) → event ≢ n
 hears_or (nodes.Receives frame) = inr (λ never. never frame refl)
 hears_or nodes.Passes = inl (λ frame e. let no : ⊥ = cc in no)
 hears_or (nodes.Sends source destination next_header payload) = inl (λ frame e. let no : ⊥ = cc in no)
+hears_or (nodes.Carries packet) = inl (λ frame e. let no : ⊥ = cc in no)
 hears_or (nodes.Resolves destination) = inl (λ frame e. let no : ⊥ = cc in no)
 hears_or (nodes.Confirms neighbour) = inl (λ frame e. let no : ⊥ = cc in no)
 hears_or (nodes.Forgets neighbour) = inl (λ frame e. let no : ⊥ = cc in no)

@@ -1,11 +1,13 @@
--- A packet of the upper layer that is to be sent, and the chronicle that a node stands for.
-use Rattle.std.proofs.Common.{◌≡◌, ℕ, ◌<◌, ◌≤◌, Bool, true, false, List, [], ◌∷◌, ◌++◌, append-nil, Option, Some, None, refl, sym, ◌∙◌, ap, subst}
+-- A packet that is to be sent, and the chronicle that a node stands for.
+use Rattle.std.proofs.Common.{◌≡◌, ℕ, ◌<◌, ◌≤◌, Bool, true, false, cond, List, [], ◌∷◌, ◌++◌, append-nil, Option, Some, None, refl, sym, ◌∙◌, ap, subst}
 use Rattle.std.specs.Prelude.{MatchBool}
 use Rattle.rand_core.specs.Stream.{Stream}
 use Rattle.nd_addr.specs.declared.addr.Addr.{Addr}
 use Rattle.nd_addr.specs.declared.mac.Mac.{Mac}
 use Rattle.nd_addr.specs.declared.role.Role.{Role}
 use Rattle.nd_addr.specs.declared.role.Role.TheVariants.{Host, Router}
+use Rattle.nd_addr.specs.Frame.{written_frame}
+use Rattle.nd_addr.specs.Ip6.{PacketParts}
 use Rattle.nd_addr.specs.Kind.{multicast_mac_of, multicast_prefix}
 use Rattle.nd_addr.specs.Number.{holds, number_of}
 use Rattle.nd_compose.specs.Frames.{multicast_mac, open_mac}
@@ -13,17 +15,16 @@ use Rattle.nd_neighbour.specs.Place.{WouldBeFull}
 use Rattle.nd_neighbour.specs.RoomKept.{has_room}
 use Rattle.nd_nexthop.specs.NextHop.{NextHop, direct}
 use Rattle.nd_chronicle.specs.Start.{Start}
-use Rattle.nd_chronicle.specs.Happening.{Chronicle, Passed, Refused, Refusal, Full, Neighbours, Loss, Lost, Sent, last_moment}
+use Rattle.nd_chronicle.specs.Happening.{Chronicle, Passed, Refused, Refusal, Disabled, Tentative, NotOurs, TooLong, Full, Neighbours, Loss, Lost, Sent, last_moment}
 use Rattle.nd_chronicle.specs.Histories.{neighbour_history}
 use Rattle.nd_chronicle.specs.NextHop.{IsHopOf}
 use Rattle.nd_chronicle.specs.Event as events
-use Rattle.nd_chronicle.specs.Event.{PacketAdds, packet_frame, refusal_of_packet}
+use Rattle.nd_chronicle.specs.Event.{EventAdds, HopAdds, PacketAdds, frame_with, packet_sent, refusal_of_carried, refusal_of_packet}
 use Rattle.nd_chronicle.specs.Packet.{GoesIfPlaced}
 use Rattle.nd_chronicle.specs.Refused.{UnlessRefused}
 use Rattle.nd_out.specs.declared.out.Out.{Out}
 use Rattle.nd_out.specs.Out.{happening}
-use Rattle.nd_steps.specs.declared.packets.OutgoingPacket.{OutgoingPacket}
-use Rattle.nd_steps.specs.Packets.{frame_of}
+use Rattle.nd_steps.specs.Packets.{packet_with}
 use Rattle.nd_steps.specs.Outputs.{Tells, happenings}
 use Rattle.nd_steps.proofs.Telling.{Tells-then}
 use Rattle.nd_chronicle.specs.Answer as answers
@@ -33,7 +34,8 @@ use Rattle.nd_node.specs.EventKept.{AddsEvent}
 use Rattle.nd_node.specs.Frame.{AddsAlone}
 use Rattle.nd_node.specs.Hearing.{Keeps}
 use Rattle.nd_node.specs.NodeKept.{Stands, next_of}
-use Rattle.nd_node.specs.OutgoingPacket.{AddsPacket, AddsToNeighbour}
+use Rattle.nd_node.specs.Memory.{AddsRefusal}
+use Rattle.nd_node.specs.OutgoingPacket.{AddsByHop, AddsPacket, AddsToNeighbour}
 use Rattle.nd_node.specs.Packet.{PacketGoes}
 use Rattle.nd_node.specs.Time.{Leads}
 use Rattle.nd_node.proofs.Asking.{FullByHistory, RoomIsPlace, has_place_for, would_be_full}
@@ -124,39 +126,40 @@ module _ {R A : Type 0} (stream : R → Stream) (old new : Node R A) (x y : List
 
 -- ---- by its next hop
 
-module _ {R A : Type 0} (stream : R → Stream) (old new : Node R A) (x y : List (ℕ × Out A)) (now : ℕ) (packet : OutgoingPacket A) where
-  -- the frame of the node is that of the chronicle
-  frame_is : (to : Mac) (start : Start) (c : Chronicle) → Stands stream start old c
-      → frame_of to old.mac old.params.hop_limit packet ≡ packet_frame start now to packet.source packet.destination packet.next_header packet.payload.items ((now, Passed) ∷ c)
-  frame_is to start c s =
-      ap (λ (m : Mac). frame_of to m old.params.hop_limit packet) s.mac ∙ ap (λ (n : ℕ). frame_of to start.mac n packet) s.params.hop_limit
+module _ {R A : Type 0} (stream : R → Stream) (old new : Node R A) (x y : List (ℕ × Out A)) (now : ℕ) (packet : PacketParts) where
+  -- the destination is multicast
+  pub goes_to_all : (to : Mac) (frame : List ℕ) → frame ≡ written_frame to old.mac packet.header packet.payload → to.0 ≡ multicast_mac_of packet.header.destination.0
+      → holds multicast_prefix packet.header.destination.0 ≡ true → AddsAlone stream old new x y now (Sent frame) → AddsPacket stream old new x y now direct packet answers.Done
+  goes_to_all to frame is to_is multicast adds = record {
+    each = λ start c s le.
+        let a = adds.each start c s le in
+        let later : Chronicle = (now, Passed) ∷ c in
+        let d : Chronicle = (now, Sent frame) ∷ later in
+        let sent : d ≡ (now, Sent (frame_with start now packet (multicast_mac packet.header.destination))) ∷ later =
+        ap (λ (f : List ℕ). (now, Sent f) ∷ later) (is ∙ ap (λ (m : Mac). written_frame to m packet.header packet.payload) s.mac
+        ∙ ap (λ (bytes : List ℕ). frame_with start now packet (record { 0 = bytes })) to_is) in (
+          d,
+          subst (λ (b : Bool). MatchBool b (d ≡ (now, Sent (frame_with start now packet (multicast_mac packet.header.destination))) ∷ later)
+              (GoesIfPlaced start now (number_of packet.header.destination.0) (frame_with start now packet open_mac) later d))
+              (sym multicast) sent,
+          a.0,
+          a.1,
+          refl,
+        );
+  }
 
-  module _ (to : Mac) (frame : List ℕ) (is : frame ≡ frame_of to old.mac old.params.hop_limit packet) where
-    frame_later : (start : Start) (c : Chronicle) → Stands stream start old c
-        → frame ≡ packet_frame start now to packet.source packet.destination packet.next_header packet.payload.items ((now, Passed) ∷ c)
-    frame_later start c s = is ∙ frame_is to start c s
-
-    -- the destination is multicast
-    pub goes_to_all : to.0 ≡ multicast_mac_of packet.destination.0 → holds multicast_prefix packet.destination.0 ≡ true → AddsAlone stream old new x y now (Sent frame)
-        → AddsPacket stream old new x y now direct packet answers.Done
-    goes_to_all to_is multicast adds = record {
-      each = λ start c s le.
-          let a = adds.each start c s le in
-          let later : Chronicle = (now, Passed) ∷ c in
-          let d : Chronicle = (now, Sent frame) ∷ later in
-          let sent : d ≡ (now, Sent (packet_frame start now (multicast_mac packet.destination) packet.source packet.destination packet.next_header packet.payload.items later)) ∷ later =
-          ap (λ (f : List ℕ). (now, Sent f) ∷ later) (frame_later start c s
-          ∙ ap (λ (bytes : List ℕ). packet_frame start now (record { 0 = bytes }) packet.source packet.destination packet.next_header packet.payload.items later) to_is) in (
-            d,
-            subst (λ (b : Bool). MatchBool b
-                (d ≡ (now, Sent (packet_frame start now (multicast_mac packet.destination) packet.source packet.destination packet.next_header packet.payload.items later)) ∷ later)
-                (GoesIfPlaced start now (number_of packet.destination.0) (packet_frame start now open_mac packet.source packet.destination packet.next_header packet.payload.items later) later d))
-                (sym multicast) sent,
-            a.0,
-            a.1,
-            refl,
-          );
-    }
+  -- it goes to a neighbour: the frame of the node is that of the chronicle
+  pub goes_by : (key : ℕ) (answer : answers.Answer) → AddsToNeighbour stream old new x y now key (written_frame open_mac old.mac packet.header packet.payload) answer
+      → (start : Start) (c : Chronicle) → Stands stream start old c → last_moment start.at c ≤ now
+      → (d : Chronicle) × GoesIfPlaced start now key (frame_with start now packet open_mac) ((now, Passed) ∷ c) d × Stands stream start new d × Tells c d x y × (answer ≡ answers.answer_after d true)
+  goes_by key answer adds start c s le =
+      let a = adds.each start c s le in (
+        a.0,
+        subst (λ (m : Mac). GoesIfPlaced start now key (written_frame open_mac m packet.header packet.payload) ((now, Passed) ∷ c) a.0) s.mac a.1,
+        a.2,
+        a.3,
+        a.4 true,
+      )
 
 -- ---- the event
 
@@ -165,8 +168,21 @@ pub hop_later : (start : Start) (role : Role) (c : Chronicle) (now : ℕ) (desti
 hop_later start Host c now destination next h = next_later start c now destination next h
 hop_later start Router c now destination next h = h
 
--- it is refused
+module _ {R A : Type 0} (stream : R → Stream) (old new : Node R A) (x y : List (ℕ × Out A)) (now : ℕ) (packet : PacketParts) where
+  -- it goes to the next hop that it has
+  pub goes_to_hop : (mid : Node R A) (hop : NextHop) {answer : answers.Answer} → ((start : Start) (c : Chronicle) → Stands stream start old c → Stands stream start mid c)
+      → ((start : Start) (c : Chronicle) → Stands stream start old c → last_moment start.at c ≤ now → IsHopOf start start.role c now packet.header.destination hop)
+      → AddsPacket stream mid new x y now hop packet answer → AddsByHop stream old new x y now packet answer
+  goes_to_hop mid hop {answer} stands next adds = record {
+    each = λ start c s le.
+        let a = adds.each start c (stands start c s) le in
+        (a.0, (hop, hop_later start start.role c now packet.header.destination hop (next start c s le), a.1), a.2, a.3, a.4);
+  }
+
+-- ---- a packet of the upper layer
+
 module _ {R A : Type 0} (stream : R → Stream) (old new : Node R A) (x y : List (ℕ × Out A)) (now : ℕ) (source destination : Addr) (next_header : ℕ) (payload : List ℕ) where
+  -- it is refused
   pub not_sent : (refusal : Refusal) → ((start : Start) (c : Chronicle) → Stands stream start old c → Some refusal ≡ refusal_of_packet start now source payload c)
       → AddsAlone stream old new x y now (Refused refusal) → AddsEvent stream old new x y now (events.Sends source destination next_header payload) (answers.Refused refusal)
   not_sent refusal says adds = record {
@@ -175,35 +191,91 @@ module _ {R A : Type 0} (stream : R → Stream) (old new : Node R A) (x y : List
         let later : Chronicle = (now, Passed) ∷ c in
         let d : Chronicle = (now, Refused refusal) ∷ later in (
           d,
-          subst (λ (o : Option Refusal). UnlessRefused now o (λ e. (next : NextHop) × IsHopOf start start.role later now destination next
-              × PacketAdds start now next source destination next_header payload later e) later d) (says start c s) refl,
+          subst (λ (o : Option Refusal). UnlessRefused now o (HopAdds start now (packet_sent start now source destination next_header payload later) later) later d) (says start c s) refl,
           a.0,
           a.1,
           refl,
         );
   }
 
-module _ {R A : Type 0} (stream : R → Stream) (old new : Node R A) (x y : List (ℕ × Out A)) (now : ℕ) (packet : OutgoingPacket A) where
+  -- the node gives it the hop limit in force
+  sent_packet : (start : Start) (c : Chronicle) → Stands stream start old c
+      → packet_with old.params.hop_limit source destination next_header payload ≡ packet_sent start now source destination next_header payload ((now, Passed) ∷ c)
+  sent_packet start c s = ap (λ (n : ℕ). packet_with n source destination next_header payload) s.params.hop_limit
+
   -- it goes to its next hop
-  pub sent : (mid : Node R A) (hop : NextHop) {answer : answers.Answer} → ((start : Start) (c : Chronicle) → Stands stream start old c → None ≡ refusal_of_packet start now packet.source packet.payload.items c)
-      → ((start : Start) (c : Chronicle) → Stands stream start old c → Stands stream start mid c)
-      → ((start : Start) (c : Chronicle) → Stands stream start old c → last_moment start.at c ≤ now → IsHopOf start start.role c now packet.destination hop)
-      → AddsPacket stream mid new x y now hop packet answer → AddsEvent stream old new x y now (events.Sends packet.source packet.destination packet.next_header packet.payload.items) answer
-  sent mid hop {answer} says stands next adds = record {
+  pub sent : (packet : PacketParts) {answer : answers.Answer} → packet ≡ packet_with old.params.hop_limit source destination next_header payload
+      → ((start : Start) (c : Chronicle) → Stands stream start old c → None ≡ refusal_of_packet start now source payload c)
+      → AddsByHop stream old new x y now packet answer → AddsEvent stream old new x y now (events.Sends source destination next_header payload) answer
+  sent packet {answer} is says adds = record {
     each = λ start c s le.
-        let a = adds.each start c (stands start c s) le in
+        let a = adds.each start c s le in
         let later : Chronicle = (now, Passed) ∷ c in
-        let d : Chronicle = a.0 in (
-          d,
-          subst (λ (o : Option Refusal). UnlessRefused now o (λ e. (next : NextHop) × IsHopOf start start.role later now packet.destination next
-              × PacketAdds start now next packet.source packet.destination packet.next_header packet.payload.items later e) later d) (says start c s)
-              (hop, hop_later start start.role c now packet.destination hop (next start c s le), a.1),
+        let hop : HopAdds start now (packet_sent start now source destination next_header payload later) later a.0 =
+        subst (λ (p : PacketParts). HopAdds start now p later a.0) (is ∙ sent_packet start c s) a.1 in (
+          a.0,
+          subst (λ (o : Option Refusal). UnlessRefused now o (HopAdds start now (packet_sent start now source destination next_header payload later) later) later a.0) (says start c s) hop,
           a.2,
           a.3,
           a.4,
         );
   }
 
--- a packet that is not refused isn't refused for a reason
-pub refused_left : (o : Option Refusal) (refusal : Refusal) → None ≡ o → o ≡ Some refusal → ⊥
-refused_left o refusal none is = let never : ⊥ = cc in never
+  -- it adds a refusal alone where it does so by its next hop
+  pub sent_refused : (packet : PacketParts) → packet ≡ packet_with old.params.hop_limit source destination next_header payload
+      → (start : Start) (c : Chronicle) → Stands stream start old c → None ≡ refusal_of_packet start now source payload c
+      → AddsRefusal now c (EventAdds start now (events.Sends source destination next_header payload)) → AddsRefusal now c (HopAdds start now packet)
+  sent_refused packet is start c s says adds =
+      let later : Chronicle = (now, Passed) ∷ c in
+      let hop = packet_sent start now source destination next_header payload later in (
+        adds.0,
+        subst (λ (p : PacketParts). HopAdds start now p later ((now, Refused adds.0) ∷ later)) (sym (is ∙ sent_packet start c s))
+            (subst (λ (o : Option Refusal). UnlessRefused now o (HopAdds start now hop later) later ((now, Refused adds.0) ∷ later)) (sym says) adds.1),
+      )
+
+-- a packet that is refused adds its refusal alone
+pub send_refused : (start : Start) (now : ℕ) (source destination : Addr) (next_header : ℕ) (payload : List ℕ) (c : Chronicle) (refusal : Refusal) → refusal_of_packet start now source payload c ≡ Some refusal
+    → AddsRefusal now c (EventAdds start now (events.Sends source destination next_header payload))
+send_refused start now source destination next_header payload c refusal is =
+    let later : Chronicle = (now, Passed) ∷ c in (
+      refusal,
+      subst (λ (o : Option Refusal). UnlessRefused now o (HopAdds start now (packet_sent start now source destination next_header payload later) later) later ((now, Refused refusal) ∷ later)) (sym is) refl,
+    )
+
+-- ---- a whole packet
+
+-- where the link-local address is assigned, the other reasons are asked
+pub up_refuses : (source : Addr) (disabled up may long : Bool) → None ≡ cond disabled (Some Disabled) (cond up None (Some Tentative))
+    → cond disabled (Some Disabled) (cond up (cond may (cond long (Some TooLong) None) (Some (NotOurs source))) (Some Tentative)) ≡ cond may (cond long (Some TooLong) None) (Some (NotOurs source))
+up_refuses source true up may long none = absurd (let no : ⊥ = cc in no)
+up_refuses source false true may long none = refl
+up_refuses source false false may long none = absurd (let no : ⊥ = cc in no)
+
+module _ {R A : Type 0} (stream : R → Stream) (old new : Node R A) (x y : List (ℕ × Out A)) (now : ℕ) (packet : PacketParts) where
+  -- it is refused
+  pub not_carried : (refusal : Refusal) → ((start : Start) (c : Chronicle) → Stands stream start old c → Some refusal ≡ refusal_of_carried start now packet c)
+      → AddsAlone stream old new x y now (Refused refusal) → AddsEvent stream old new x y now (events.Carries packet) (answers.Refused refusal)
+  not_carried refusal says adds = record {
+    each = λ start c s le.
+        let a = adds.each start c s le in
+        let later : Chronicle = (now, Passed) ∷ c in
+        let d : Chronicle = (now, Refused refusal) ∷ later in
+        (d, subst (λ (o : Option Refusal). UnlessRefused now o (HopAdds start now packet later) later d) (says start c s) refl, a.0, a.1, refl);
+  }
+
+  -- it goes to its next hop
+  pub carried : {answer : answers.Answer} → ((start : Start) (c : Chronicle) → Stands stream start old c → None ≡ refusal_of_carried start now packet c)
+      → AddsByHop stream old new x y now packet answer → AddsEvent stream old new x y now (events.Carries packet) answer
+  carried {answer} says adds = record {
+    each = λ start c s le.
+        let a = adds.each start c s le in
+        let later : Chronicle = (now, Passed) ∷ c in
+        (a.0, subst (λ (o : Option Refusal). UnlessRefused now o (HopAdds start now packet later) later a.0) (says start c s) a.1, a.2, a.3, a.4);
+  }
+
+  -- it adds a refusal alone where it does so by its next hop
+  pub carried_refused : (start : Start) (c : Chronicle) → None ≡ refusal_of_carried start now packet c
+      → AddsRefusal now c (EventAdds start now (events.Carries packet)) → AddsRefusal now c (HopAdds start now packet)
+  carried_refused start c says adds =
+      let later : Chronicle = (now, Passed) ∷ c in
+      (adds.0, subst (λ (o : Option Refusal). UnlessRefused now o (HopAdds start now packet later) later ((now, Refused adds.0) ∷ later)) (sym says) adds.1)

@@ -29,7 +29,7 @@ use Rattle.nd_chronicle.specs.Solicited.{outcome_at}
 use Rattle.nd_chronicle.specs.Happening.{Chronicle, Full, Heard, Limit, Loss, Lost, Passed, Refusal, Refused, Forgotten, Neighbour, Sent, Unreachable}
 use Rattle.nd_chronicle.specs.Advertising.{planning, wants_answer}
 use Rattle.nd_chronicle.specs.Event as events
-use Rattle.nd_chronicle.specs.Event.{EventAdds, HeardAdds, InPart, MessageAdds, PacketAdds, packet_frame, refusal_of_packet, VerdictAdds, FrameAdds, packet_bytes, Clearable, clearing}
+use Rattle.nd_chronicle.specs.Event.{EventAdds, HeardAdds, InPart, MessageAdds, HopAdds, PacketAdds, frame_with, VerdictAdds, FrameAdds, packet_bytes, Clearable, clearing}
 use Rattle.nd_chronicle.specs.Histories.{neighbour_history, route_history}
 use Rattle.nd_chronicle.specs.InForce.{base_reachable_time, retrans_timer}
 use Rattle.nd_chronicle.specs.Message.{failing_for, leaving, makes_way, releasing, said, sending_if_known, telling_if_known}
@@ -210,35 +210,24 @@ module _ {R A : Type 0} (stream : R → Stream) (start : Start) (node : Node R A
       let never : ⊥ = cc in
       never
 
--- ---- a packet of the upper layer
+-- ---- a packet that is to be sent
 
-module _ (start : Start) (now : ℕ) (source destination : Addr) (next_header : ℕ) (payload : List ℕ) (c : Chronicle) where
+module _ (start : Start) (now : ℕ) (packet : PacketParts) (c : Chronicle) where
   -- one that goes to its destination, which isn't multicast, goes as to a neighbour
-  pub to_destination : holds multicast_prefix destination.0 ≡ false → AddsRefusal now c (PacketAdds start now direct source destination next_header payload)
-      → AddsRefusal now c (GoesIfPlaced start now (number_of destination.0) (packet_frame start now open_mac source destination next_header payload ((now, Passed) ∷ c)))
-  to_destination single adds = (adds.0, goes _ _ (holds multicast_prefix destination.0) single adds.1)
+  pub to_destination : holds multicast_prefix packet.header.destination.0 ≡ false → AddsRefusal now c (PacketAdds start now direct packet)
+      → AddsRefusal now c (GoesIfPlaced start now (number_of packet.header.destination.0) (frame_with start now packet open_mac))
+  to_destination single adds = (adds.0, goes _ _ (holds multicast_prefix packet.header.destination.0) single adds.1)
     where
       goes : (Others Goes' : Type 0) (multicast : Bool) → multicast ≡ false → MatchBool multicast Others Goes' → Goes'
       goes Others Goes' true is h = let never : ⊥ = cc in absurd never
       goes Others Goes' false is h = h
 
-  -- one that isn't refused itself goes to its next hop
-  pub to_hop : (role : Role) (hop : NextHop) → role ≡ start.role → None ≡ refusal_of_packet start now source payload c → IsHopOf start role ((now, Passed) ∷ c) now destination hop
-      → AddsRefusal now c (EventAdds start now (events.Sends source destination next_header payload)) → AddsRefusal now c (PacketAdds start now hop source destination next_header payload)
-  to_hop role hop role_is says next adds = (adds.0, by (refusal_of_packet start now source payload ((now, Passed) ∷ c)) says adds.1)
-    where
-      later : Chronicle
-      later = (now, Passed) ∷ c
-
-      refused : Chronicle
-      refused = (now, Refused adds.0) ∷ later
-
-      by : (o : Option Refusal) → None ≡ o → UnlessRefused now o (λ e. (next' : NextHop) × IsHopOf start start.role later now destination next' × PacketAdds start now next' source destination next_header payload later e) later refused
-          → PacketAdds start now hop source destination next_header payload later refused
-      by None is h =
-          let same : h.0 ≡ hop = one_hop later now start start.role destination h.0 hop h.1 (subst (λ (r : Role). IsHopOf start r later now destination hop) role_is next) in
-          subst (λ (n : NextHop). PacketAdds start now n source destination next_header payload later refused) same h.2
-      by (Some refusal) is h = let never : ⊥ = cc in absurd never
+  -- it goes to the next hop that it has
+  pub to_hop : (hop : NextHop) → IsHopOf start start.role ((now, Passed) ∷ c) now packet.header.destination hop → AddsRefusal now c (HopAdds start now packet) → AddsRefusal now c (PacketAdds start now hop packet)
+  to_hop hop next adds =
+      let later : Chronicle = (now, Passed) ∷ c in
+      let same : adds.1.0 ≡ hop = one_hop later now start start.role packet.header.destination adds.1.0 hop adds.1.1 next in
+      (adds.0, subst (λ (n : NextHop). PacketAdds start now n packet later ((now, Refused adds.0) ∷ later)) same adds.1.2)
 
 -- ---- a caller that keeps its packets
 

@@ -7,12 +7,13 @@ use Rattle.nd_chronicle.specs.Shown as shown
 use Rattle.nd_chronicle.specs.Event as events
 use Rattle.nd_chronicle.specs.Answer.{Answer, answer_to}
 use Rattle.nd_chronicle.specs.History.{Follows, Runs}
+use Rattle.nd_steps.specs.Packets.{whole_parts}
 use Rattle.nd_node.specs.declared.clearing.Clearable.{Clearable}
 use Rattle.nd_node.specs.declared.clearing.Clearable.TheVariants as clearables
 use Rattle.nd_node.specs.declared.shown.Table.{Table}
 use Rattle.nd_node.specs.declared.shown.Table.TheVariants.{Neighbours, Routers, Prefixes, Addresses, Dns, Redirects, Params, Advertise, Routes}
 use Rattle.nd_node.specs.declared.event.Event.{Event}
-use Rattle.nd_node.specs.declared.event.Event.TheVariants.{Passes, Receives, Sends, Resolves, Confirms, Forgets, Clears, Advertises, Offers, PutsRoute, Stops, Sets, Withdraws}
+use Rattle.nd_node.specs.declared.event.Event.TheVariants.{Passes, Receives, Sends, Carries, Resolves, Confirms, Forgets, Clears, Advertises, Offers, PutsRoute, Stops, Sets, Withdraws}
 use Rattle.nd_node.specs.declared.request.Request.{Request}
 use Rattle.nd_node.specs.declared.request.Request.TheVariants as requests
 use Rattle.nd_node.specs.Time.{Onward}
@@ -39,6 +40,7 @@ abbrev pub event_of : {A : Type 0} → Event A → events.Event
 event_of Passes = events.Passes
 event_of (Receives frame) = events.Receives frame.items
 event_of (Sends packet) = events.Sends packet.source packet.destination packet.next_header packet.payload.items
+event_of (Carries packet) = events.Carries (whole_parts packet)
 event_of (Resolves destination) = events.Resolves destination
 event_of (Confirms neighbour) = events.Confirms neighbour
 event_of (Forgets neighbour) = events.Forgets neighbour

@@ -1,6 +1,7 @@
 //! Events: what a node receives from outside, and what it does then.
 
 ghost use Rattle.std.specs.Prelude.{◌≡◌, ◌-◌, ◌<◌, ◌≤◌, Some, IsOk, OnOk, OnErr, IfOk};
+ghost use Rattle.nd_addr.specs.Ip6.{packet_parts};
 ghost use Rattle.nd_table.specs.Moment.{IsMoment};
 ghost use Rattle.nd_chronicle.specs.Event as events;
 ghost use Rattle.nd_chronicle.specs.Event.{EventAdds, refusal_of_packet};
@@ -16,12 +17,12 @@ ghost use Rattle.nd_node.specs.Answer.{answer_of};
 use crate::answer::Answer;
 use crate::clearing::Clearable;
 use crate::node::Node;
-use nd_addr::Addr;
+use nd_addr::{Addr, Ip6Ref};
 use nd_advertiser::{Config, Offer};
 use nd_forwarding::KeptRoute;
 use nd_out::{Out, Reports};
 use nd_slaac::OwnAddress;
-use nd_steps::OutgoingPacket;
+use nd_steps::{Datagram, OutgoingPacket, WholePacket};
 use rand_core::Rng;
 use std::alloc::{AllocError, Allocator};
 
@@ -34,6 +35,8 @@ pub enum Event<A: Allocator> {
     Receives(Vec<u8, A>),
     /// The upper layer sends a packet (RFC 4861, section 5.2).
     Sends(OutgoingPacket<A>),
+    /// A stack passes a whole packet, which it has built or received on another interface, to be sent as it is.
+    Carries(WholePacket<A>),
     /// A caller that keeps its packets asks where those to a destination go (RFC 4861, sections 5.2, 7.2.2 and 7.3.3).
     Resolves(Addr),
     /// An upper layer confirms that a neighbour is reachable (RFC 4861, section 7.3.1).
@@ -114,8 +117,8 @@ impl<R: Rng + Drop, A: Allocator + Clone> Node<R, A> {
         self.judge_frame(now, frame, outs)
     }
 
-    /// Sends a packet of the upper layer whose payload the caller keeps (RFC 4861, section 5.2): the event `Sends`, with a copy of the payload that is
-    /// made once the packet is not refused. The node first does all that is due up to `now`, in milliseconds. Returns as `event` does.
+    /// Sends a packet of the upper layer whose payload the caller keeps (RFC 4861, section 5.2): the event `Sends` without a copy of the payload. The node
+    /// first does all that is due up to `now`, in milliseconds. Returns as `event` does.
     ///
     /// Returns an error if out of memory: a part of what is due may have been done and reported then, and the packet has changed nothing.
     pub fn send(
@@ -140,7 +143,38 @@ impl<R: Rng + Drop, A: Allocator + Clone> Node<R, A> {
             return self.refuse_past(now, outs);
         }
         self.settle(now, outs)?;
-        self.send_copied(now, source, destination, next_header, payload, outs)
+        let packet = Datagram {
+            source,
+            destination,
+            next_header,
+            payload,
+        };
+        self.send_packet(now, &packet, outs)
+    }
+
+    /// Sends a whole packet that the caller keeps, as it is: the event `Carries` without a copy of the packet. The node first does all that is due up to
+    /// `now`, in milliseconds. Returns as `event` does.
+    ///
+    /// Returns an error if out of memory: a part of what is due may have been done and reported then, and the packet has changed nothing.
+    pub fn carry(
+        &mut self,
+        now: u64,
+        packet: &Ip6Ref<'_>,
+        outs: &mut Reports<A>,
+    ) -> Result<Answer, AllocError>
+        requires { IsMoment now }
+        ensures follows { IfOk result (λ answer. Leads R.stream self.old self.new outs.old.items outs.new.items (FollowsBy now (events.Carries (packet_parts packet.now)) (answer_of answer))) }
+        ensures onward { OnErr result (Leads R.stream self.old self.new outs.old.items outs.new.items (Onward now)) }
+
+        // As `event`, if it is too late, or if nothing is due up to `now` and the packet is refused.
+        ensures late { now < self.old.last → 0 < outs.old.free → IsOk result }
+        ensures refused { (start : Start) (c : Chronicle) → Stands R.stream start self.old c → last_moment start.at c ≤ now → now < next_of self.old → AddsRefusal now c (EventAdds start now (events.Carries (packet_parts packet.now))) → 0 < outs.old.free → IsOk result }
+    {
+        if self.is_past(now) {
+            return self.refuse_past(now, outs);
+        }
+        self.settle(now, outs)?;
+        self.carry_packet(now, packet, outs)
     }
 
     /// Passes events to the node in their order, each with its moment, in milliseconds.
@@ -208,7 +242,8 @@ impl<R: Rng + Drop, A: Allocator + Clone> Node<R, A> {
                 Ok(Answer::Done)
             }
             Event::Receives(frame) => self.judge_frame(now, frame, outs),
-            Event::Sends(outgoing) => self.send_packet(now, outgoing, outs),
+            Event::Sends(outgoing) => self.send_packet(now, &outgoing.as_datagram(), outs),
+            Event::Carries(packet) => self.carry_packet(now, &packet.as_packet(), outs),
             Event::Resolves(destination) => self.resolve(now, *destination, outs),
             Event::Confirms(neighbour) => {
                 self.confirm(now, *neighbour);

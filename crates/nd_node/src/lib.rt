@@ -96,7 +96,7 @@ pub use counts::Counts;
 pub use event::Event;
 pub use frame::Reception;
 pub use limits::{Limits, USUAL_NEIGHBOURS, USUAL_ROUTERS};
-pub use nd_steps::{OutgoingPacket, Turned};
+pub use nd_steps::{Datagram, OutgoingPacket, Turned, WholePacket, read_whole};
 pub use node::Node;
 pub use path::{Path, TimedPath};
 pub use policies::Policies;

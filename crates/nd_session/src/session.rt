@@ -29,7 +29,7 @@ ghost use Rattle.std.proofs.Props.{props};
 use crate::paths::Paths;
 use nd_addr::{Addr, Mac, Role};
 use nd_compose::FrameRoom;
-use nd_node::{Answer, Event, Limits, Node, Policies, Reception};
+use nd_node::{Answer, Datagram, Event, Limits, Node, Policies, Reception};
 use nd_out::{Out, Reports};
 use nd_random::Source;
 use nd_slaac::Transmits;
@@ -242,8 +242,7 @@ impl Session {
         answer_in(heard)
     }
 
-    /// Sends a packet of the upper layer at `now`, in milliseconds (RFC 4861, section 5.2). `payload` is copied once the packet is not refused.
-    /// Otherwise as `event`.
+    /// Sends a packet of the upper layer at `now`, in milliseconds (RFC 4861, section 5.2), without a copy of `payload`. Otherwise as `event`.
     #[inline(always)]
     pub fn send(
         &mut self,
@@ -266,14 +265,13 @@ impl Session {
         }
         self.settle(now)?;
         self.paths.forget();
-        self.node.send_copied(
-            now,
+        let packet = Datagram {
             source,
             destination,
             next_header,
             payload,
-            &mut self.reports,
-        )
+        };
+        self.node.send_packet(now, &packet, &mut self.reports)
     }
 
     /// Returns the oldest report that the caller has not taken yet, with its moment in milliseconds.

@@ -1,16 +1,28 @@
--- The frame of a packet of the upper layer that is to be sent (RFC 4861, section 5.2).
-use Rattle.std.specs.Prelude.{ℕ, List}
-use Rattle.nd_addr.specs.declared.mac.Mac.{Mac}
-use Rattle.nd_addr.specs.Frame.{written_frame}
-use Rattle.nd_steps.specs.declared.packets.OutgoingPacket.{OutgoingPacket}
+-- The packets that a node is to send: one of the upper layer, to which it gives a header (RFC 4861, section 5.2), and a whole one.
+use Rattle.std.specs.Prelude.{◌≡◌, ℕ, ◌+◌, List, length, Ok}
+use Rattle.nd_addr.specs.declared.addr.Addr.{Addr}
+use Rattle.nd_addr.specs.Ip6.{PacketParts, ipv6_header_length, packet_of}
+use Rattle.nd_steps.specs.declared.packets.WholePacket.{WholePacket}
 
--- the frame of the packet, with a hop limit (RFC 8200, section 3)
-abbrev pub frame_of : {A : Type 0} → Mac → Mac → ℕ → OutgoingPacket A → List ℕ
-frame_of to from hop_limit packet = written_frame to from (record {
-  traffic_class = 0;
-  flow_label = 0;
-  next_header = packet.next_header;
-  hop_limit = hop_limit;
-  source = packet.source;
-  destination = packet.destination;
-}) packet.payload.items
+-- the packet with the header that the node gives it, and a hop limit (RFC 8200, section 3)
+abbrev pub packet_with : ℕ → Addr → Addr → ℕ → List ℕ → PacketParts
+packet_with hop_limit source destination next_header payload = record {
+  header = record {
+    traffic_class = 0;
+    flow_label = 0;
+    next_header = next_header;
+    hop_limit = hop_limit;
+    source = source;
+    destination = destination;
+  };
+  payload = payload;
+}
+
+-- a whole packet without where its payload lies
+abbrev pub whole_parts : {A : Type 0} → WholePacket A → PacketParts
+whole_parts packet = record { header = packet.header; payload = packet.payload.items }
+
+-- the bytes are one packet, and nothing behind it
+pub record IsWholePacket (bytes : List ℕ) (packet : PacketParts) : Type 0 where
+  pub read : packet_of bytes ≡ Ok packet
+  pub all : length bytes ≡ ipv6_header_length + length packet.payload

@@ -6,7 +6,7 @@
 //!   next-hop determination asks in `next_hop`; `prefix_list`; `default_router_list`.
 //! - The rest of what a host keeps: `own_addresses`, `parameters`, `dns`, `solicit_routers`.
 //! - What only a router has: `router_tables`, and a packet in transit in `transit`.
-//! - Packets of the upper layer in `packets`, random delays and times in `draws`, and what is due in `turned` with its report in `due_rows`.
+//! - Packets that are to be sent in `packets`, random delays and times in `draws`, and what is due in `turned` with its report in `due_rows`.
 //!
 //! Each moment, `now` or `at`, is in milliseconds; the caller chooses where they begin. What is reported is appended to `outs`, with its moment,
 //! into room that was made before: only `ready_for`, `ready_for_two` and the functions that make a frame take memory.
@@ -51,7 +51,9 @@ pub use own_addresses::{
     hear_conflict, hear_holder, hear_prefix_options, is_awake, is_to_nodes, is_to_routers,
     link_local, takes_target,
 };
-pub use packets::{OutgoingPacket, is_too_long, packet_in};
+pub use packets::{
+    Datagram, OutgoingPacket, WholePacket, frame_to, is_too_long, packet_in, read_whole,
+};
 pub use parameters::{hear_parameters, redraw_reachable_time, times_in_force};
 pub use parts::{news_in_place, tell_ignored};
 pub use prefix_list::hear_prefixes;

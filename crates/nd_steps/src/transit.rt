@@ -13,30 +13,13 @@ ghost use Rattle.nd_chronicle.specs.Histories.{neighbour_history};
 ghost use Rattle.nd_chronicle.specs.Forwarding.{better_hop_frame};
 ghost use Rattle.nd_steps.specs.Transit.{mac_in};
 
-use nd_addr::{Addr, Ip6, Ip6Ref, Mac, write_frame};
+use crate::packets::frame_to;
+use nd_addr::{Addr, Ip6, Ip6Ref, Mac};
 use nd_compose::{OPEN_MAC, redirect_frame};
 use nd_message::Redirect;
 use nd_neighbour::Cache;
 use nd_packet::Packet;
 use std::alloc::{AllocError, Allocator};
-
-/// Returns the frame of a packet from `mac` to an Ethernet address that is still open.
-fn frame_from<A: Allocator>(
-    alloc: A,
-    mac: Mac,
-    header: &Ip6,
-    payload: &[u8],
-) -> Result<Packet<A>, AllocError>
-    requires { length payload.now ≤ 65535 }
-    ensures { IfOk result (λ frame. frame ≡ written_frame open_mac mac header.now payload.now) }
-{
-    let _mac = mac.as_bytes();
-    let frame = write_frame(alloc, OPEN_MAC, mac, header, payload)?;
-    match Packet::new(frame) {
-        Some(packet) => Ok(packet),
-        None => unreachable!(),
-    }
-}
 
 /// Returns the frame of a packet in transit as received, from the node's Ethernet address to one that is still open. The node reports the packet so
 /// if it isn't sent on (RFC 2464, section 3). Returns an error if out of memory.
@@ -48,7 +31,7 @@ pub fn frame_as_it_came<A: Allocator>(
     requires { length packet.now.payload.now ≤ 65535 }
     ensures { IfOk result (λ frame. frame ≡ written_frame open_mac mac (packet_parts packet.now).header (packet_parts packet.now).payload) }
 {
-    frame_from(alloc, mac, &packet.header, packet.payload)
+    frame_to(alloc, OPEN_MAC, mac, packet)
 }
 
 /// Returns the frame of a packet in transit as it is sent on, from the node's Ethernet address to one that is still open (RFC 8200, section 3). Its
@@ -66,7 +49,11 @@ pub fn frame_sent_on<A: Allocator>(
         hop_limit: packet.header.hop_limit.saturating_sub(1),
         ..packet.header
     };
-    frame_from(alloc, mac, &header, packet.payload)
+    let next = Ip6Ref {
+        header,
+        payload: packet.payload,
+    };
+    frame_to(alloc, OPEN_MAC, mac, &next)
 }
 
 /// Returns the link-layer address of a neighbour, if it is known.

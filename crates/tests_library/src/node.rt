@@ -67,6 +67,58 @@ fn received(rt: &(impl Abort + AllocGlobal), bytes: &[u8]) -> Event<Global> {
     Event::Receives(frame)
 }
 
+/// A whole packet from the host's link-local address to ff02::5, with a hop limit of 1.
+const TO_GROUP: [u8; 48] = [
+    0x60, 0x00, 0x00, 0x00, 0x00, 0x08, 0x00, 0x01, 0xfe, 0x80, 0x00, 0x00, 0x00, 0x00, 0x00, 0x00,
+    0x36, 0x56, 0x78, 0xff, 0xfe, 0x9a, 0xbc, 0xde, 0xff, 0x02, 0x00, 0x00, 0x00, 0x00, 0x00, 0x00,
+    0x00, 0x00, 0x00, 0x00, 0x00, 0x00, 0x00, 0x05, 0x3a, 0x00, 0x05, 0x02, 0x00, 0x00, 0x01, 0x00,
+];
+
+/// Carries a whole packet.
+fn carried(rt: &(impl Abort + AllocGlobal), bytes: &[u8]) -> Event<Global> {
+    let Some(packet) = read_whole(bytes) else {
+        panic!(rt; "it is no whole packet");
+    };
+    let mut payload = Vec::new(rt.alloc());
+    payload
+        .extend_from_slice(packet.payload)
+        .expect(rt, "memory");
+    Event::Carries(WholePacket {
+        header: packet.header,
+        payload,
+    })
+}
+
+/// A whole packet goes as it is, with its hop limit, and one from another source doesn't go at a host.
+#[test]
+fn a_whole_packet_goes_as_it_is(rt: HostRuntime) {
+    let mut of_another = TO_GROUP;
+    of_another[23] = 0;
+    let events = [
+        (3000, carried(&rt, &TO_GROUP)),
+        (3000, carried(&rt, &of_another)),
+    ];
+    tells(
+        &rt,
+        &events,
+        "3000 tx 3333000000053456789abcde86dd6000000000080001fe80000000000000365678fffe9abcdeff0200000000000000000000000000053a00050200000100\n3000 refused not-ours fe80::3656:78ff:fe9a:bc00\n",
+    );
+}
+
+/// Bytes are a whole packet if they have version 6, a header, and as many bytes behind it as its payload length says (RFC 8200, section 3).
+#[test]
+fn a_packet_is_whole_to_the_byte(rt: HostRuntime) {
+    assert!(rt; read_whole(&TO_GROUP).is_some());
+    assert!(rt; read_whole(&TO_GROUP[..47]).is_none());
+    assert!(rt; read_whole(&TO_GROUP[..39]).is_none());
+    let mut longer = [0; 49];
+    longer[..48].copy_from_slice(&TO_GROUP);
+    assert!(rt; read_whole(&longer).is_none());
+    let mut of_version_4 = TO_GROUP;
+    of_version_4[0] = 0x45;
+    assert!(rt; read_whole(&of_version_4).is_none());
+}
+
 /// A router, and a host that doesn't answer.
 const ROUTER: Addr = Addr([0xfe, 0x80, 0, 0, 0, 0, 0, 0, 0, 0, 0, 0xff, 0xfe, 0, 0, 1]);
 
