@@ -1,9 +1,12 @@
 -- Each text spells what a command acts on, or doesn't.
-use Rattle.std.proofs.Common.{◌≡◌, ℕ, ◌^◌, Bool, true, false, List, [], ◌∷◌, Some, None, sym, ◌∙◌, ap, subst, inl, inr, lit≤}
-use Rattle.std.specs.Prelude.{codes}
+use Rattle.std.proofs.Common.{◌≡◌, ℕ, ◌^◌, Bool, true, false, List, [], ◌∷◌, Some, None, sym, ◌∙◌, ap, subst, inl, inr, lit≤, refl}
+use Rattle.std.specs.Prelude.{Result, Ok, Err, ◌+◌, codes, length}
+use Rattle.std.proofs.lemmas.Bool.Decides.{eqb_tells}
 use Rattle.nd_text.specs.Flags.{flags_text}
 use Rattle.nd_text.proofs.AddressTexts.{some_option}
 use Rattle.nd_addr.specs.declared.addr.Addr.{Addr}
+use Rattle.nd_addr.specs.declared.why.Why.{Why}
+use Rattle.nd_addr.specs.Ip6.{PacketParts, packet_of}
 use Rattle.nd_addr.specs.declared.preference.Preference.{Preference}
 use Rattle.nd_addr.specs.declared.preference.Preference.TheVariants.{High, Medium, Low}
 use Rattle.nd_addr.specs.Prefix.{PrefixValue}
@@ -11,6 +14,7 @@ use Rattle.nd_decode.specs.RouterFlags.{router_flags_text}
 use Rattle.nd_decode.specs.declared.prefix_info.PrefixInfo.{PrefixInfo}
 use Rattle.nd_advertiser.specs.Config.{Settings, config_fault}
 use Rattle.nd_advertiser.specs.Offer.{offer_fault}
+use Rattle.nd_steps.specs.Packets.{IsWholePacket}
 use Rattle.nd_forwarding.specs.declared.route.Route as routes
 use Rattle.nd_forwarding.specs.declared.route.Route.TheVariants.{Direct, Via}
 use Rattle.nd_slaac.specs.ByHand.{AddressByHand, may_be_own}
@@ -22,11 +26,12 @@ use Rattle.ndpctl_run.specs.Bytes.{IsBytesWord}
 use Rattle.ndpctl_run.specs.Number.{IsNumberOr}
 use Rattle.ndpctl_run.specs.Offer.{default_valid_lifetime, default_preferred_lifetime, SpellOffer, IsOffer}
 use Rattle.ndpctl_run.specs.OwnAddress.{endless_lifetime, SpellOwnAddress, AreOwnAddressWords}
-use Rattle.ndpctl_run.specs.Packet.{IsNextHeaderWord, IsPacket}
+use Rattle.ndpctl_run.specs.Packet.{IsNextHeaderWord, IsPacket, IsPacketWord}
 use Rattle.ndpctl_run.specs.Route.{IsWay, SpellRoute, IsRoute}
 use Rattle.ndpctl_run.specs.Settings.{default_max_interval, default_lifetime, SpellSettings, AreSettings}
 use Rattle.ndpctl_run.specs.Table.{table_word, clearable_word}
 use Rattle.ndpctl_run.specs.Words.{Parts, words_of}
+use Rattle.ndpctl_run.proofs.BytesWords.{one_bytes}
 use Rattle.ndpctl_run.proofs.NumberWords.{one_number_or}
 use Rattle.ndpctl_run.proofs.OfferWords as offers
 use Rattle.ndpctl_run.proofs.OwnAddressWords as own_addresses
@@ -330,3 +335,23 @@ middle_or words = elim (parts_or (λ word a. IsAddressWord word a) IsLast addres
 
 pub packet_or : (words : List ℕ) → Decided ((source : Addr) × ((middle : Addr × (ℕ × List ℕ)) × IsPacket words source middle.0 middle.1.0 middle.1.1))
 packet_or words = parts_or (λ word a. IsAddressWord word a) IsMiddle address_or middle_or words
+
+-- ---- a whole packet
+
+whole_or : (bytes : List ℕ) (read : Result PacketParts Why) → packet_of bytes ≡ read → Decided ((packet : PacketParts) × IsWholePacket bytes packet)
+whole_or bytes (Err why) is = inr (λ p. let other = sym is ∙ p.1.read in absurd (let no : ⊥ = cc in no))
+whole_or bytes (Ok packet) is = elim (eqb_tells (length bytes) (40 + length packet.payload)) [
+  | inl e ↦ inl (packet, record { read = is; all = e.1 })
+  | inr d ↦ inr (λ p.
+      let same : packet ≡ p.0 = (let both = sym is ∙ p.1.read in cc) in
+      d.1 (p.1.all ∙ ap (λ (q : PacketParts). 40 + length q.payload) (sym same)))
+]
+
+pub whole_packet_or : (word : List ℕ) → Decided ((packet : PacketParts) × IsPacketWord word packet)
+whole_packet_or word = elim (bytes_or word) [
+  | inr none ↦ inr (λ p. none (p.1.0, p.1.1))
+  | inl b ↦ elim (whole_or b.0 (packet_of b.0) refl) [
+    | inl w ↦ inl (w.0, (b.0, b.1, w.1))
+    | inr none ↦ inr (λ p. none (p.0, subst (λ (bytes : List ℕ). IsWholePacket bytes p.0) (one_bytes word p.1.0 b.0 p.1.1 b.1) p.1.2))
+  ]
+]

@@ -5,7 +5,7 @@ use Rattle.std.specs.List.{AllByRecursion}
 use Rattle.nd_lines.specs.Lines.{longest_line}
 use Rattle.nd_advertiser.specs.Config.{Settings, config_fault}
 use Rattle.nd_chronicle.specs.Start.{Start}
-use Rattle.nd_chronicle.specs.Event.{Event, Passes, Receives, Sends, Confirms, Forgets, Clears, Shows, Advertises, Offers, Routes, Stops, Sets, Withdraws, Resolves}
+use Rattle.nd_chronicle.specs.Event.{Event, Passes, Receives, Sends, Carries, Confirms, Forgets, Clears, Shows, Advertises, Offers, Routes, Stops, Sets, Withdraws, Resolves}
 use Rattle.nd_chronicle.specs.History.{beginning}
 use Rattle.nd_chronicle.specs.Told.{text}
 use Rattle.nd_existence.specs.Intervals.{LeavesTime}
@@ -13,7 +13,7 @@ use Rattle.nd_existence.proofs.Deciding.{Decided, same_or}
 use Rattle.nd_existence.proofs.Running.{run}
 use Rattle.nd_existence.proofs.Timed.{faultless}
 use Rattle.ndpctl_run.specs.declared.command.Command.{Command}
-use Rattle.ndpctl_run.specs.declared.command.Command.TheVariants.{Rx, Send, Confirm, Forget, Clear, Show, Advertise, Prefix, Route, Address, Withdraw, Resolve}
+use Rattle.ndpctl_run.specs.declared.command.Command.TheVariants.{Rx, Send, Confirm, Forget, Clear, Show, Advertise, Prefix, Route, Address, Withdraw, Resolve, Carry}
 use Rattle.ndpctl_run.specs.Command.{command_word, AreArguments, IsWholeCommand, IsCommand}
 use Rattle.ndpctl_run.specs.Line.{IsLine}
 use Rattle.ndpctl_run.specs.Number.{IsNumberWord}
@@ -23,7 +23,7 @@ use Rattle.ndpctl_run.proofs.CommandWords.{arguments_of, no_command, whole_comma
 use Rattle.ndpctl_run.proofs.Lines.{moment_in, is_line}
 use Rattle.ndpctl_run.proofs.Partings.{parts_at, no_parts}
 use Rattle.nd_existence.proofs.Words.{parted_or, number_or, most_or, bytes_or, address_or}
-use Rattle.nd_existence.proofs.Arguments.{clearable_or, table_or, settings_or, offer_or, route_or, own_address_or, packet_or}
+use Rattle.nd_existence.proofs.Arguments.{clearable_or, table_or, settings_or, offer_or, route_or, own_address_or, packet_or, whole_packet_or}
 
 -- ---- commands
 
@@ -52,7 +52,10 @@ some_command P decided = elim (decided Rx) [
                       | inl p ↦ inl (Withdraw, p)
                       | inr k ↦ elim (decided Resolve) [
                         | inl p ↦ inl (Resolve, p)
-                        | inr l ↦ inr (λ p. none p.0 a b c d e f g h i j k l p.1)
+                        | inr l ↦ elim (decided Carry) [
+                          | inl p ↦ inl (Carry, p)
+                          | inr m ↦ inr (λ p. none p.0 a b c d e f g h i j k l m p.1)
+                        ]
                       ]
                     ]
                   ]
@@ -67,19 +70,20 @@ some_command P decided = elim (decided Rx) [
 ]
   where
     none : (t : Command) → (P Rx → ⊥) → (P Send → ⊥) → (P Confirm → ⊥) → (P Forget → ⊥) → (P Clear → ⊥) → (P Show → ⊥) → (P Advertise → ⊥) → (P Prefix → ⊥) → (P Route → ⊥)
-        → (P Address → ⊥) → (P Withdraw → ⊥) → (P Resolve → ⊥) → P t → ⊥
-    none Rx a b c d e f g h i j k l p = a p
-    none Send a b c d e f g h i j k l p = b p
-    none Confirm a b c d e f g h i j k l p = c p
-    none Forget a b c d e f g h i j k l p = d p
-    none Clear a b c d e f g h i j k l p = e p
-    none Show a b c d e f g h i j k l p = f p
-    none Advertise a b c d e f g h i j k l p = g p
-    none Prefix a b c d e f g h i j k l p = h p
-    none Route a b c d e f g h i j k l p = i p
-    none Address a b c d e f g h i j k l p = j p
-    none Withdraw a b c d e f g h i j k l p = k p
-    none Resolve a b c d e f g h i j k l p = l p
+        → (P Address → ⊥) → (P Withdraw → ⊥) → (P Resolve → ⊥) → (P Carry → ⊥) → P t → ⊥
+    none Rx a b c d e f g h i j k l m p = a p
+    none Send a b c d e f g h i j k l m p = b p
+    none Confirm a b c d e f g h i j k l m p = c p
+    none Forget a b c d e f g h i j k l m p = d p
+    none Clear a b c d e f g h i j k l m p = e p
+    none Show a b c d e f g h i j k l m p = f p
+    none Advertise a b c d e f g h i j k l m p = g p
+    none Prefix a b c d e f g h i j k l m p = h p
+    none Route a b c d e f g h i j k l m p = i p
+    none Address a b c d e f g h i j k l m p = j p
+    none Withdraw a b c d e f g h i j k l m p = k p
+    none Resolve a b c d e f g h i j k l m p = l p
+    none Carry a b c d e f g h i j k l m p = m p
 
 arguments_or : (command : Command) (words : List ℕ) → Decided ((event : Event) × AreArguments command words event)
 arguments_or Rx words = elim (bytes_or words) [ inl p ↦ inl (Receives p.0, (p.0, refl, p.1)) | inr none ↦ inr (λ p. none (p.1.0, p.1.2)) ]
@@ -97,6 +101,7 @@ arguments_or Route words = elim (route_or words) [ inl p ↦ inl (Routes p.0 p.1
 arguments_or Address words = elim (own_address_or words) [ inl p ↦ inl (Sets p.0, (p.0, refl, p.1)) | inr none ↦ inr (λ p. none (p.1.0, p.1.2)) ]
 arguments_or Withdraw words = elim (address_or words) [ inl p ↦ inl (Withdraws p.0, (p.0, refl, p.1)) | inr none ↦ inr (λ p. none (p.1.0, p.1.2)) ]
 arguments_or Resolve words = elim (address_or words) [ inl p ↦ inl (Resolves p.0, (p.0, refl, p.1)) | inr none ↦ inr (λ p. none (p.1.0, p.1.2)) ]
+arguments_or Carry words = elim (whole_packet_or words) [ inl p ↦ inl (Carries p.0, (p.0, refl, p.1)) | inr none ↦ inr (λ p. none (p.1.0, p.1.2)) ]
 
 whole_or : (bytes : List ℕ) → Decided ((event : Event) × IsWholeCommand bytes event)
 whole_or bytes = elim (same_or bytes (codes "at")) [
@@ -181,6 +186,7 @@ arguments_leave Route words event a = λ t e. let f : Routes a.0 a.1 ≡ Adverti
 arguments_leave Address words event a = λ t e. let f : Sets a.0 ≡ Advertises t = sym a.1 ∙ e in absurd (let no : ⊥ = cc in no)
 arguments_leave Withdraw words event a = λ t e. let f : Withdraws a.0 ≡ Advertises t = sym a.1 ∙ e in absurd (let no : ⊥ = cc in no)
 arguments_leave Resolve words event a = λ t e. let f : Resolves a.0 ≡ Advertises t = sym a.1 ∙ e in absurd (let no : ⊥ = cc in no)
+arguments_leave Carry words event a = λ t e. let f : Carries a.0 ≡ Advertises t = sym a.1 ∙ e in absurd (let no : ⊥ = cc in no)
 
 pub command_leaves : (bytes : List ℕ) (event : Event) → IsCommand bytes event → LeavesTime event
 command_leaves bytes event (inl (inl e)) = λ t f. let g : Passes ≡ Advertises t = sym e.1 ∙ f in absurd (let no : ⊥ = cc in no)

@@ -3,7 +3,7 @@ use Rattle.std.proofs.Common.{◌≡◌, ◌≢◌, ◌↔◌, ◌^◌, ℕ, Boo
 use Rattle.std.specs.Prelude.{IsTrue, MatchBool, codes}
 use Rattle.nd_chronicle.specs.Event.{Event, Receives}
 use Rattle.ndpctl_run.specs.declared.command.Command.{Command}
-use Rattle.ndpctl_run.specs.declared.command.Command.TheVariants.{Rx, Send, Confirm, Forget, Clear, Show, Advertise, Prefix, Route, Address, Withdraw, Resolve}
+use Rattle.ndpctl_run.specs.declared.command.Command.TheVariants.{Rx, Send, Confirm, Forget, Clear, Show, Advertise, Prefix, Route, Address, Withdraw, Resolve, Carry}
 use Rattle.ndpctl_run.specs.Command.{AreArguments, IsCommand, IsWholeCommand}
 use Rattle.ndpctl_run.specs.Words.{HasNoSpace, IsParted}
 use Rattle.ndpctl_run.proofs.CommandWords.{arguments_of, one_command}
@@ -34,6 +34,7 @@ arguments_unheard Route words event (p, r, is, spelled) other frame e = cc
 arguments_unheard Address words event (o, is, spelled) other frame e = cc
 arguments_unheard Withdraw words event (a, is, spelled) other frame e = cc
 arguments_unheard Resolve words event (d, is, spelled) other frame e = cc
+arguments_unheard Carry words event (p, is, spelled) other frame e = cc
 
 -- a command whose first word isn't `rx` doesn't
 pub others_hear_none : (bytes : List ℕ) → ((word rest : List ℕ) → IsParted bytes word rest → word ≡ codes "rx" → ⊥) → (event : Event) → IsCommand bytes event → (frame : List ℕ) → event ≢ Receives frame

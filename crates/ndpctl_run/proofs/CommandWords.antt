@@ -1,9 +1,9 @@
 -- A command is determined by its words.
 use Rattle.std.proofs.Common.{◌≡◌, ◌∙◌, ◌<◌, ℕ, zero, suc, List, [], ◌∷◌, Some, get_or, length, eqb, if◌then◌else◌, sym, refl, ap, subst, inl, inr, arith}
 use Rattle.std.specs.Prelude.{codes, slice_get}
-use Rattle.nd_chronicle.specs.Event.{Event, Receives, Confirms, Forgets, Clears, Shows, Advertises, Offers, Sets, Withdraws, Resolves}
+use Rattle.nd_chronicle.specs.Event.{Event, Receives, Carries, Confirms, Forgets, Clears, Shows, Advertises, Offers, Sets, Withdraws, Resolves}
 use Rattle.ndpctl_run.specs.declared.command.Command.{Command}
-use Rattle.ndpctl_run.specs.declared.command.Command.TheVariants.{Rx, Send, Confirm, Forget, Clear, Show, Advertise, Prefix, Route, Address, Withdraw, Resolve}
+use Rattle.ndpctl_run.specs.declared.command.Command.TheVariants.{Rx, Send, Confirm, Forget, Clear, Show, Advertise, Prefix, Route, Address, Withdraw, Resolve, Carry}
 use Rattle.ndpctl_run.specs.Command.{command_word, AreArguments, IsCommand, IsWholeCommand}
 use Rattle.ndpctl_run.specs.Words.{HasNoSpace, IsParted}
 use Rattle.ndpctl_run.proofs.AddressWords.{one_address}
@@ -15,6 +15,7 @@ use Rattle.ndpctl_run.proofs.Partings.{no_parting, no_parts, parts_at}
 use Rattle.ndpctl_run.proofs.RouteWords.{one_route}
 use Rattle.ndpctl_run.proofs.SettingsWords.{one_settings}
 use Rattle.ndpctl_run.proofs.TableWords.{one_clearable, one_table}
+use Rattle.ndpctl_run.proofs.WholeWords.{one_whole}
 
 at_no_space : HasNoSpace (codes "at")
 at_no_space zero lt e = omega arith
@@ -50,7 +51,7 @@ told word =
     if eqb (get_or word 0 0) 97 then Address else
     if eqb (get_or word 0 0) 114 then (if eqb (length word) 7 then Resolve else Route) else
     if eqb (length word) 7 then Confirm else
-    if eqb (get_or word 0 0) 99 then Clear else
+    if eqb (get_or word 0 0) 99 then (if eqb (get_or word 1 0) 97 then Carry else Clear) else
     if eqb (get_or word 0 0) 102 then Forget else
     if eqb (get_or word 0 0) 112 then Prefix else
     if eqb (get_or word 1 0) 101 then Send else Show
@@ -68,17 +69,18 @@ told_back Route = refl
 told_back Address = refl
 told_back Withdraw = refl
 told_back Resolve = refl
+told_back Carry = refl
 
 pub one_command_word : (c d : Command) → command_word c ≡ command_word d → c ≡ d
 one_command_word c d e = sym (told_back c) ∙ ap told e ∙ told_back d
 
-abbrev commands : List Command
-commands = Rx ∷ Send ∷ Confirm ∷ Forget ∷ Clear ∷ Show ∷ Advertise ∷ Prefix ∷ Route ∷ Address ∷ Withdraw ∷ Resolve ∷ []
+abbrev pub commands : List Command
+commands = Rx ∷ Send ∷ Confirm ∷ Forget ∷ Clear ∷ Show ∷ Advertise ∷ Prefix ∷ Route ∷ Address ∷ Withdraw ∷ Resolve ∷ Carry ∷ []
 
 -- where a command stands among them
 pub record Place (command : Command) : Type 0 where
   pub at : ℕ
-  pub within : at < 12
+  pub within : at < 13
   pub there : slice_get commands at ≡ Some command
 
 pub place : (command : Command) → Place command
@@ -94,6 +96,7 @@ place Route = record { at = 8; within = omega arith; there = refl }
 place Address = record { at = 9; within = omega arith; there = refl }
 place Withdraw = record { at = 10; within = omega arith; there = refl }
 place Resolve = record { at = 11; within = omega arith; there = refl }
+place Carry = record { at = 12; within = omega arith; there = refl }
 
 -- ---- what it acts on
 
@@ -120,6 +123,7 @@ one_event Route words c d p q = same_route words c d p q
 one_event Address words c d p q = p.1 ∙ (ap Sets (one_own_address words p.0 q.0 p.2 q.2) ∙ sym q.1)
 one_event Withdraw words c d p q = p.1 ∙ (ap Withdraws (one_address words p.0 q.0 p.2 q.2) ∙ sym q.1)
 one_event Resolve words c d p q = p.1 ∙ (ap Resolves (one_address words p.0 q.0 p.2 q.2) ∙ sym q.1)
+one_event Carry words c d p q = p.1 ∙ (ap Carries (one_whole words p.0 q.0 p.2 q.2) ∙ sym q.1)
 
 pub of_command : (c d : Command) (words : List ℕ) (event : Event) → c ≡ d → AreArguments c words event → AreArguments d words event
 of_command c d words event e are = subst (λ (command : Command). AreArguments command words event) e are

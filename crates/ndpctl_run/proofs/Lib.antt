@@ -7,6 +7,7 @@ pub mod NumberWords
 pub mod FlagsWords
 pub mod PrefixWords
 pub mod PacketWords
+pub mod WholeWords
 pub mod Faults
 pub mod SettingsWords
 pub mod OfferWords

@@ -1,20 +1,21 @@
 -- The commands of a script: which bytes spell which event (the texts are this project's own).
 use Rattle.std.specs.Prelude.{◌≡◌, ◌⊎◌, ℕ, List, codes}
 use Rattle.nd_addr.specs.declared.addr.Addr.{Addr}
+use Rattle.nd_addr.specs.Ip6.{PacketParts}
 use Rattle.nd_addr.specs.Prefix.{PrefixValue}
 use Rattle.nd_decode.specs.declared.prefix_info.PrefixInfo.{PrefixInfo}
 use Rattle.nd_advertiser.specs.Config.{Settings}
 use Rattle.nd_forwarding.specs.declared.route.Route as routes
 use Rattle.nd_slaac.specs.ByHand.{AddressByHand}
-use Rattle.nd_chronicle.specs.Event.{Clearable, Event, Passes, Receives, Sends, Confirms, Forgets, Clears, Shows, Advertises, Offers, Routes, Stops, Sets, Withdraws, Resolves}
+use Rattle.nd_chronicle.specs.Event.{Clearable, Event, Passes, Receives, Sends, Carries, Confirms, Forgets, Clears, Shows, Advertises, Offers, Routes, Stops, Sets, Withdraws, Resolves}
 use Rattle.nd_chronicle.specs.Shown as shown
 use Rattle.ndpctl_run.specs.declared.command.Command.{Command}
-use Rattle.ndpctl_run.specs.declared.command.Command.TheVariants.{Rx, Send, Confirm, Forget, Clear, Show, Advertise, Prefix, Route, Address, Withdraw, Resolve}
+use Rattle.ndpctl_run.specs.declared.command.Command.TheVariants.{Rx, Send, Confirm, Forget, Clear, Show, Advertise, Prefix, Route, Address, Withdraw, Resolve, Carry}
 use Rattle.ndpctl_run.specs.Address.{IsAddressWord}
 use Rattle.ndpctl_run.specs.Bytes.{IsBytesWord}
 use Rattle.ndpctl_run.specs.Offer.{IsOffer}
 use Rattle.ndpctl_run.specs.OwnAddress.{AreOwnAddressWords}
-use Rattle.ndpctl_run.specs.Packet.{IsPacket}
+use Rattle.ndpctl_run.specs.Packet.{IsPacket, IsPacketWord}
 use Rattle.ndpctl_run.specs.Route.{IsRoute}
 use Rattle.ndpctl_run.specs.Settings.{AreSettings}
 use Rattle.ndpctl_run.specs.Table.{clearable_word, table_word}
@@ -34,6 +35,7 @@ command_word Route = codes "route"
 command_word Address = codes "address"
 command_word Withdraw = codes "withdraw"
 command_word Resolve = codes "resolve"
+command_word Carry = codes "carry"
 
 -- the words behind it spell the event
 abbrev pub AreArguments : Command → List ℕ → Event → Type 0
@@ -50,6 +52,7 @@ AreArguments Route words event = (prefix : PrefixValue) × (route : routes.Route
 AreArguments Address words event = (own : AddressByHand) × (event ≡ Sets own) × AreOwnAddressWords words own
 AreArguments Withdraw words event = (address : Addr) × (event ≡ Withdraws address) × IsAddressWord words address
 AreArguments Resolve words event = (destination : Addr) × (event ≡ Resolves destination) × IsAddressWord words destination
+AreArguments Carry words event = (packet : PacketParts) × (event ≡ Carries packet) × IsPacketWord words packet
 
 -- the word is a command that acts on nothing: `at`, by which time passes, or `stop`, by which a router ceases to advertise
 abbrev pub IsWholeCommand : List ℕ → Event → Type 0

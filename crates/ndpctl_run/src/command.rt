@@ -10,7 +10,7 @@ use crate::address::read_address;
 use crate::bytes::read_bytes;
 use crate::offer::read_offer;
 use crate::own_address::read_own_address;
-use crate::packet::read_packet;
+use crate::packet::{read_packet, read_whole_packet};
 use crate::route::read_route;
 use crate::settings::read_settings;
 use crate::table::{read_clearable, read_table};
@@ -45,9 +45,11 @@ pub enum Command {
     Withdraw,
     /// A caller that keeps its packets asks where those to a destination go.
     Resolve,
+    /// A whole packet is sent as it is.
+    Carry,
 }
 
-const COMMANDS: [Command; 12] = [
+const COMMANDS: [Command; 13] = [
     Command::Rx,
     Command::Send,
     Command::Confirm,
@@ -60,6 +62,7 @@ const COMMANDS: [Command; 12] = [
     Command::Address,
     Command::Withdraw,
     Command::Resolve,
+    Command::Carry,
 ];
 
 /// Returns the word that a command begins with.
@@ -79,6 +82,7 @@ fn command_word(command: Command) -> &'static str
         Command::Address => "address",
         Command::Withdraw => "withdraw",
         Command::Resolve => "resolve",
+        Command::Carry => "carry",
     }
 }
 
@@ -153,6 +157,10 @@ fn read_arguments<A: Allocator + Clone>(
         },
         Command::Resolve => match read_address(words) {
             Some(destination) => Ok(Some(Request::Event(Event::Resolves(destination)))),
+            None => Ok(None),
+        },
+        Command::Carry => match read_whole_packet(alloc, words)? {
+            Some(packet) => Ok(Some(Request::Event(Event::Carries(packet)))),
             None => Ok(None),
         },
     }

@@ -1,16 +1,19 @@
-//! The words of a script that spell packets of the upper layer.
+//! The words of a script that spell packets of the upper layer, and whole packets.
 
 ghost use Rattle.std.specs.Prelude.{◌≡◌, List, ℕ, None, Ok, IfSome, IfOk};
 ghost use Rattle.std.specs.Option.{IsSomeAnd};
-ghost use Rattle.ndpctl_run.specs.Packet.{IsHeader, IsNextHeaderWord, IsPacket};
+ghost use Rattle.nd_addr.specs.Ip6.{PacketParts};
+ghost use Rattle.nd_steps.specs.Packets.{whole_parts};
+ghost use Rattle.ndpctl_run.specs.Packet.{IsHeader, IsNextHeaderWord, IsPacket, IsPacketWord};
 ghost use Rattle.ndpctl_run.specs.Words.{Parts};
 
 use crate::address::split_address;
 use crate::bytes::read_bytes;
 use crate::number::read_byte;
 use crate::words::split_word;
-use nd_addr::Addr;
-use nd_node::OutgoingPacket;
+use nd_addr::{Addr, IPV6_HEADER_LENGTH};
+use nd_node::{OutgoingPacket, WholePacket, read_whole};
+use nd_text::decode_hex_to_slice;
 use std::alloc::{AllocError, Allocator};
 
 /// What a script says of a packet's header.
@@ -72,4 +75,37 @@ pub(crate) fn read_packet<A: Allocator + Clone>(
         })),
         None => Ok(None),
     }
+}
+
+/// The length of the longest packet, in bytes: a header, and as many bytes as its payload length can say (RFC 8200, section 3).
+const LONGEST_PACKET: usize = IPV6_HEADER_LENGTH + 65_535;
+
+/// Returns the whole packet whose bytes a word spells, two hexadecimal digits a byte, in either case. No other word spells one, and such a word takes no
+/// memory. Returns an error if out of memory.
+pub(crate) fn read_whole_packet<A: Allocator + Clone>(
+    alloc: &A,
+    word: &[u8],
+) -> Result<Option<WholePacket<A>>, AllocError>
+    ensures found { IfOk result (λ read. IfSome read (λ packet. IsPacketWord word.now (whole_parts packet))) }
+    ensures only { (packet : PacketParts) → IsPacketWord word.now packet → IfOk result (λ read. IsSomeAnd read (λ found. whole_parts found ≡ packet)) }
+    ensures malformed { ((packet : PacketParts) → IsPacketWord word.now packet → ⊥) → result ≡ Ok None }
+{
+    let mut room = [0; LONGEST_PACKET];
+    let length = word.len() / 2;
+    if length > LONGEST_PACKET {
+        return Ok(None);
+    }
+    let bytes = &mut room[..length];
+    if decode_hex_to_slice(word, bytes).is_err() {
+        return Ok(None);
+    }
+    let Some(packet) = read_whole(bytes) else {
+        return Ok(None);
+    };
+    let mut payload = Vec::with_capacity(alloc.clone()?, packet.payload.len())?;
+    payload.extend_from_slice(packet.payload)?;
+    Ok(Some(WholePacket {
+        header: packet.header,
+        payload,
+    }))
 }

@@ -15,6 +15,8 @@ enum Said {
     Settles,
     Receives(String),
     Sends(Addr, Addr, u8, String),
+    /// The hop limit of a whole packet, and the digits of its payload.
+    Carries(u8, String),
     Confirms(Addr),
     Forgets(Addr),
     Clears(Clearable),
@@ -55,6 +57,11 @@ fn event_said(alloc: Global, request: Request<Global>) -> Result<Said, AllocErro
                 packet.next_header,
                 digits,
             ))
+        }
+        Event::Carries(packet) => {
+            let mut digits = String::new(alloc);
+            write_hex(&mut digits, &packet.payload)?;
+            Ok(Said::Carries(packet.header.hop_limit, digits))
         }
         Event::Confirms(neighbour) => Ok(Said::Confirms(neighbour)),
         Event::Forgets(neighbour) => Ok(Said::Forgets(neighbour)),
@@ -266,6 +273,29 @@ fn lines_of_resolving_are_read(rt: HostRuntime) -> Result<(), Fail> {
             "10 resolve ff02::1 -",
             "10 resolve -",
             "10 resolves ff02::1",
+        ],
+    )
+}
+
+#[test]
+fn lines_of_whole_packets_are_read(rt: HostRuntime) -> Result<(), Fail> {
+    let mut digits = String::new(rt.alloc());
+    digits.push_str("aa")?;
+    let line =
+        b"10 carry 6ab1234500011107FE80000000000000365678fffe9abcdefe80000000000000000000fffe000001aA";
+    assert!(rt; reading(rt.alloc(), line)? == Some((10, Said::Carries(7, digits))));
+    malformed(
+        &rt,
+        rt.alloc(),
+        &[
+            "10 carry",
+            "10 carry -",
+            "10 carry 6ab1234500001107fe80000000000000365678fffe9abcdefe80000000000000000000fffe0000",
+            "10 carry 4ab1234500011107fe80000000000000365678fffe9abcdefe80000000000000000000fffe000001aa",
+            "10 carry 6ab1234500011107fe80000000000000365678fffe9abcdefe80000000000000000000fffe000001",
+            "10 carry 6ab1234500011107fe80000000000000365678fffe9abcdefe80000000000000000000fffe000001aabb",
+            "10 carry 6ab1234500011107fe80000000000000365678fffe9abcdefe80000000000000000000fffe000001a",
+            "10 carries 6ab1234500001107fe80000000000000365678fffe9abcdefe80000000000000000000fffe000001",
         ],
     )
 }

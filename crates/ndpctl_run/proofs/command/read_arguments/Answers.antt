@@ -1,9 +1,10 @@
 use Rattle.std.proofs.Common.{Some, ap, refl, sym}
 use Rattle.nd_chronicle.specs.Event as events
 use Rattle.nd_node.specs.Event.{clearable_of, table_of}
-use Rattle.ndpctl_run.specs.declared.command.Command.TheVariants.{Rx, Send, Confirm, Forget, Clear, Show, Advertise, Prefix, Route, Address, Withdraw, Resolve}
+use Rattle.ndpctl_run.specs.declared.command.Command.TheVariants.{Rx, Send, Confirm, Forget, Clear, Show, Advertise, Prefix, Route, Address, Withdraw, Resolve, Carry}
 use Rattle.ndpctl_run.specs.Bytes.{IsBytesWord}
-use Rattle.ndpctl_run.specs.Packet.{IsPacket}
+use Rattle.nd_steps.specs.Packets.{whole_parts}
+use Rattle.ndpctl_run.specs.Packet.{IsPacket, IsPacketWord}
 use Rattle.ndpctl_run.proofs.CommandWords.{of_command}
 use Rattle.ndpctl_run.proofs.Readings.{some_is, some_and, none_and}
 use Rattle.ndpctl_run.proofs.command.read_arguments.Goals as goal
@@ -93,3 +94,19 @@ pub returns-in-Some-read_address-4-clause-malformed : goal.returns-in-Some-read_
 returns-in-Some-read_address-4-clause-malformed g c = λ none.
     let destination = c.in-Some-read_address-4.destination in
     absurd (none (events.Resolves destination) (of_command Resolve c.args.command c.args.words.now (events.Resolves destination) (sym c.in-Resolve.is) (destination, refl, c.in-Some-read_address-4.ensures.found)))
+
+pub returns-in_err-packet-in-Carry-clause-malformed : goal.returns-in_err-packet-in-Carry-clause-malformed
+returns-in_err-packet-in-Carry-clause-malformed g c = λ none.
+    let r = c.in_err-packet-in-Carry.ensures.malformed (λ packet w. none (events.Carries packet) (of_command Carry c.args.command c.args.words.now (events.Carries packet) (sym c.in-Carry.is) (packet, refl, w))) in
+    cc
+
+pub returns-in-Some-3-clause-malformed : goal.returns-in-Some-3-clause-malformed
+returns-in-Some-3-clause-malformed g c = λ none.
+    let packet = whole_parts c.in-Some-3.packet in
+    let spelled = some_is c.in_ok-packet-in-Carry.field-0 c.in-Some-3.packet (λ packet. IsPacketWord c.args.words.now (whole_parts packet)) c.in-Some-3.is c.in_ok-packet-in-Carry.ensures.found in
+    absurd (none (events.Carries packet) (of_command Carry c.args.command c.args.words.now (events.Carries packet) (sym c.in-Carry.is) (packet, refl, spelled)))
+
+pub returns-in-None-3-clause-only : goal.returns-in-None-3-clause-only
+returns-in-None-3-clause-only g c = λ event are.
+    let theirs = of_command c.args.command Carry c.args.words.now event c.in-Carry.is are in
+    absurd (none_and c.in_ok-packet-in-Carry.field-0 _ c.in-None-3.is (c.in_ok-packet-in-Carry.ensures.only theirs.0 theirs.2))
