@@ -471,131 +471,129 @@ static void f138(Q, Q, Q, u8);
 static void f139(Q, Q, Q);
 static u8 f140(Q, Q);
 static void f141(Q, Q, u64, u8, Q, Q);
-static void f142(Q, Q, Q, Q, u64);
-static void f143(Q, Q, Q, Q, Q, u64);
-static u8 f144(Q, u64, u8, Q, Q);
-static void f145(Q, Q, u64, Q, u8, Q, Q, u64, Q);
-static u8 f146(Q, u64, u64, u64, Q, Q, u64);
-static s_u8_u64 f147(Q, u64, Q, u64);
-static s_u8_u64 f148(Q, u64, u64);
-static void f149(Q, Q, u64, Q, Q);
-static void f150(Q, Q, Q);
-static void f151(Q, Q, u64, Q, Q, Q);
-static void f152(Q, Q, Q, Q);
-static void f153(Q);
-static u8 f154(Q, u64);
-static void f155(Q, u64, Q, Q, Q, Q);
-static void f156(Q, Q, Q);
-static void f157(Q, Q);
-static void f158(Q, Q, u64, u64, u64, Q);
-static void f159(Q, Q, Q);
-static u8 f160(Q, u64);
-static void f161(Q);
-static void f162(Q, Q, Q);
-static u8 f163(Q);
-static s_u8_u64 f164(Q, Q, u64);
-static void f165(Q);
-static void f166(Q, Q, u64, Q);
+static void f142(Q, Q, Q, Q);
+static u8 f143(Q, u64, u8, Q, Q);
+static void f144(Q, Q, u64, Q, u8, Q, Q, u64, Q);
+static u8 f145(Q, u64, u64, u64, Q, Q, u64);
+static s_u8_u64 f146(Q, u64, Q, u64);
+static s_u8_u64 f147(Q, u64, u64);
+static void f148(Q, Q, u64, Q, Q);
+static void f149(Q, Q, Q);
+static void f150(Q, Q, u64, Q, Q, Q);
+static void f151(Q, Q, Q, Q);
+static void f152(Q);
+static u8 f153(Q, u64);
+static void f154(Q, u64, Q, Q, Q, Q);
+static void f155(Q, Q, Q);
+static void f156(Q, Q);
+static void f157(Q, Q, u64, u64, u64, Q);
+static void f158(Q, Q, Q);
+static u8 f159(Q, u64);
+static void f160(Q);
+static void f161(Q, Q, Q);
+static u8 f162(Q);
+static s_u8_u64 f163(Q, Q, u64);
+static void f164(Q);
+static void f165(Q, Q, u64, Q);
+static u8 f166(Q, Q);
 static u8 f167(Q, Q);
-static u8 f168(Q, Q);
-static void f169(Q, Q, Q);
-static void f170(Q, Q, u64, Q);
-static void f171(Q, Q, Q);
-static void f172(Q, Q, Q, Q);
-static u8 f173(Q, u64, Q);
-static void f174(Q, Q, u64, Q, Q);
+static void f168(Q, Q, Q);
+static void f169(Q, Q, u64, Q);
+static void f170(Q, Q, Q);
+static void f171(Q, Q, Q, Q);
+static u8 f172(Q, u64, Q);
+static void f173(Q, Q, u64, Q, Q);
+static void f174(Q, Q, Q);
 static void f175(Q, Q, Q);
-static void f176(Q, Q, Q);
-static u8 f177(Q, u64, Q);
-static void f178(Q, Q, u64);
-static u8 f179(Q, u64, Q);
-static void f180(Q, Q, u8);
-static void f181(Q, Q, Q, u64, Q, u8, Q);
-static void f182(Q, Q, Q, Q);
-static u8 f183(Q, Q, u64, Q, u64, Q);
-static u8 f184(Q, Q);
-static void f185(Q, Q, u64, Q, Q, u8, u64);
-static void f186(Q, Q, Q);
-static void f187(Q, Q, u64, Q, Q, Q);
+static u8 f176(Q, u64, Q);
+static void f177(Q, Q, u64);
+static u8 f178(Q, u64, Q);
+static void f179(Q, Q, u8);
+static void f180(Q, Q, Q, u64, Q, u8, Q);
+static void f181(Q, Q, Q, Q);
+static u8 f182(Q, Q, u64, Q, u64, Q);
+static u8 f183(Q, Q);
+static void f184(Q, Q, u64, Q, Q, u8, u64);
+static void f185(Q, Q, Q);
+static void f186(Q, Q, u64, Q, Q, Q);
+static void f187(Q, Q);
 static void f188(Q, Q);
 static void f189(Q, Q);
-static void f190(Q, Q);
-static u8 f191(Q, u64, u64, Q);
-static u8 f192(Q, Q);
-static u8 f193(Q, u64, Q, u16);
-static u8 f194(Q, u64, u64, Q);
-static u8 f195(Q, u64, Q);
+static u8 f190(Q, u64, u64, Q);
+static u8 f191(Q, Q);
+static u8 f192(Q, u64, Q, u16);
+static u8 f193(Q, u64, u64, Q);
+static u8 f194(Q, u64, Q);
+static void f195(Q, Q);
 static void f196(Q, Q);
-static void f197(Q, Q);
-static u8 f198(Q, u64, u64, Q);
-static u8 f199(Q, Q);
-static u8 f200(Q, u64, Q, Q);
-static u8 f201(Q, u64, Q);
-static void f202(Q, Q);
-static u8 f203(Q, u64, u64, Q);
-static u8 f204(Q, u64, Q);
-static s_u8_u8 f205(Q, Q, Q, u64, u32);
-static void f206(Q, Q, u64, Q);
-static void f207(Q, Q, Q);
+static u8 f197(Q, u64, u64, Q);
+static u8 f198(Q, Q);
+static u8 f199(Q, u64, Q, Q);
+static u8 f200(Q, u64, Q);
+static void f201(Q, Q);
+static u8 f202(Q, u64, u64, Q);
+static u8 f203(Q, u64, Q);
+static s_u8_u8 f204(Q, Q, Q, u64, u32);
+static void f205(Q, Q, u64, Q);
+static void f206(Q, Q, Q);
+static u8 f207(Q);
 static u8 f208(Q);
-static u8 f209(Q);
-static s_u8_Q f210(Q, u64, u64, u64);
-static void f211(Q, Q);
-static u64 f212(Q, Q);
-static void f213(Q);
-static void f214(Q, u64, Q, Q, Q, Q, Q, u8, Q);
-static s_u8_u64 f215(Q, u64, Q);
-static void f216(Q, Q);
-static void f217(Q, Q, Q, u64, Q);
-static u8 f218(Q);
-static void f219(Q, u64, Q);
-static s_u8_u64 f220(Q, u64);
-static void f221(Q, Q, u64, Q, Q, Q);
-static u8 f222(Q, Q);
-static void f223(Q, Q, Q, Q, Q, u8, u8, Q);
+static s_u8_Q f209(Q, u64, u64, u64);
+static void f210(Q, Q);
+static u64 f211(Q, Q);
+static void f212(Q);
+static void f213(Q, u64, Q, Q, Q, Q, Q, u8, Q);
+static s_u8_u64 f214(Q, u64, Q);
+static void f215(Q, Q);
+static void f216(Q, Q, Q, u64, Q);
+static u8 f217(Q);
+static void f218(Q, u64, Q);
+static s_u8_u64 f219(Q, u64);
+static void f220(Q, Q, u64, Q, Q, Q);
+static u8 f221(Q, Q);
+static void f222(Q, Q, Q, Q, Q, u8, u8, Q);
+static void f223(Q, Q, u64, Q, Q, Q);
 static void f224(Q, Q, u64, Q, Q, Q);
-static void f225(Q, Q, u64, Q, Q, Q);
+static u8 f225(Q);
 static u8 f226(Q);
-static u8 f227(Q);
+static u8 f227(Q, u64);
 static u8 f228(Q, u64);
-static u8 f229(Q, u64);
-static void f230(Q, u128, Q, Q, Q);
-static void f231(Q, u32);
+static void f229(Q, u128, Q, Q, Q);
+static void f230(Q, u32);
+static void f231(Q, Q, u64, Q, Q);
 static void f232(Q, Q, u64, Q, Q);
 static void f233(Q, Q, u64, Q);
 static s_u8_Q f234(Q, Q);
 static u8 f235(Q, u64);
-static void f236(Q, Q, Q, Q, u8);
+static void f236(Q, Q);
 static void f237(Q, Q, u64, Q, Q);
-static void f238(Q, Q);
+static void f238(Q, Q, u64, Q, Q);
 static void f239(Q, Q, u64, Q, Q);
 static void f240(Q, Q, u64, Q, Q);
-static void f241(Q, Q, u64, Q, Q);
-static void f242(Q, Q, u64, u8, Q);
-static void f243(Q);
+static void f241(Q, Q, u64, u8, Q);
+static void f242(Q);
+static void f243(Q, Q, u64, Q, Q);
 static void f244(Q, Q, u64, Q, Q);
-static void f245(Q, Q, u64, Q, Q);
-static u64 f246(Q, Q);
-static u8 f247(Q, u64);
+static u64 f245(Q, Q);
+static u8 f246(Q, u64);
+static u8 f247(Q);
 static u8 f248(Q);
-static u8 f249(Q);
-static u8 f250(Q, u64);
-static void f251(Q, u32);
-static void f252(Q, Q, u64, Q, Q);
-static u8 f253(Q);
+static u8 f249(Q, u64);
+static void f250(Q, u32);
+static void f251(Q, Q, u64, Q, Q);
+static u8 f252(Q);
+static void f253(Q, Q, u64, Q, Q);
 static void f254(Q, Q, u64, Q, Q);
-static void f255(Q, Q, u64, Q, Q);
-static void f256(Q, Q, u64, Q, Q, u8, Q, u64, Q);
-static u32 f257(Q);
+static u32 f255(Q);
+static void f256(Q, Q, u64, Q);
+static void f257(Q, Q, u64, Q);
 static void f258(Q, Q, u64, Q);
-static void f259(Q, Q, u64, Q);
-static void f260(Q, Q, u64, Q);
-static void f261(Q, Q, u8, u64, u64, Q, Q);
-static void f262(Q, Q, u64, Q, Q);
-static u64 f263(Q);
+static void f259(Q, Q, u8, u64, u64, Q, Q);
+static void f260(Q, Q, u64, Q, Q);
+static u64 f261(Q);
+static u8 f262(Q, u64);
+static void f263(Q, Q, u64);
 static u8 f264(Q, u64);
-static void f265(Q, Q, u64);
-static u8 f266(Q, u64);
 static u32 m_nd_addresses(Q, u64, Q, u64, Q);
 static void m_nd_close(Q);
 static u32 m_nd_hear(Q, u64, u32, Q);
@@ -5332,7 +5330,7 @@ b7:;
   if (((u8)(x3 == 0u))) { x5 = 0u; x7 = 0u; x10 = x9; goto b8; } else goto b9;
 b9:;
   x28 = ADD(x25, 16);
-  x29 = f228(x25, x3);
+  x29 = f227(x25, x3);
   if (x29) goto b10; else goto b11;
 b10:;
   x30 = ld64_8(x26);
@@ -11190,10 +11188,10 @@ b32:;
   f141(x72, x1, x2, 4u, x40, x5);
   goto b36;
 b33:;
-  f145(x72, x1, x2, x69, 0u, x40, x75, x77, x5);
+  f144(x72, x1, x2, x69, 0u, x40, x75, x77, x5);
   goto b36;
 b34:;
-  f145(x72, x1, x2, ADD(x78, 1), 0u, x40, x75, x77, x5);
+  f144(x72, x1, x2, ADD(x78, 1), 0u, x40, x75, x77, x5);
   goto b36;
 b35:;
   UNREACHABLE();
@@ -11306,7 +11304,7 @@ b50:;
   x112 = ld8_1(FAR(x1, 36));
   if (((u8)(((u8)(x97 == 3u)) & ((u8)((x112) & 1u))))) goto b54; else goto b55;
 b54:;
-  f166(x113, FAR(x1, 448), x2, ADD(x94, 36));
+  f165(x113, FAR(x1, 448), x2, ADD(x94, 36));
   x114 = ld8_1(x113);
   x115 = ld8_1(ADD(x113, 32));
   if ((((u8)(x114 == 1u)) ? ((u8)(((u8)((u32)x115 + 252u)) < 253u)) : 0u)) goto b55; else goto b56;
@@ -11404,12 +11402,12 @@ b83:;
 b84:;
   if (((u8)((x119 | x118) == 0u))) goto b88; else goto b89;
 b88:;
-  x149 = f167(x145, x147);
+  x149 = f166(x145, x147);
   if (x149) goto b63; else goto b78;
 b89:;
   if (((u8)(x144 == 255u))) goto b90; else goto b85;
 b90:;
-  f169(x148, x145, x147);
+  f168(x148, x145, x147);
   x150 = ld8_1(x148);
   if (((u8)(x150 == 1u))) goto b78; else goto b63;
 b86:;
@@ -11417,7 +11415,7 @@ b86:;
 b85:;
   goto b78;
 b87:;
-  x151 = f167(x145, x147);
+  x151 = f166(x145, x147);
   if (x151) goto b63; else goto b78;
 b78:;
   MEMCPY(x152, ADD(x94, 16), 16);
@@ -11458,7 +11456,7 @@ b98:;
 b95:;
   if (x142) goto b100; else goto b101;
 b100:;
-  f170(x160, x1, x2, ADD(x94, 49));
+  f169(x160, x1, x2, ADD(x94, 49));
   x161 = ld8_1(x160);
   if (((u8)(x161 == 1u))) goto b102; else goto b103;
 b103:;
@@ -11472,7 +11470,7 @@ b102:;
   if (x166) goto b105; else goto b104;
 b105:;
   MEMSET(x167, 0u, 32);
-  f225(x167, x1, x2, x94, ADD(x94, 33), x5);
+  f224(x167, x1, x2, x94, ADD(x94, 33), x5);
   goto b106;
 b104:;
   MEMSET(ADD(x168, 10), 0u, 32);
@@ -11498,16 +11496,16 @@ b101:;
   MEMSET(x167, 0u, 32);
   switch (x97) { case 0u: goto b110; case 1u: goto b111; case 2u: goto b112; case 3u: goto b113; default: goto b114; }
 b110:;
-  f174(x167, x1, x2, x94, x5);
+  f173(x167, x1, x2, x94, x5);
   goto b106;
 b111:;
-  f187(x167, x1, x2, x94, ADD(x94, 36), x5);
+  f186(x167, x1, x2, x94, ADD(x94, 36), x5);
   goto b106;
 b112:;
-  f221(x167, x1, x2, x94, ADD(x94, 33), x5);
+  f220(x167, x1, x2, x94, ADD(x94, 33), x5);
   goto b106;
 b113:;
-  f224(x167, x1, x2, x94, ADD(x94, 33), x5);
+  f223(x167, x1, x2, x94, ADD(x94, 33), x5);
   goto b106;
 b114:;
   UNREACHABLE();
@@ -12008,128 +12006,103 @@ static u8 f140(Q x0, Q x1)
 
 static void f141(Q x0, Q x1, u64 x2, u8 x3, Q x4, Q x5)
 {
-  Q x8, x14;
-  u64 x9;
-  u8 x10, x13;
+  u8 x9, x12;
+  Q x13;
   _Alignas(8) u8 y0_[32];
   Q const x7 = Q_OF(y0_);
   _Alignas(1) u8 y1_[24];
-  Q const x11 = Q_OF(y1_);
+  Q const x10 = Q_OF(y1_);
   _Alignas(8) u8 y2_[24];
-  Q const x12 = Q_OF(y2_);
+  Q const x11 = Q_OF(y2_);
   _Alignas(1) u8 y3_[6];
   Q const x6 = Q_OF(y3_);
+  _Alignas(1) u8 y4_[6];
+  Q const x8 = Q_OF(y4_);
   MEMCPY(x6, FAR(x1, 1), 6);
   MEMSET(x7, 0u, 32);
-  x8 = ldp_1(FAR(x4, 48));
-  x9 = ld64_1(FAR(x4, 56));
-  f142(x7, x6, x4, x8, x9);
-  x10 = ld8_1(x7);
-  MEMCPY(x11, ADD(x7, 8), 24);
-  if (((u8)(x10 == 0u))) goto b0; else goto b1;
+  MEMSET(x8, 0u, 6);
+  f142(x7, x8, x6, x4);
+  x9 = ld8_1(x7);
+  MEMCPY(x10, ADD(x7, 8), 24);
+  if (((u8)(x9 == 0u))) goto b0; else goto b1;
 b4:;
   return;
 b0:;
-  MEMCPY(x12, x11, 24);
-  x13 = f144(x1, x2, x3, x12, x5);
-  x14 = FAR(x0, 8);
-  if (((u8)((x13) & 1u))) goto b2; else goto b3;
+  MEMCPY(x11, x10, 24);
+  x12 = f143(x1, x2, x3, x11, x5);
+  x13 = FAR(x0, 8);
+  if (((u8)((x12) & 1u))) goto b2; else goto b3;
 b1:;
   st8_1(x0, 1u);
   MEMSET(FAR(x0, 8), 0u, 18);
   goto b4;
 b3:;
   st8_1(x0, 0u);
-  MEMSET(x14, 0u, 18);
+  MEMSET(x13, 0u, 18);
   goto b4;
 b2:;
   st8_1(x0, 1u);
-  MEMSET(x14, 0u, 18);
+  MEMSET(x13, 0u, 18);
   goto b4;
 }
 
-static void f142(Q x0, Q x1, Q x2, Q x3, u64 x4)
+static void f142(Q x0, Q x1, Q x2, Q x3)
 {
-  u8 x8;
-  Q x9;
-  u64 x10, x11;
-  _Alignas(8) u8 y0_[32];
-  Q const x5 = Q_OF(y0_);
-  _Alignas(1) u8 y1_[6];
-  Q const x7 = Q_OF(y1_);
-  _Alignas(1) u8 y2_[6];
-  Q const x6 = Q_OF(y2_);
-  MEMSET(x5, 0u, 32);
-  MEMCPY(x6, x1, 6);
-  MEMSET(x7, 0u, 6);
-  f143(x5, x7, x6, x2, x3, x4);
-  x8 = ld8_1(x5);
-  if (((u8)(x8 == 0u))) goto b0; else goto b1;
-b0:;
-  x9 = ldp_8(ADD(x5, 8));
-  x10 = ld64_8(ADD(x5, 16));
-  x11 = ld64_8(ADD(x5, 24));
-  if (((u8)(x10 < 14u))) goto b2; else goto b3;
-b2:;
-  if (((u8)(x11 == 0u))) goto b4; else goto b5;
-b5:;
-  os_rattle_dealloc(x9);
-  goto b4;
-b6:;
-  return;
-b1:;
-  st8_1(x0, 1u);
-  MEMSET(FAR(x0, 8), 0u, 24);
-  goto b6;
-b3:;
-  st8_1(x0, 0u);
-  stp_1(FAR(x0, 8), x9);
-  st64_1(FAR(x0, 16), x10);
-  st64_1(FAR(x0, 24), x11);
-  goto b6;
-b4:;
-  TRAP();
-  UNREACHABLE();
-}
-
-static void f143(Q x0, Q x1, Q x2, Q x3, Q x4, u64 x5)
-{
+  Q x6, x12;
+  u64 x7, x13, x14;
   u8 x9, x11;
   _Alignas(8) u8 y0_[32];
   Q const x8 = Q_OF(y0_);
   _Alignas(8) u8 y1_[24];
   Q const x10 = Q_OF(y1_);
   _Alignas(1) u8 y2_[6];
-  Q const x6 = Q_OF(y2_);
+  Q const x4 = Q_OF(y2_);
   _Alignas(1) u8 y3_[6];
-  Q const x7 = Q_OF(y3_);
-  MEMCPY(x6, x1, 6);
-  MEMCPY(x7, x2, 6);
+  Q const x5 = Q_OF(y3_);
+  MEMCPY(x4, x1, 6);
+  MEMCPY(x5, x2, 6);
+  x6 = ldp_1(FAR(x3, 48));
+  x7 = ld64_1(FAR(x3, 56));
   MEMSET(x8, 0u, 32);
-  f72(x8, ((u64)((u64)x5 + 54u)));
+  f72(x8, ((u64)((u64)x7 + 54u)));
   x9 = ld8_1(x8);
   if (((u8)(x9 == 0u))) goto b0; else goto b1;
 b0:;
   MEMCPY(x10, ADD(x8, 8), 24);
-  f106(x10, x6, x7, x3, ((u16)(x5)));
-  x11 = f107(x10, x4, x5);
+  f106(x10, x4, x5, x3, ((u16)(x7)));
+  x11 = f107(x10, x6, x7);
   if (((u8)((x11) & 1u))) goto b2; else goto b3;
 b2:;
   TRAP();
   UNREACHABLE();
 b3:;
-  st8_1(x0, 0u);
-  MEMCPY(FAR(x0, 8), x10, 24);
-  goto b4;
+  x12 = ldp_8(x10);
+  x13 = ld64_8(ADD(x10, 8));
+  x14 = ld64_8(ADD(x10, 16));
+  if (((u8)(x13 < 14u))) goto b4; else goto b5;
 b4:;
+  if (((u8)(x14 == 0u))) goto b6; else goto b7;
+b7:;
+  os_rattle_dealloc(x12);
+  goto b6;
+b8:;
   return;
 b1:;
   st8_1(x0, 1u);
   MEMSET(FAR(x0, 8), 0u, 24);
-  goto b4;
+  goto b8;
+b5:;
+  st8_1(x0, 0u);
+  stp_1(FAR(x0, 8), x12);
+  st64_1(FAR(x0, 16), x13);
+  st64_1(FAR(x0, 24), x14);
+  goto b8;
+b6:;
+  TRAP();
+  UNREACHABLE();
 }
 
-static u8 f144(Q x0, u64 x1, u8 x2, Q x3, Q x4)
+static u8 f143(Q x0, u64 x1, u8 x2, Q x3, Q x4)
 {
   u8 x5, x8;
   _Alignas(8) u8 y0_[80];
@@ -12155,7 +12128,7 @@ b0:;
   return x5;
 }
 
-static void f145(Q x0, Q x1, u64 x2, Q x3, u8 x4, Q x5, Q x6, u64 x7, Q x8)
+static void f144(Q x0, Q x1, u64 x2, Q x3, u8 x4, Q x5, Q x6, u64 x7, Q x8)
 {
   u64 x11, x14, x16, x21, x23, x57, x15, x12, x9, x10, x13, x63, x64, x65, x70, x71, x72, x93, x94, x95, x113, x120, x122, x125, x126, x132, x143, x154, x164, x168, x171, x173, x174, x22, x178, x185, x20, x187, x190, x195, x196, x201, x202, x205, x206, x207, x208;
   u8 x19, x25, x27, x29, x31, x33, x35, x46, x48, x50, x52, x53, x55, x59, x60, x18, x62, x17, x66, x67, x73, x76, x77, x78, x79, x34, x32, x30, x96, x28, x26, x24, x105, x112, x118, x119, x131, x137, x138, x141, x147, x162, x175, x179, x180, x182, x183, x191, x193, x199, x203, x209, x210;
@@ -12346,7 +12319,7 @@ b12:;
   x70 = ld64_8(FAR(x1, 456));
   x71 = ld64_8(FAR(x1, 616));
   x72 = ld64_8(FAR(x1, 624));
-  x73 = f146(x69, x70, x71, x2, x36, x68, x72);
+  x73 = f145(x69, x70, x71, x2, x36, x68, x72);
   if (x73) goto b14; else goto b15;
 b16:;
   return;
@@ -12355,7 +12328,7 @@ b15:;
   MEMSET(ADD(x75, 2), 0u, 15);
   st8_1(x75, 5u);
   st8_1(ADD(x75, 1), 0u);
-  f149(x74, x1, x2, x75, x8);
+  f148(x74, x1, x2, x75, x8);
   x76 = ld8_1(x74);
   x77 = ld8_1(ADD(x74, 8));
   x78 = ld8_1(ADD(x74, 9));
@@ -12367,11 +12340,11 @@ b15:;
   goto b16;
 b14:;
   MEMCPY(x41, FAR(x1, 1), 6);
-  f150(x40, x41, x5);
+  f149(x40, x41, x5);
   x79 = ld8_1(x40);
   if (((u8)(x79 == 0u))) goto b17; else goto b18;
 b17:;
-  f151(x38, x1, x2, x36, ADD(x40, 8), x8);
+  f150(x38, x1, x2, x36, ADD(x40, 8), x8);
   x34 = ld8_1(x38);
   x32 = ld8_1(ADD(x38, 8));
   x30 = ld8_1(ADD(x38, 9));
@@ -12398,12 +12371,12 @@ b13:;
   x93 = ld64_8(FAR(x1, 456));
   x94 = ld64_8(FAR(x1, 616));
   x95 = ld64_8(FAR(x1, 624));
-  x96 = f146(x92, x93, x94, x2, x45, x91, x95);
+  x96 = f145(x92, x93, x94, x2, x45, x91, x95);
   if (x96) goto b20; else goto b21;
 b21:;
   st8_1(x82, 5u);
   st8_1(ADD(x82, 1), 0u);
-  f149(x81, x1, x2, x82, x8);
+  f148(x81, x1, x2, x82, x8);
   x28 = ld8_1(x81);
   x26 = ld8_1(ADD(x81, 8));
   x24 = ld8_1(ADD(x81, 9));
@@ -12416,7 +12389,7 @@ b20:;
   MEMCPY(x100, FAR(x1, 286), 16);
   st64_8(x101, x63);
   st64_8(ADD(x101, 8), x14);
-  f159(x102, x90, x101);
+  f158(x102, x90, x101);
   MEMCPY(x103, x101, 16);
   MEMCPY(ADD(x103, 16), x47, 16);
   MEMCPY(x104, x45, 16);
@@ -12461,7 +12434,7 @@ b26:;
   MEMSET(x129, 0u, 32);
   stp_8(x130, x115);
   MEMSET(ADD(x130, 8), 0u, 16);
-  x131 = f160(x130, 2u);
+  x131 = f159(x130, 2u);
   if (x131) goto b30; else goto b31;
 b31:;
   x132 = ld64_8(ADD(x130, 16));
@@ -12480,7 +12453,7 @@ b32:;
 b34:;
   st8_1(x129, 1u);
   MEMCPY(ADD(x129, 1), x106, 6);
-  f162(x128, x136, x129);
+  f161(x128, x136, x129);
   x137 = ld8_1(x128);
   if (((u8)(x137 == 0u))) goto b37; else goto b38;
 b37:;
@@ -12490,8 +12463,8 @@ b38:;
   x138 = ld8_1(ADD(x128, 8));
   MEMCPY(ADD(x139, 1), ADD(x128, 9), 31);
   st8_1(x139, x138);
-  f161(x139);
-  f165(x136);
+  f160(x139);
+  f164(x136);
   goto b36;
 b35:;
   MEMCPY(ADD(x127, 7), x135, 24);
@@ -12506,7 +12479,7 @@ b39:;
   stp_8(ADD(x111, 8), x124);
   st64_8(ADD(x111, 16), x125);
   st64_8(ADD(x111, 24), x126);
-  f162(x110, x107, x111);
+  f161(x110, x107, x111);
   x141 = ld8_1(x110);
   if (((u8)(x141 == 0u))) goto b41; else goto b42;
 b36:;
@@ -12521,14 +12494,14 @@ b41:;
   x143 = ld64_8(ADD(x107, 8));
   MEMSET(x144, 0u, 6);
   MEMSET(x145, 0u, 32);
-  x146 = f164(x108, x142, x143);
+  x146 = f163(x108, x142, x143);
   if (((u8)((x146.f0) == 1u))) goto b44; else goto b45;
 b44:;
   f72(x145, ((u64)((u64)(x146.f1) + 54u)));
   x147 = ld8_1(x145);
   if (((u8)(x147 == 0u))) goto b46; else goto b47;
 b47:;
-  f165(x107);
+  f164(x107);
   goto b48;
 b45:;
   TRAP();
@@ -12536,7 +12509,7 @@ b45:;
 b46:;
   MEMCPY(x148, ADD(x145, 8), 24);
   MEMSET(x149, 0u, 44);
-  x150 = f164(x108, x142, x143);
+  x150 = f163(x108, x142, x143);
   if (((u8)((x150.f0) == 1u))) goto b49; else goto b50;
 b49:;
   st8_1(x149, 0u);
@@ -12669,15 +12642,15 @@ b42:;
   x191 = ld8_1(ADD(x110, 8));
   MEMCPY(ADD(x192, 1), ADD(x110, 9), 31);
   st8_1(x192, x191);
-  f161(x192);
-  f165(x107);
+  f160(x192);
+  f164(x107);
   goto b40;
 b40:;
   goto b48;
 b75:;
-  f165(x107);
+  f164(x107);
   MEMCPY(x98, x97, 6);
-  f150(x83, x98, x5);
+  f149(x83, x98, x5);
   x193 = ld8_1(x83);
   if (((u8)(x193 == 0u))) goto b78; else goto b79;
 b48:;
@@ -12689,14 +12662,14 @@ b78:;
   x196 = ld64_8(ADD(x83, 24));
   MEMSET(x197, 0u, 32);
   MEMSET(x198, 0u, 32);
-  f153(x197);
+  f152(x197);
   x199 = ld8_1(x197);
   if (((u8)(x199 == 0u))) goto b80; else goto b81;
 b80:;
   x200 = ldp_8(ADD(x197, 8));
   x201 = ld64_8(ADD(x197, 16));
   x202 = ld64_8(ADD(x197, 24));
-  f153(x198);
+  f152(x198);
   x203 = ld8_1(x198);
   if (((u8)(x203 == 0u))) goto b82; else goto b83;
 b82:;
@@ -12715,7 +12688,7 @@ b87:;
   os_rattle_dealloc(x200);
   goto b81;
 b85:;
-  x210 = f154(x90, 2u);
+  x210 = f153(x90, 2u);
   if (((u8)((x210) & 1u))) goto b88; else goto b89;
 b86:;
   if (((u8)(x206 == 0u))) goto b90; else goto b91;
@@ -12756,7 +12729,7 @@ b89:;
   stp_8(ADD(x85, 8), x200);
   st64_8(ADD(x85, 16), x201);
   st64_8(ADD(x85, 24), x202);
-  f155(x1, x2, x89, x84, x85, x8);
+  f154(x1, x2, x89, x84, x85, x8);
   stp_8(x86, x194);
   st64_8(ADD(x86, 8), x195);
   st64_8(ADD(x86, 16), x196);
@@ -12764,7 +12737,7 @@ b89:;
   stp_8(ADD(x87, 8), x204);
   st64_8(ADD(x87, 16), x205);
   st64_8(ADD(x87, 24), x206);
-  f155(x1, x2, x80, x86, x87, x8);
+  f154(x1, x2, x80, x86, x87, x8);
   MEMCPY(ADD(x38, 10), x88, 16);
   { x25 = 0u; x27 = 0u; x29 = 0u; goto b22; }
 b81:;
@@ -12790,7 +12763,7 @@ b19:;
   goto b16;
 }
 
-static u8 f146(Q x0, u64 x1, u64 x2, u64 x3, Q x4, Q x5, u64 x6)
+static u8 f145(Q x0, u64 x1, u64 x2, u64 x3, Q x4, Q x5, u64 x6)
 {
   u64 x8, x10, x16, x17, x31, x32, x33, x34, x7, x39, x40, x41, x44, x46, x47, x50, x51, x59, x60, x61, x9;
   u8 x11, x13, x15, x18, x14, x27, x29, x30, x35, x42, x12, x55, x57, x58;
@@ -12811,15 +12784,15 @@ static u8 f146(Q x0, u64 x1, u64 x2, u64 x3, Q x4, Q x5, u64 x6)
 b0:;
   if (((u8)(x1 < x2))) { x15 = 1u; goto b2; } else goto b3;
 b3:;
-  x20 = f147(x0, x1, x4, x6);
+  x20 = f146(x0, x1, x4, x6);
   if (((u8)((x20.f0) == 0u))) { x15 = 1u; goto b2; } else goto b4;
 b4:;
-  x21 = f148(x0, x1, x3);
+  x21 = f147(x0, x1, x3);
   x14 = (u8)(((x21.f0)) & 1u);
   { x15 = x14; goto b2; }
 b1:;
   MEMCPY(x22, x19, 16);
-  x23 = f147(x0, x1, x4, x6);
+  x23 = f146(x0, x1, x4, x6);
   if (((u8)((x23.f0) == 0u))) goto b5; else goto b6;
 b5:;
   x24 = f97(x0, x1, x22);
@@ -12857,11 +12830,11 @@ b6:;
   x35 = (u8)(x1 < x2);
   if (x35) goto b16; else goto b17;
 b17:;
-  x36 = f148(x0, x1, x3);
+  x36 = f147(x0, x1, x3);
   if (((u8)(((x36.f0)) & 1u))) goto b16; else { x15 = 0u; goto b2; }
 b16:;
   MEMCPY(x37, x19, 16);
-  x38 = f148(x0, x1, x3);
+  x38 = f147(x0, x1, x3);
   x39 = x38.f1;
   if (((u8)((x38.f0) == 0u))) goto b18; else goto b19;
 b18:;
@@ -12924,7 +12897,7 @@ b2:;
   return x15;
 }
 
-static s_u8_u64 f147(Q x0, u64 x1, Q x2, u64 x3)
+static s_u8_u64 f146(Q x0, u64 x1, Q x2, u64 x3)
 {
   s_u8_u64 x6, x4, x5;
   Q x8;
@@ -12952,7 +12925,7 @@ b3:;
   return x6;
 }
 
-static s_u8_u64 f148(Q x0, u64 x1, u64 x2)
+static s_u8_u64 f147(Q x0, u64 x1, u64 x2)
 {
   u64 x4, x6, x5, x11, x17, x20, x21, x9, x3;
   u8 x8, x7, x10, x13, x15, x16, x19;
@@ -12990,7 +12963,7 @@ b0:;
   return s_u8_u64_set1(s_u8_u64_set0(((s_u8_u64){0u, 0u}), x10), x11);
 }
 
-static void f149(Q x0, Q x1, u64 x2, Q x3, Q x4)
+static void f148(Q x0, Q x1, u64 x2, Q x3, Q x4)
 {
   u8 x5, x6, x8, x7, x12;
   Q x9;
@@ -13025,21 +12998,21 @@ b0:;
   { x5 = 1u; x6 = 0u; x8 = 0u; goto b2; }
 }
 
-static void f150(Q x0, Q x1, Q x2)
+static void f149(Q x0, Q x1, Q x2)
 {
-  u8 x6, x7, x8, x10, x13;
+  u8 x6, x7, x8, x10, x12;
   u32 x9;
-  Q x11;
-  u64 x12;
-  _Alignas(4) u8 y0_[44];
+  _Alignas(8) u8 y0_[64];
   Q const x5 = Q_OF(y0_);
   _Alignas(8) u8 y1_[32];
   Q const x4 = Q_OF(y1_);
   _Alignas(1) u8 y2_[6];
   Q const x3 = Q_OF(y2_);
+  _Alignas(1) u8 y3_[6];
+  Q const x11 = Q_OF(y3_);
   MEMCPY(x3, x1, 6);
   MEMSET(x4, 0u, 32);
-  MEMSET(x5, 0u, 44);
+  st64_8(ADD(x5, 40), 0u);
   x6 = ld8_1(FAR(x2, 9));
   x7 = usub_sat8(x6, 1u);
   x8 = ld8_1(x2);
@@ -13047,20 +13020,21 @@ static void f150(Q x0, Q x1, Q x2)
   x10 = ld8_1(FAR(x2, 8));
   MEMCPY(ADD(x5, 10), FAR(x2, 10), 16);
   MEMCPY(ADD(x5, 26), FAR(x2, 26), 16);
+  MEMCPY(ADD(x5, 48), FAR(x2, 48), 16);
   st8_1(x5, x8);
+  MEMSET(ADD(x5, 1), 0u, 3);
   st32_4(ADD(x5, 4), x9);
   st8_1(ADD(x5, 8), x10);
   st8_1(ADD(x5, 9), x7);
-  x11 = ldp_4(FAR(x2, 48));
-  x12 = ld64_4(FAR(x2, 56));
-  f142(x4, x3, x5, x11, x12);
-  x13 = ld8_1(x4);
-  st8_1(x0, x13);
+  MEMSET(x11, 0u, 6);
+  f142(x4, x11, x3, x5);
+  x12 = ld8_1(x4);
+  st8_1(x0, x12);
   MEMCPY(FAR(x0, 8), ADD(x4, 8), 24);
   return;
 }
 
-static void f151(Q x0, Q x1, u64 x2, Q x3, Q x4, Q x5)
+static void f150(Q x0, Q x1, u64 x2, Q x3, Q x4, Q x5)
 {
   Q x7;
   u64 x8, x9;
@@ -13078,7 +13052,7 @@ static void f151(Q x0, Q x1, u64 x2, Q x3, Q x4, Q x5)
   x8 = ld64_1(ADD(x4, 8));
   x9 = ld64_1(ADD(x4, 16));
   MEMSET(x10, 0u, 40);
-  f152(x10, FAR(x1, 448), x6, x5);
+  f151(x10, FAR(x1, 448), x6, x5);
   x11 = ld8_1(x10);
   if (((u8)(x11 == 0u))) goto b0; else goto b1;
 b0:;
@@ -13089,7 +13063,7 @@ b0:;
   st64_8(ADD(x13, 16), x9);
   st64_8(x14, ((u64)x12));
   MEMCPY(ADD(x14, 8), ADD(x10, 16), 24);
-  f155(x1, x2, x6, x13, x14, x5);
+  f154(x1, x2, x6, x13, x14, x5);
   st8_1(x0, 0u);
   MEMSET(FAR(x0, 8), 0u, 18);
   goto b2;
@@ -13106,7 +13080,7 @@ b3:;
   goto b2;
 }
 
-static void f152(Q x0, Q x1, Q x2, Q x3)
+static void f151(Q x0, Q x1, Q x2, Q x3)
 {
   u64 x6, x7, x10, x12, x16, x17;
   u8 x8, x14, x18;
@@ -13129,7 +13103,7 @@ b1:;
   x10 = ld64_8(FAR(x1, 8));
   x11 = FAR(x1, 176);
   x12 = ld64_8(x11);
-  x13 = f147(x9, x10, x4, x12);
+  x13 = f146(x9, x10, x4, x12);
   if (((u8)((x13.f0) == 0u))) goto b3; else goto b4;
 b5:;
   return;
@@ -13143,14 +13117,14 @@ b3:;
   MEMSET(FAR(x0, 8), 0u, 32);
   goto b5;
 b4:;
-  f153(x5);
+  f152(x5);
   x14 = ld8_1(x5);
   if (((u8)(x14 == 0u))) goto b6; else goto b7;
 b6:;
   x15 = ldp_8(ADD(x5, 8));
   x16 = ld64_8(ADD(x5, 16));
   x17 = ld64_8(ADD(x5, 24));
-  x18 = f154(x1, 1u);
+  x18 = f153(x1, 1u);
   if (((u8)((x18) & 1u))) goto b8; else goto b9;
 b7:;
   st8_1(x0, 1u);
@@ -13174,7 +13148,7 @@ b9:;
   goto b5;
 }
 
-static void f153(Q x0)
+static void f152(Q x0)
 {
   u8 x1, x4;
   _Alignas(8) u8 y0_[32];
@@ -13198,7 +13172,7 @@ b2:;
   return;
 }
 
-static u8 f154(Q x0, u64 x1)
+static u8 f153(Q x0, u64 x1)
 {
   u8 x2, x5, x9, x13, x17;
   Q x3, x4, x10, x12, x18;
@@ -13260,7 +13234,7 @@ b3:;
   return x2;
 }
 
-static void f155(Q x0, u64 x1, Q x2, Q x3, Q x4, Q x5)
+static void f154(Q x0, u64 x1, Q x2, Q x3, Q x4, Q x5)
 {
   u64 x8, x11, x14, x16, x18, x20, x25, x26, x27, x28, x29, x30, x31, x32, x33, x36, x37, x24, x10, x13, x41, x42, x49, x50, x52, x7, x23, x9, x12, x19, x17, x65, x6, x15, x67, x71, x76, x84, x90, x94;
   u8 x22, x34, x35, x39, x57, x58, x61, x64, x21, x70, x75, x80;
@@ -13311,7 +13285,7 @@ static void f155(Q x0, u64 x1, Q x2, Q x3, Q x4, Q x5)
   x48 = ldp_8(x45);
   x49 = ld64_8(FAR(x0, 456));
   x50 = ld64_8(FAR(x0, 624));
-  x51 = f147(x48, x49, x2, x50);
+  x51 = f146(x48, x49, x2, x50);
   x52 = x51.f1;
   if (((u8)((x51.f0) == 0u))) goto b0; else goto b1;
 b0:;
@@ -13327,7 +13301,7 @@ b2:;
   st64_8(x59, x24);
   st64_8(ADD(x59, 8), x10);
   st64_8(ADD(x59, 16), x13);
-  f156(x60, FAR(x55, 40), x59);
+  f155(x60, FAR(x55, 40), x59);
   x61 = ld8_1(x60);
   x23 = (u64)x61;
   x9 = ld64_8(ADD(x60, 8));
@@ -13365,11 +13339,11 @@ b1:;
   x67 = ld64_8(x66);
   if (((u8)(x49 < x67))) goto b10; else goto b11;
 b11:;
-  x68 = f148(x48, x49, x1);
+  x68 = f147(x48, x49, x1);
   if (((u8)(((x68.f0)) & 1u))) goto b10; else goto b12;
 b10:;
   x69 = FAR(x0, 472);
-  f157(x47, FAR(x0, 528));
+  f156(x47, FAR(x0, 528));
   x70 = ld8_1(x47);
   if (((u8)(x70 == 0u))) goto b13; else goto b12;
 b13:;
@@ -13378,7 +13352,7 @@ b13:;
   st64_8(ADD(x72, 8), x10);
   st64_8(ADD(x72, 16), x13);
   MEMCPY(x73, ADD(x47, 8), 32);
-  f156(x74, x73, x72);
+  f155(x74, x73, x72);
   x75 = ld8_1(x74);
   x76 = ld64_8(ADD(x74, 24));
   if ((((u8)(x75 != 1u)) ? 1u : ((u8)(x76 == 0u)))) goto b14; else goto b15;
@@ -13393,7 +13367,7 @@ b14:;
   st32_4(ADD(x78, 32), 0u);
   st32_4(ADD(x78, 36), x44);
   MEMCPY(ADD(x78, 40), x73, 32);
-  f158(x45, x69, x71, x1, x52, x78);
+  f157(x45, x69, x71, x1, x52, x78);
   { x26 = 0u; x27 = 0u; x28 = 0u; x29 = 0u; x30 = 0u; goto b16; }
 b8:;
   if (x58) goto b17; else { x31 = x20; x32 = x25; x33 = x16; x34 = x22; x35 = 1u; x36 = x14; x37 = x11; goto b18; }
@@ -13484,7 +13458,7 @@ b12:;
   UNREACHABLE();
 }
 
-static void f156(Q x0, Q x1, Q x2)
+static void f155(Q x0, Q x1, Q x2)
 {
   u64 x3, x4, x7, x10, x12, x13, x14, x15, x17, x18, x20;
   Q x9, x11, x16, x19;
@@ -13534,7 +13508,7 @@ b2:;
   return;
 }
 
-static void f157(Q x0, Q x1)
+static void f156(Q x0, Q x1)
 {
   u64 x4, x7, x10, x12, x2, x5, x3, x6, x11, x9;
   u8 x8, x14, x18;
@@ -13592,7 +13566,7 @@ b4:;
   return;
 }
 
-static void f158(Q x0, Q x1, u64 x2, u64 x3, u64 x4, Q x5)
+static void f157(Q x0, Q x1, u64 x2, u64 x3, u64 x4, Q x5)
 {
   u64 x7, x8, x14, x17, x6, x18, x21, x22;
   Q x13, x15;
@@ -13619,7 +13593,7 @@ static void f158(Q x0, Q x1, u64 x2, u64 x3, u64 x4, Q x5)
   if (((u8)(x14 < x2))) { x7 = x4; goto b0; } else goto b1;
 b1:;
   x15 = ldp_8(x0);
-  x16 = f148(x15, x14, x3);
+  x16 = f147(x15, x14, x3);
   if (((u8)((x16.f0) == 1u))) goto b2; else goto b3;
 b2:;
   x17 = x16.f1;
@@ -13646,15 +13620,15 @@ b5:;
   MEMCPY(x23, x9, 24);
   st64_8(ADD(x23, 24), x8);
   MEMCPY(ADD(x23, 32), x10, 40);
-  f219(x0, x7, x23);
+  f218(x0, x7, x23);
   goto b7;
 b6:;
   if (((u8)(x22 == x21))) goto b8; else goto b9;
 b8:;
-  x24 = f218(x0);
+  x24 = f217(x0);
   if (x24) goto b9; else goto b10;
 b9:;
-  f219(x0, x7, x20);
+  f218(x0, x7, x20);
   goto b7;
 b10:;
   TRAP();
@@ -13664,7 +13638,7 @@ b7:;
   return;
 }
 
-static void f159(Q x0, Q x1, Q x2)
+static void f158(Q x0, Q x1, Q x2)
 {
   Q x3, x7;
   u64 x4, x5;
@@ -13675,7 +13649,7 @@ static void f159(Q x0, Q x1, Q x2)
   x3 = ldp_8(x1);
   x4 = ld64_8(FAR(x1, 8));
   x5 = ld64_8(FAR(x1, 176));
-  x6 = f147(x3, x4, x2, x5);
+  x6 = f146(x3, x4, x2, x5);
   x7 = FAR(x3, (u64)((u64)((u64)(x6.f1) * 72u)));
   if (((u8)((x6.f0) == 0u))) goto b0; else goto b1;
 b0:;
@@ -13696,7 +13670,7 @@ b3:;
   goto b4;
 }
 
-static u8 f160(Q x0, u64 x1)
+static u8 f159(Q x0, u64 x1)
 {
   u8 x2;
   s_u64_u64 x5, x3, x10, x4;
@@ -13724,7 +13698,7 @@ b4:;
   { x2 = 1u; goto b1; }
 }
 
-static void f161(Q x0)
+static void f160(Q x0)
 {
   u64 x2, x5, x6, x8, x1;
   u8 x3;
@@ -13773,7 +13747,7 @@ b5:;
   UNREACHABLE();
 }
 
-static void f162(Q x0, Q x1, Q x2)
+static void f161(Q x0, Q x1, Q x2)
 {
   u64 x5, x8, x4, x3;
   u8 x6, x10;
@@ -13787,7 +13761,7 @@ static void f162(Q x0, Q x1, Q x2)
   x4 = ld64_8(x9);
   if (((u8)(x8 == x4))) goto b0; else { x5 = x4; goto b1; }
 b0:;
-  x10 = f163(x1);
+  x10 = f162(x1);
   if (x10) goto b2; else goto b3;
 b2:;
   x3 = ld64_8(x9);
@@ -13810,7 +13784,7 @@ b1:;
   goto b4;
 }
 
-static u8 f163(Q x0)
+static u8 f162(Q x0)
 {
   u8 x2, x1;
   u64 x3, x4, x5, x6, x7;
@@ -13823,11 +13797,11 @@ b1:;
   x5 = umax64(x3, 3u);
   x6 = (u64)((u64)x5 + 1u);
   x7 = umax64(x6, ((u64)((u64)x4 << 1)));
-  x1 = f160(x0, (((u8)(x4 < UINT64_C(4611686018427387904))) ? x7 : x6));
+  x1 = f159(x0, (((u8)(x4 < UINT64_C(4611686018427387904))) ? x7 : x6));
   { x2 = x1; goto b0; }
 }
 
-static s_u8_u64 f164(Q x0, Q x1, u64 x2)
+static s_u8_u64 f163(Q x0, Q x1, u64 x2)
 {
   u64 x5, x7, x12, x13, x4, x6, x18, x11, x20, x23, x10, x27, x29, x8, x31, x9, x3;
   u8 x14, x17, x22, x24, x28;
@@ -13883,7 +13857,7 @@ b1:;
   return s_u8_u64_set1(s_u8_u64_set0(((s_u8_u64){0u, 0u}), x14), x13);
 }
 
-static void f165(Q x0)
+static void f164(Q x0)
 {
   u64 x2, x4, x5, x1;
   Q x3, x7, x8;
@@ -13902,7 +13876,7 @@ b2:;
   x9 = ld8_1(x8);
   st8_1(x6, x9);
   MEMCPY(x7, FAR(x8, 1), 31);
-  f161(x6);
+  f160(x6);
   x1 = (u64)((u64)x2 + 1u);
   if (((u8)(x1 == x4))) goto b0; else { x2 = x1; goto b2; }
 b0:;
@@ -13914,7 +13888,7 @@ b3:;
   return;
 }
 
-static void f166(Q x0, Q x1, u64 x2, Q x3)
+static void f165(Q x0, Q x1, u64 x2, Q x3)
 {
   u8 x5, x9, x10, x13, x23, x12, x11, x26, x27, x28, x4;
   u64 x8, x15, x17, x19, x20, x7, x29, x6, x14, x16;
@@ -13929,7 +13903,7 @@ static void f166(Q x0, Q x1, u64 x2, Q x3)
   x18 = ldp_8(x1);
   x19 = ld64_8(FAR(x1, 8));
   x20 = ld64_8(FAR(x1, 176));
-  x21 = f147(x18, x19, x3, x20);
+  x21 = f146(x18, x19, x3, x20);
   x22 = FAR(x18, (u64)((u64)((u64)(x21.f1) * 72u)));
   if (((u8)((x21.f0) == 0u))) goto b0; else goto b1;
 b0:;
@@ -13989,7 +13963,7 @@ b1:;
   goto b13;
 }
 
-static u8 f167(Q x0, Q x1)
+static u8 f166(Q x0, Q x1)
 {
   u8 x2, x3, x7, x14, x15, x16, x17;
   Q x8, x10, x11, x13;
@@ -14024,14 +13998,14 @@ b2:;
   MEMCPY(x13, x4, 6);
   switch (x14) { case 0u: goto b3; case 1u: goto b4; case 2u: goto b5; case 3u: goto b5; case 4u: goto b5; case 5u: goto b5; case 6u: goto b5; case 7u: goto b5; default: goto b6; }
 b3:;
-  x15 = f168(x10, x12);
+  x15 = f167(x10, x12);
   if (x15) goto b7; else { x2 = 1u; goto b1; }
 b6:;
   UNREACHABLE();
 b5:;
   { x2 = 1u; goto b1; }
 b4:;
-  x16 = f168(x10, x12);
+  x16 = f167(x10, x12);
   if (x16) goto b7; else { x2 = 1u; goto b1; }
 b7:;
   f10(x5, x6, 1u);
@@ -14041,7 +14015,7 @@ b1:;
   return x2;
 }
 
-static u8 f168(Q x0, Q x1)
+static u8 f167(Q x0, Q x1)
 {
   u8 x3, x7, x11, x15, x19, x20, x23, x24, x2, x25, x6, x26, x27, x10, x29, x30, x14, x18;
   u64 x5, x9, x13, x17, x4, x8, x12, x28, x16;
@@ -14088,7 +14062,7 @@ b1:;
   return x19;
 }
 
-static void f169(Q x0, Q x1, Q x2)
+static void f168(Q x0, Q x1, Q x2)
 {
   u8 x3, x7, x10, x11, x12;
   Q x8, x9;
@@ -14114,7 +14088,7 @@ b2:;
   x10 = ld8_1(x8);
   if (((u8)(x10 == 0u))) goto b3; else goto b4;
 b3:;
-  x11 = f168(x9, x4);
+  x11 = f167(x9, x4);
   if (x11) goto b4; else goto b5;
 b6:;
   return;
@@ -14131,7 +14105,7 @@ b1:;
   goto b6;
 }
 
-static void f170(Q x0, Q x1, u64 x2, Q x3)
+static void f169(Q x0, Q x1, u64 x2, Q x3)
 {
   u8 x8;
   _Alignas(8) u8 y0_[40];
@@ -14151,8 +14125,8 @@ static void f170(Q x0, Q x1, u64 x2, Q x3)
   stp_8(ADD(x5, 24), FAR(x1, 280));
   stp_8(ADD(x5, 32), FAR(x1, 448));
   MEMSET(x6, 0u, 17);
-  f171(x7, FAR(x1, 696), x4);
-  f172(x6, x7, x4, x5);
+  f170(x7, FAR(x1, 696), x4);
+  f171(x6, x7, x4, x5);
   x8 = ld8_1(x6);
   MEMCPY(x9, ADD(x6, 1), 16);
   st8_1(x0, x8);
@@ -14160,7 +14134,7 @@ static void f170(Q x0, Q x1, u64 x2, Q x3)
   return;
 }
 
-static void f171(Q x0, Q x1, Q x2)
+static void f170(Q x0, Q x1, Q x2)
 {
   u8 x4, x3;
   u64 x5, x6, x8;
@@ -14197,7 +14171,7 @@ b4:;
   goto b2;
 }
 
-static void f172(Q x0, Q x1, Q x2, Q x3)
+static void f171(Q x0, Q x1, Q x2, Q x3)
 {
   Q x6, x46, x49, x4, x5, x65, x67, x68, x70, x71, x72, x73, x74, x79, x82, x83;
   u64 x9, x11, x13, x15, x17, x26, x27, x12, x10, x16, x36, x37, x40, x41, x42, x43, x50, x53, x54, x7, x8, x58, x60, x61, x66, x69, x75, x76, x77, x80, x81, x25, x84, x85, x34, x33, x14;
@@ -14303,7 +14277,7 @@ b18:;
   { x11 = 0u; x13 = 0u; x15 = 0u; x17 = 0u; x19 = 0u; x21 = 0u; x23 = 0u; x24 = 0u; goto b19; }
 b19:;
   x73 = FAR(x67, (u64)((u64)((u64)x15 << 5)));
-  x35 = f173(x68, x69, x73);
+  x35 = f172(x68, x69, x73);
   x74 = ldp_8(x70);
   x75 = ld64_8(x71);
   if (((u8)(x75 == 0u))) { x27 = 0u; x29 = 1u; x30 = 0u; goto b20; } else goto b21;
@@ -14326,7 +14300,7 @@ b20:;
   x83 = ldp_8(x82);
   x84 = ld64_8(FAR(x82, 8));
   x85 = ld64_8(FAR(x82, 176));
-  x86 = f147(x83, x84, x73, x85);
+  x86 = f146(x83, x84, x73, x85);
   if (((u8)((x86.f0) == 0u))) goto b24; else { x32 = 0u; goto b25; }
 b24:;
   x31 = ld8_1(FAR(FAR(x83, (u64)((u64)((u64)(x86.f1) * 72u))), 32));
@@ -14372,7 +14346,7 @@ b37:;
   goto b4;
 }
 
-static u8 f173(Q x0, u64 x1, Q x2)
+static u8 f172(Q x0, u64 x1, Q x2)
 {
   u64 x4, x7, x8, x3, x11, x12;
   u8 x6, x5;
@@ -14399,7 +14373,7 @@ b0:;
   return x6;
 }
 
-static void f174(Q x0, Q x1, u64 x2, Q x3, Q x4)
+static void f173(Q x0, Q x1, u64 x2, Q x3, Q x4)
 {
   u8 x5, x6, x7, x9, x10, x11, x13, x18, x20, x22, x24, x25, x40, x50, x8, x53, x56, x12, x19, x60, x63, x64, x65, x67, x23, x21, x72, x73, x76, x78, x79, x80, x81, x82, x87, x89, x97, x99, x101, x102, x104, x105, x107, x108, x114;
   u64 x15, x17, x31, x16, x14, x83, x84, x86, x92, x95, x110, x112, x115, x116, x29, x30, x117;
@@ -14497,7 +14471,7 @@ b2:;
   switch (x50) { case 0u: goto b3; case 1u: goto b4; case 2u: goto b5; case 3u: goto b6; case 4u: goto b7; default: goto b8; }
 b3:;
   MEMCPY(x51, x39, 24);
-  f169(x45, x51, x43);
+  f168(x45, x51, x43);
   x8 = ld8_1(ADD(x45, 1));
   x52 = ADD(x45, 2);
   if (((u8)((x14 | x16) == 0u))) goto b9; else goto b10;
@@ -14526,7 +14500,7 @@ b14:;
   { x22 = x7; x24 = 1u; goto b11; }
 b4:;
   MEMCPY(x55, x39, 24);
-  f169(x46, x55, x43);
+  f168(x46, x55, x43);
   x56 = ld8_1(x46);
   if (((u8)(x56 == 1u))) goto b15; else goto b16;
 b15:;
@@ -14549,7 +14523,7 @@ b17:;
   { x22 = x11; x24 = 1u; goto b11; }
 b5:;
   MEMCPY(x58, x39, 24);
-  f169(x47, x58, x43);
+  f168(x47, x58, x43);
   x19 = ld8_1(ADD(x47, 1));
   x59 = ADD(x47, 2);
   if (((u8)((x14 | x16) == 0u))) goto b18; else goto b19;
@@ -14582,7 +14556,7 @@ b6:;
   x64 = ld8_1(FAR(x3, 34));
   x65 = ld8_1(FAR(x3, 35));
   MEMCPY(x66, x39, 24);
-  f175(x48, x66, x43);
+  f174(x48, x66, x43);
   x67 = ld8_1(x48);
   MEMCPY(ADD(x44, 2), x62, 16);
   st8_1(ADD(x44, 18), x63);
@@ -14593,8 +14567,8 @@ b6:;
   { x22 = 1u; x24 = 1u; goto b11; }
 b7:;
   MEMCPY(x68, x39, 24);
-  f175(x49, x68, x43);
-  f176(x44, FAR(x3, 33), x49);
+  f174(x49, x68, x43);
+  f175(x44, FAR(x3, 33), x49);
   x23 = ld8_1(x44);
   x21 = ld8_1(ADD(x44, 1));
   { x22 = x21; x24 = x23; goto b11; }
@@ -14620,13 +14594,13 @@ b23:;
   MEMCPY(ADD(x75, 17), x70, 10);
   if (x73) goto b26; else goto b27;
 b26:;
-  x76 = f177(x74, x2, x75);
+  x76 = f176(x74, x2, x75);
   if (x76) { x25 = 1u; goto b25; } else goto b28;
 b27:;
   st8_1(x77, x22);
   MEMCPY(ADD(x77, 1), x69, 16);
   MEMCPY(ADD(x77, 17), x70, 10);
-  x78 = f179(x74, x2, x77);
+  x78 = f178(x74, x2, x77);
   if (x78) { x25 = 1u; goto b25; } else goto b28;
 b28:;
   x79 = ld8_1(x71);
@@ -14636,7 +14610,7 @@ b30:;
 b29:;
   st8_1(x36, 5u);
   st8_1(ADD(x36, 1), 0u);
-  f149(x32, x1, x2, x36, x4);
+  f148(x32, x1, x2, x36, x4);
   x80 = ld8_1(x32);
   st8_1(x0, x80);
   x81 = ld8_1(ADD(x32, 8));
@@ -14646,7 +14620,7 @@ b29:;
   MEMCPY(FAR(x0, 10), ADD(x32, 10), 16);
   goto b30;
 b25:;
-  f180(x34, x33, x25);
+  f179(x34, x33, x25);
   x83 = (x73 ? 21u : 12u);
   x84 = ld64_8(FAR(x4, 40));
   x85 = FAR(x4, 32);
@@ -14683,12 +14657,12 @@ b32:;
   st8_1(ADD(x98, 1), x99);
   MEMCPY(ADD(x98, 2), ADD(x34, 2), 16);
   MEMCPY(ADD(x98, 18), ADD(x34, 18), 10);
-  f181(x100, x74, x96, x2, x98, x73, x4);
-  (void)f183(x74, x96, x2, x98, x95, x4);
+  f180(x100, x74, x96, x2, x98, x73, x4);
+  (void)f182(x74, x96, x2, x98, x95, x4);
   x101 = ld8_1(x100);
   MEMCPY(ADD(x35, 1), ADD(x100, 1), 16);
   st8_1(x35, x101);
-  f186(FAR(x1, 112), x96, x35);
+  f185(FAR(x1, 112), x96, x35);
   x102 = ld8_1(x1);
   x103 = FAR(x1, 40);
   if (((u8)(x102 == 1u))) goto b34; else goto b35;
@@ -14757,7 +14731,7 @@ b33:;
   goto b30;
 }
 
-static void f175(Q x0, Q x1, Q x2)
+static void f174(Q x0, Q x1, Q x2)
 {
   u8 x3, x7, x10, x11, x12;
   Q x8, x9;
@@ -14783,7 +14757,7 @@ b2:;
   x10 = ld8_1(x8);
   if (((u8)(x10 == 1u))) goto b3; else goto b4;
 b3:;
-  x11 = f168(x9, x4);
+  x11 = f167(x9, x4);
   if (x11) goto b4; else goto b5;
 b6:;
   return;
@@ -14800,7 +14774,7 @@ b1:;
   goto b6;
 }
 
-static void f176(Q x0, Q x1, Q x2)
+static void f175(Q x0, Q x1, Q x2)
 {
   u8 x3, x5, x6, x7, x8, x9, x4, x15, x16;
   Q x10;
@@ -14874,7 +14848,7 @@ b8:;
   goto b5;
 }
 
-static u8 f177(Q x0, u64 x1, Q x2)
+static u8 f176(Q x0, u64 x1, Q x2)
 {
   u8 x4, x5, x6, x13, x14, x3;
   Q x9;
@@ -14892,10 +14866,10 @@ b0:;
   x10 = ld64_8(FAR(x0, 8));
   x11 = ld64_8(FAR(x0, 168));
   x12 = ld64_8(FAR(x0, 176));
-  x13 = f146(x9, x10, x11, x1, FAR(x2, 1), x8, x12);
+  x13 = f145(x9, x10, x11, x1, FAR(x2, 1), x8, x12);
   if (x13) { x4 = 1u; goto b2; } else goto b3;
 b3:;
-  f178(x7, x9, x10);
+  f177(x7, x9, x10);
   x14 = ld8_1(x7);
   x3 = (u8)((x14) & 1u);
   { x4 = x3; goto b2; }
@@ -14905,7 +14879,7 @@ b1:;
   return x5;
 }
 
-static void f178(Q x0, Q x1, u64 x2)
+static void f177(Q x0, Q x1, u64 x2)
 {
   u64 x4, x6, x5, x14, x20, x12, x11, x10, x3, x26, x27, x13;
   u8 x8, x7, x15, x17, x18, x21, x9, x23, x24;
@@ -14967,7 +14941,7 @@ b0:;
   goto b13;
 }
 
-static u8 f179(Q x0, u64 x1, Q x2)
+static u8 f178(Q x0, u64 x1, Q x2)
 {
   u8 x4, x5, x3;
   Q x7;
@@ -14982,13 +14956,13 @@ b0:;
   x8 = ld64_8(FAR(x0, 8));
   x9 = ld64_8(FAR(x0, 168));
   x10 = ld64_8(FAR(x0, 176));
-  x3 = f146(x7, x8, x9, x1, FAR(x2, 1), x6, x10);
+  x3 = f145(x7, x8, x9, x1, FAR(x2, 1), x6, x10);
   { x4 = x3; goto b1; }
 b1:;
   return x4;
 }
 
-static void f180(Q x0, Q x1, u8 x2)
+static void f179(Q x0, Q x1, u8 x2)
 {
   u8 x3, x5, x7, x8, x11, x14, x15, x9, x18, x20, x6, x4, x10;
   u16 x13, x12, x19;
@@ -15062,7 +15036,7 @@ b8:;
   UNREACHABLE();
 }
 
-static void f181(Q x0, Q x1, Q x2, u64 x3, Q x4, u8 x5, Q x6)
+static void f180(Q x0, Q x1, Q x2, u64 x3, Q x4, u8 x5, Q x6)
 {
   u8 x7, x8, x9, x22, x23, x25;
   Q x10, x16, x18;
@@ -15109,14 +15083,14 @@ b5:;
   x19 = ld64_8(FAR(x1, 8));
   x20 = ld64_8(FAR(x1, 168));
   x21 = ld64_8(FAR(x1, 176));
-  x22 = f146(x18, x19, x20, x3, x10, x17, x21);
+  x22 = f145(x18, x19, x20, x3, x10, x17, x21);
   if (x22) goto b7; else goto b8;
 b8:;
-  f178(x15, x18, x19);
+  f177(x15, x18, x19);
   x23 = ld8_1(x15);
   if (((u8)(x23 == 1u))) goto b9; else goto b7;
 b9:;
-  f182(x24, x1, FAR(x1, 24), x16);
+  f181(x24, x1, FAR(x1, 24), x16);
   x25 = ld8_1(x24);
   MEMCPY(x12, x16, 16);
   MEMCPY(x13, ADD(x24, 8), 32);
@@ -15135,7 +15109,7 @@ b6:;
   goto b2;
 }
 
-static void f182(Q x0, Q x1, Q x2, Q x3)
+static void f181(Q x0, Q x1, Q x2, Q x3)
 {
   u64 x4, x8, x10;
   Q x7;
@@ -15179,7 +15153,7 @@ b1:;
   goto b5;
 }
 
-static u8 f183(Q x0, Q x1, u64 x2, Q x3, u64 x4, Q x5)
+static u8 f182(Q x0, Q x1, u64 x2, Q x3, u64 x4, Q x5)
 {
   u8 x7, x10, x22, x27, x29, x32, x37, x47, x49, x50, x52, x57, x59, x60, x62, x64, x71, x72, x73, x74, x81, x87, x89, x91, x92, x94, x95, x96, x101, x103, x104, x58, x117, x6, x9, x8, x122, x28, x61, x63, x126, x48, x139, x36, x30, x31, x146, x149, x46, x153, x51, x158, x160, x162, x88, x79, x80, x163, x90;
   u64 x12, x14, x16, x21, x23, x24, x25, x41, x43, x45, x54, x55, x56, x75, x76, x77, x83, x85, x86, x106, x110, x112, x115, x19, x15, x13, x11, x20, x133, x137, x151, x40, x42, x44, x152, x156, x166, x84, x82, x169, x170, x171, x176;
@@ -15295,7 +15269,7 @@ b12:;
   { x12 = x11; x14 = x13; x16 = x15; x18 = x17; x21 = x19; x22 = 1u; goto b14; }
 b13:;
   x121 = FAR(x113, 33);
-  x122 = f184(x108, x121);
+  x122 = f183(x108, x121);
   if (x122) { x23 = 0u; x24 = 0u; x25 = 0u; x26 = Q_NULL; x27 = 0u; x29 = x10; goto b15; } else goto b16;
 b16:;
   x20 = (u64)((u64)x2 + 86400000u);
@@ -15318,7 +15292,7 @@ b15:;
 b7:;
   if (((u8)(x110 < x106))) goto b19; else goto b20;
 b20:;
-  x123 = f148(x109, x110, x2);
+  x123 = f147(x109, x110, x2);
   if (((u8)(((x123.f0)) & 1u))) goto b19; else goto b21;
 b19:;
   MEMCPY(x124, x93, 16);
@@ -15333,7 +15307,7 @@ b19:;
   st8_1(ADD(x124, 39), 0u);
   st64_8(ADD(x124, 40), x2);
   MEMSET(ADD(x124, 48), 0u, 24);
-  f158(x0, x105, x106, x2, x112, x124);
+  f157(x0, x105, x106, x2, x112, x124);
   { x53 = Q_NULL; x54 = 0u; x55 = 0u; x56 = 0u; x57 = 0u; x59 = 0u; x60 = 0u; x62 = 0u; goto b18; }
 b3:;
   x63 = (u8)(x95 == 1u);
@@ -15378,7 +15352,7 @@ b26:;
 b27:;
   st16_2(x142, x69);
   st32_2(ADD(x142, 2), x66);
-  f185(x141, x135, x2, x140, x142, 1u, x4);
+  f184(x141, x135, x2, x140, x142, 1u, x4);
   { x32 = x30; x35 = x33; x37 = x36; goto b28; }
 b25:;
   x34 = FAR(x135, 16);
@@ -15390,21 +15364,21 @@ b25:;
   if (x139) goto b29; else goto b30;
 b29:;
   MEMCPY(x144, x143, 6);
-  f185(x141, x135, x2, x140, x144, 0u, x4);
+  f184(x141, x135, x2, x140, x144, 0u, x4);
   { x32 = x31; x35 = x34; x37 = 0u; goto b28; }
 b30:;
   MEMCPY(x145, x143, 6);
-  x146 = f184(x131, x143);
+  x146 = f183(x131, x143);
   if (x146) goto b31; else goto b32;
 b31:;
-  f185(x141, x135, x2, x140, x145, 0u, x4);
+  f184(x141, x135, x2, x140, x145, 0u, x4);
   { x32 = x31; x35 = x34; x37 = 0u; goto b28; }
 b32:;
   st16_2(x147, x69);
   st32_2(ADD(x147, 2), x66);
   if (((u8)(((u16)(x127 & 256u)) == 0u))) goto b33; else goto b34;
 b34:;
-  f185(x141, x135, x2, x140, x147, 1u, x4);
+  f184(x141, x135, x2, x140, x147, 1u, x4);
   { x32 = x31; x35 = x34; x37 = 0u; goto b28; }
 b33:;
   x148 = FAR(x135, 39);
@@ -15550,7 +15524,7 @@ b1:;
   return x91;
 }
 
-static u8 f184(Q x0, Q x1)
+static u8 f183(Q x0, Q x1)
 {
   u8 x3, x7, x12, x13, x2, x15, x16, x6;
   u64 x5, x9, x4, x14, x8;
@@ -15578,7 +15552,7 @@ b2:;
   return ((u8)(((u8)(x2 | x6)) ^ 1u));
 }
 
-static void f185(Q x0, Q x1, u64 x2, Q x3, Q x4, u8 x5, u64 x6)
+static void f184(Q x0, Q x1, u64 x2, Q x3, Q x4, u8 x5, u64 x6)
 {
   u64 x7, x8, x12;
   u8 x9, x10, x14, x20;
@@ -15654,7 +15628,7 @@ b7:;
   goto b5;
 }
 
-static void f186(Q x0, Q x1, Q x2)
+static void f185(Q x0, Q x1, Q x2)
 {
   u8 x3;
   _Alignas(1) u8 y0_[17];
@@ -15675,7 +15649,7 @@ b1:;
   return;
 }
 
-static void f187(Q x0, Q x1, u64 x2, Q x3, Q x4, Q x5)
+static void f186(Q x0, Q x1, u64 x2, Q x3, Q x4, Q x5)
 {
   u8 x6, x7, x8, x10, x11, x12, x14, x19, x21, x23, x25, x28, x29, x33, x35, x53, x62, x9, x65, x68, x13, x20, x72, x75, x76, x77, x79, x24, x22, x85, x86, x26, x27, x91, x103, x106, x108, x110, x111, x112, x113, x114, x115, x130, x131, x132, x133, x134, x135, x140, x141, x144, x148, x150, x173, x174, x175, x176, x34, x181, x183;
   u64 x16, x18, x32, x38, x17, x15, x92, x97, x136, x143, x145, x146, x31, x30, x155, x158, x161, x164, x167, x170, x177, x178, x179, x37, x36;
@@ -15816,7 +15790,7 @@ b2:;
   switch (x62) { case 0u: goto b3; case 1u: goto b4; case 2u: goto b5; case 3u: goto b6; case 4u: goto b7; default: goto b8; }
 b3:;
   MEMCPY(x63, x51, 24);
-  f169(x57, x63, x55);
+  f168(x57, x63, x55);
   x9 = ld8_1(ADD(x57, 1));
   x64 = ADD(x57, 2);
   if (((u8)((x15 | x17) == 0u))) goto b9; else goto b10;
@@ -15845,7 +15819,7 @@ b14:;
   { x23 = x8; x25 = 1u; goto b11; }
 b4:;
   MEMCPY(x67, x51, 24);
-  f169(x58, x67, x55);
+  f168(x58, x67, x55);
   x68 = ld8_1(x58);
   if (((u8)(x68 == 1u))) goto b15; else goto b16;
 b15:;
@@ -15868,7 +15842,7 @@ b17:;
   { x23 = x12; x25 = 1u; goto b11; }
 b5:;
   MEMCPY(x70, x51, 24);
-  f169(x59, x70, x55);
+  f168(x59, x70, x55);
   x20 = ld8_1(ADD(x59, 1));
   x71 = ADD(x59, 2);
   if (((u8)((x15 | x17) == 0u))) goto b18; else goto b19;
@@ -15901,7 +15875,7 @@ b6:;
   x76 = ld8_1(FAR(x3, 34));
   x77 = ld8_1(FAR(x3, 35));
   MEMCPY(x78, x51, 24);
-  f175(x60, x78, x55);
+  f174(x60, x78, x55);
   x79 = ld8_1(x60);
   st8_1(x56, 1u);
   st8_1(ADD(x56, 1), 1u);
@@ -15914,8 +15888,8 @@ b6:;
   { x23 = 1u; x25 = 1u; goto b11; }
 b7:;
   MEMCPY(x80, x51, 24);
-  f175(x61, x80, x55);
-  f176(x56, FAR(x3, 33), x61);
+  f174(x61, x80, x55);
+  f175(x56, FAR(x3, 33), x61);
   x24 = ld8_1(x56);
   x22 = ld8_1(ADD(x56, 1));
   { x23 = x22; x25 = x24; goto b11; }
@@ -15940,16 +15914,16 @@ b23:;
   MEMCPY(ADD(x88, 17), x82, 10);
   if (x86) goto b25; else goto b26;
 b25:;
-  x26 = f177(x87, x2, x88);
+  x26 = f176(x87, x2, x88);
   { x28 = x26; goto b24; }
 b26:;
   st8_1(x89, x23);
   MEMCPY(ADD(x89, 1), x81, 16);
   MEMCPY(ADD(x89, 17), x82, 10);
-  x27 = f179(x87, x2, x89);
+  x27 = f178(x87, x2, x89);
   { x28 = x27; goto b24; }
 b24:;
-  f188(x41, x52);
+  f187(x41, x52);
   x90 = FAR(x1, 632);
   x91 = ld8_1(x41);
   x92 = (u64)x91;
@@ -15969,7 +15943,7 @@ b24:;
   goto b27;
 b27:;
   MEMSET(x100, 0u, 32);
-  f189(x100, x98);
+  f188(x100, x98);
   x103 = ld8_1(x100);
   MEMCPY(x104, x101, 16);
   x105 = ld32_4(x102);
@@ -15979,27 +15953,27 @@ b28:;
   MEMCPY(x107, x104, 16);
   if (((u8)(x105 == 0u))) goto b29; else goto b30;
 b30:;
-  x108 = f191(x96, x97, x2, x107);
+  x108 = f190(x96, x97, x2, x107);
   if (x108) goto b27; else goto b29;
 b29:;
   if (x28) goto b31; else { x29 = 0u; goto b32; }
 b31:;
   x109 = ld16_2(FAR(x4, 4));
-  x110 = f193(FAR(x1, 112), x2, x3, x109);
+  x110 = f192(FAR(x1, 112), x2, x3, x109);
   if (x110) goto b33; else { x29 = 1u; goto b32; }
 b33:;
-  x111 = f195(FAR(x1, 248), x2, x52);
+  x111 = f194(FAR(x1, 248), x2, x52);
   if (x111) goto b34; else { x29 = 2u; goto b32; }
 b34:;
-  x112 = f199(FAR(x1, 280), x52);
+  x112 = f198(FAR(x1, 280), x52);
   if (x112) goto b35; else { x29 = 3u; goto b32; }
 b35:;
-  x113 = f201(x90, x2, x52);
+  x113 = f200(x90, x2, x52);
   if (x113) goto b36; else { x29 = 4u; goto b32; }
 b36:;
   if (x106) goto b37; else goto b38;
 b37:;
-  x114 = f204(x90, x2, x52);
+  x114 = f203(x90, x2, x52);
   if (x114) goto b39; else { x29 = 5u; goto b32; }
 b32:;
   x115 = ld8_1(x83);
@@ -16024,12 +15998,12 @@ b40:;
   MEMCPY(x127, x51, 24);
   MEMCPY(x128, x51, 24);
   x129 = ld16_2(FAR(x4, 4));
-  x130 = f193(FAR(x1, 112), x2, x3, x129);
-  x131 = f195(FAR(x1, 248), x2, x127);
-  x132 = f199(FAR(x1, 280), x128);
-  x133 = f201(x90, x2, x128);
-  x134 = f204(x90, x2, x128);
-  f188(x117, x126);
+  x130 = f192(FAR(x1, 112), x2, x3, x129);
+  x131 = f194(FAR(x1, 248), x2, x127);
+  x132 = f198(FAR(x1, 280), x128);
+  x133 = f200(x90, x2, x128);
+  x134 = f203(x90, x2, x128);
+  f187(x117, x126);
   x135 = ld8_1(x117);
   x136 = (u64)x135;
   st64_8(x121, x136);
@@ -16039,14 +16013,14 @@ b40:;
   st32_4(x122, x138);
   x139 = ADD(x117, 32);
   MEMCPY(ADD(x121, 32), x139, 24);
-  f206(x120, x90, x2, x121);
+  f205(x120, x90, x2, x121);
   x140 = ld8_1(x120);
   x141 = ld8_1(ADD(x120, 8));
   if (((u8)(x140 == 0u))) goto b42; else goto b43;
 b42:;
   x142 = ADD(x120, 16);
-  f180(x119, x116, x28);
-  x143 = f212(x87, x116);
+  f179(x119, x116, x28);
+  x143 = f211(x87, x116);
   x144 = ld8_1(x84);
   x145 = (u64)((u64)((u64)((u64)x143 + 8u)) + (((u8)((x144) & 1u)) ? 9u : 0u));
   x146 = ld64_8(FAR(x5, 40));
@@ -16086,7 +16060,7 @@ b45:;
   MEMCPY(ADD(x123, 32), x139, 24);
   st64_8(x124, ((u64)x141));
   MEMCPY(ADD(x124, 8), x142, 40);
-  f214(x1, x2, x3, x4, x119, x123, x124, x130, x5);
+  f213(x1, x2, x3, x4, x119, x123, x124, x130, x5);
   if (x28) goto b49; else goto b50;
 b50:;
   x155 = ld64_8(x147);
@@ -16163,7 +16137,7 @@ b59:;
 b47:;
   if (((u8)(x141 == 1u))) goto b61; else goto b62;
 b61:;
-  f213(x142);
+  f212(x142);
   goto b62;
 b62:;
   MEMSET(ADD(x39, 8), 0u, 18);
@@ -16177,7 +16151,7 @@ b48:;
 b41:;
   st8_1(x43, 5u);
   st8_1(ADD(x43, 1), x29);
-  f149(x39, x1, x2, x43, x5);
+  f148(x39, x1, x2, x43, x5);
   x173 = ld8_1(x39);
   st8_1(x0, x173);
   x174 = ld8_1(ADD(x39, 8));
@@ -16194,7 +16168,7 @@ b39:;
   MEMCPY(ADD(x46, 8), x93, 16);
   st32_4(ADD(x46, 24), x94);
   MEMCPY(ADD(x46, 32), x95, 24);
-  f206(x45, x90, x2, x46);
+  f205(x45, x90, x2, x46);
   x176 = ld8_1(x45);
   if (((u8)(x176 == 0u))) goto b65; else goto b66;
 b65:;
@@ -16206,7 +16180,7 @@ b66:;
   MEMSET(FAR(x0, 8), 0u, 18);
   goto b63;
 b64:;
-  x177 = f212(x87, x40);
+  x177 = f211(x87, x40);
   x178 = (u64)((u64)(x86 ? 11u : 2u) + x177);
   x179 = ld64_8(FAR(x5, 40));
   x180 = FAR(x5, 32);
@@ -16241,7 +16215,7 @@ b68:;
   MEMCPY(ADD(x47, 32), x95, 24);
   st64_8(x48, ((u64)x35));
   MEMCPY(ADD(x48, 8), x44, 40);
-  f214(x1, x2, x3, x4, x40, x47, x48, 1u, x5);
+  f213(x1, x2, x3, x4, x40, x47, x48, 1u, x5);
   st8_1(x0, 0u);
   st8_1(FAR(x0, 8), 0u);
   st8_1(FAR(x0, 9), 0u);
@@ -16250,7 +16224,7 @@ b68:;
 b70:;
   if (((u8)(x35 == 1u))) goto b71; else goto b72;
 b71:;
-  f213(x44);
+  f212(x44);
   goto b72;
 b72:;
   st8_1(x0, 1u);
@@ -16258,7 +16232,7 @@ b72:;
   goto b63;
 }
 
-static void f188(Q x0, Q x1)
+static void f187(Q x0, Q x1)
 {
   u64 x2;
   u32 x4, x3;
@@ -16298,7 +16272,7 @@ b2:;
   return;
 }
 
-static void f189(Q x0, Q x1)
+static void f188(Q x0, Q x1)
 {
   u8 x5, x7, x14, x16, x17;
   Q x6, x8, x9, x10, x11, x12;
@@ -16312,7 +16286,7 @@ static void f189(Q x0, Q x1)
   MEMSET(x2, 0u, 24);
   MEMSET(x3, 0u, 40);
   MEMSET(x4, 0u, 24);
-  f190(x2, x1);
+  f189(x2, x1);
   x5 = ld8_1(x2);
   if (((u8)(x5 == 1u))) goto b0; else goto b1;
 b1:;
@@ -16344,7 +16318,7 @@ b6:;
   st32_4(x11, x15);
   st64_4(x1, 1u);
   MEMCPY(x12, x10, 16);
-  f190(x4, x1);
+  f189(x4, x1);
   x16 = ld8_1(x4);
   if (((u8)(x16 == 1u))) goto b8; else goto b7;
 b8:;
@@ -16362,7 +16336,7 @@ b3:;
   goto b5;
 }
 
-static void f190(Q x0, Q x1)
+static void f189(Q x0, Q x1)
 {
   u64 x4, x9, x10, x11, x13, x3, x18, x19, x2, x8, x20;
   Q x7, x12, x15, x6, x16, x5;
@@ -16401,7 +16375,7 @@ b1:;
   return;
 }
 
-static u8 f191(Q x0, u64 x1, u64 x2, Q x3)
+static u8 f190(Q x0, u64 x1, u64 x2, Q x3)
 {
   u64 x5, x11, x13, x4;
   u8 x6, x10, x14;
@@ -16422,7 +16396,7 @@ b3:;
   x13 = ld64_8(FAR(x9, 8));
   stp_8(x7, x12);
   st64_8(x8, x13);
-  x14 = f192(x3, x7);
+  x14 = f191(x3, x7);
   if (x14) { x6 = 1u; goto b0; } else goto b4;
 b0:;
   return x6;
@@ -16431,7 +16405,7 @@ b4:;
   if (((u8)(x4 == x1))) { x6 = 0u; goto b0; } else { x5 = x4; goto b2; }
 }
 
-static u8 f192(Q x0, Q x1)
+static u8 f191(Q x0, Q x1)
 {
   u64 x3, x7, x13, x19, x21, x12, x18, x2, x6, x20, x11, x17;
   u8 x5, x23, x24, x25, x26, x27, x4, x28, x29, x30, x22;
@@ -16489,7 +16463,7 @@ b4:;
   return x23;
 }
 
-static u8 f193(Q x0, u64 x1, Q x2, u16 x3)
+static u8 f192(Q x0, u64 x1, Q x2, u16 x3)
 {
   u64 x5, x7, x8, x13, x14, x18, x4, x6;
   u8 x10, x15, x17, x9;
@@ -16502,7 +16476,7 @@ static u8 f193(Q x0, u64 x1, Q x2, u16 x3)
   x14 = ld64_8(FAR(x0, 128));
   if (((u8)(((u8)(x3 == 0u)) | ((u8)(x13 < x14))))) { x10 = 1u; goto b0; } else goto b1;
 b1:;
-  x15 = f194(x12, x13, x1, x11);
+  x15 = f193(x12, x13, x1, x11);
   if (x15) { x10 = 1u; goto b0; } else goto b2;
 b2:;
   if (((u8)(x13 == 0u))) { x8 = 0u; goto b3; } else { x5 = 0u; x7 = 0u; goto b4; }
@@ -16520,7 +16494,7 @@ b0:;
   return x10;
 }
 
-static u8 f194(Q x0, u64 x1, u64 x2, Q x3)
+static u8 f193(Q x0, u64 x1, u64 x2, Q x3)
 {
   u64 x5, x10, x11, x12, x13, x14, x4;
   u8 x6, x9, x15;
@@ -16548,7 +16522,7 @@ b4:;
   if (((u8)(x4 == x1))) { x6 = 0u; goto b0; } else { x5 = x4; goto b2; }
 }
 
-static u8 f195(Q x0, u64 x1, Q x2)
+static u8 f194(Q x0, u64 x1, Q x2)
 {
   u64 x4, x6, x7, x10, x12, x14, x15, x17, x19, x21, x23, x27, x18, x16, x32, x33, x34, x36, x37, x42, x3, x5, x8, x9, x49, x11, x13, x60, x61, x22, x66, x67, x20, x28, x25, x26;
   u8 x24, x29, x30, x31, x38, x41, x45, x46, x48, x52, x59, x64, x65, x68, x69, x70, x72, x76;
@@ -16595,7 +16569,7 @@ b2:;
   st64_8(ADD(x44, 16), x34);
   { x10 = x8; goto b4; }
 b4:;
-  f196(x43, x44);
+  f195(x43, x44);
   x45 = ld8_1(x43);
   x46 = (u8)(x45 != 1u);
   x9 = (u64)((u64)x10 + UINT64_C(18446744073709551615));
@@ -16616,7 +16590,7 @@ b8:;
   st64_8(x51, x32);
   st64_8(ADD(x51, 8), x33);
   st64_8(ADD(x51, 16), x34);
-  f196(x50, x51);
+  f195(x50, x51);
   x52 = ld8_1(x50);
   if (((u8)(x52 == 1u))) goto b10; else { x29 = 1u; goto b11; }
 b10:;
@@ -16651,7 +16625,7 @@ b17:;
   x20 = (u64)((u64)x21 + 1u);
   if (((u8)(x20 == x17))) { x23 = 0u; x24 = 0u; goto b13; } else { x21 = x20; goto b15; }
 b13:;
-  x68 = f198(x35, x36, x1, x55);
+  x68 = f197(x35, x36, x1, x55);
   x69 = (u8)(x24 ^ x68);
   x70 = (u8)(x58 != 0u);
   if (((u8)(x70 ^ x69))) goto b19; else { x18 = x19; x16 = x17; goto b20; }
@@ -16678,7 +16652,7 @@ b24:;
 b25:;
   { x18 = x28; x16 = x27; goto b20; }
 b20:;
-  f196(x50, x51);
+  f195(x50, x51);
   x76 = ld8_1(x50);
   if (((u8)(x76 == 1u))) { x17 = x16; x19 = x18; goto b12; } else { x29 = 1u; goto b11; }
 b21:;
@@ -16691,7 +16665,7 @@ b1:;
   return x31;
 }
 
-static void f196(Q x0, Q x1)
+static void f195(Q x0, Q x1)
 {
   u8 x3, x9, x10, x11, x12;
   Q x4, x5, x6, x7, x8;
@@ -16699,7 +16673,7 @@ static void f196(Q x0, Q x1)
   _Alignas(4) u8 y0_[32];
   Q const x2 = Q_OF(y0_);
   MEMSET(x2, 0u, 32);
-  f197(x2, x1);
+  f196(x2, x1);
   x3 = ld8_1(x2);
   if (((u8)(x3 == 1u))) goto b0; else goto b1;
 b0:;
@@ -16717,7 +16691,7 @@ b3:;
   x11 = ld8_1(x4);
   if (((u8)(((u8)(x11 != 255u)) & (((u8)(x11 != 254u)) ? 1u : ((u8)((int8_t)x10 > (int8_t)191u)))))) goto b5; else goto b4;
 b4:;
-  f197(x2, x1);
+  f196(x2, x1);
   x12 = ld8_1(x2);
   if (((u8)(x12 == 1u))) goto b2; else goto b1;
 b6:;
@@ -16736,7 +16710,7 @@ b1:;
   goto b6;
 }
 
-static void f197(Q x0, Q x1)
+static void f196(Q x0, Q x1)
 {
   Q x4, x8, x2, x10, x11, x12, x13, x14, x15, x3;
   u64 x7, x5, x17, x6;
@@ -16805,7 +16779,7 @@ b0:;
   goto b8;
 }
 
-static u8 f198(Q x0, u64 x1, u64 x2, Q x3)
+static u8 f197(Q x0, u64 x1, u64 x2, Q x3)
 {
   u64 x5, x11, x14, x15, x16, x17, x4;
   u8 x6, x10, x12, x13, x18;
@@ -16838,7 +16812,7 @@ b4:;
   if (((u8)(x4 == x1))) { x6 = 0u; goto b0; } else { x5 = x4; goto b2; }
 }
 
-static u8 f199(Q x0, Q x1)
+static u8 f198(Q x0, Q x1)
 {
   u64 x3, x5, x2, x9, x11, x12, x13, x14, x26, x27, x29, x4, x33, x34, x6;
   u8 x7, x8, x19, x22, x23, x24, x25, x30, x36;
@@ -16867,7 +16841,7 @@ b0:;
   st64_8(x18, x14);
   st64_8(ADD(x18, 8), x9);
   st64_8(ADD(x18, 16), x13);
-  f197(x16, x18);
+  f196(x16, x18);
   x19 = ld8_1(x16);
   if (((u8)(x19 == 1u))) goto b2; else { x7 = 1u; goto b3; }
 b2:;
@@ -16883,7 +16857,7 @@ b2:;
   { x3 = 0u; goto b4; }
 b4:;
   x29 = ld64_4(x20);
-  x30 = f200(x10, x11, x15, x20);
+  x30 = f199(x10, x11, x15, x20);
   if (x30) goto b5; else { x2 = x3; goto b6; }
 b5:;
   if (((u8)(x3 == 0u))) goto b7; else goto b8;
@@ -16907,7 +16881,7 @@ b11:;
   x6 = (u64)((u64)x3 + 1u);
   { x2 = x6; goto b6; }
 b6:;
-  f197(x16, x18);
+  f196(x16, x18);
   x36 = ld8_1(x16);
   if (((u8)(x36 == 1u))) { x3 = x2; goto b4; } else { x7 = 1u; goto b3; }
 b3:;
@@ -16916,7 +16890,7 @@ b1:;
   return x8;
 }
 
-static u8 f200(Q x0, u64 x1, Q x2, Q x3)
+static u8 f199(Q x0, u64 x1, Q x2, Q x3)
 {
   u8 x5, x6, x7, x8, x9, x11, x12, x13, x16, x4;
   u16 x10;
@@ -16955,7 +16929,7 @@ b1:;
   return x5;
 }
 
-static u8 f201(Q x0, u64 x1, Q x2)
+static u8 f200(Q x0, u64 x1, Q x2)
 {
   u64 x4, x6, x7, x10, x12, x14, x15, x17, x19, x21, x23, x27, x18, x16, x32, x33, x34, x36, x37, x42, x3, x5, x8, x9, x49, x11, x13, x58, x59, x22, x63, x64, x20, x28, x25, x26;
   u8 x24, x29, x30, x31, x38, x41, x45, x46, x48, x52, x62, x65, x66, x67, x69, x73;
@@ -17003,7 +16977,7 @@ b2:;
   st64_8(ADD(x43, 48), x34);
   { x10 = x8; goto b4; }
 b4:;
-  f202(x44, x43);
+  f201(x44, x43);
   x45 = ld8_1(x44);
   x46 = (u8)(x45 != 1u);
   x9 = (u64)((u64)x10 + UINT64_C(18446744073709551615));
@@ -17026,7 +17000,7 @@ b8:;
   st64_8(ADD(x50, 32), x32);
   st64_8(ADD(x50, 40), x33);
   st64_8(ADD(x50, 48), x34);
-  f202(x51, x50);
+  f201(x51, x50);
   x52 = ld8_1(x51);
   if (((u8)(x52 == 1u))) goto b10; else { x29 = 1u; goto b11; }
 b10:;
@@ -17056,7 +17030,7 @@ b17:;
   x20 = (u64)((u64)x21 + 1u);
   if (((u8)(x20 == x17))) { x23 = 0u; x24 = 0u; goto b13; } else { x21 = x20; goto b15; }
 b13:;
-  x65 = f203(x35, x36, x1, x55);
+  x65 = f202(x35, x36, x1, x55);
   x66 = (u8)(x24 ^ x65);
   x67 = (u8)(x57 != 0u);
   if (((u8)(x67 ^ x66))) goto b18; else { x18 = x19; x16 = x17; goto b19; }
@@ -17083,7 +17057,7 @@ b23:;
 b24:;
   { x18 = x28; x16 = x27; goto b19; }
 b19:;
-  f202(x51, x50);
+  f201(x51, x50);
   x73 = ld8_1(x51);
   if (((u8)(x73 == 1u))) { x17 = x16; x19 = x18; goto b12; } else { x29 = 1u; goto b11; }
 b20:;
@@ -17096,7 +17070,7 @@ b1:;
   return x31;
 }
 
-static void f202(Q x0, Q x1)
+static void f201(Q x0, Q x1)
 {
   u8 x4, x8, x19, x25;
   Q x5, x7, x9, x10, x11, x12, x13, x14, x15, x16, x23;
@@ -17179,7 +17153,7 @@ b4:;
   goto b6;
 }
 
-static u8 f203(Q x0, u64 x1, u64 x2, Q x3)
+static u8 f202(Q x0, u64 x1, u64 x2, Q x3)
 {
   u64 x5, x10, x11, x12, x13, x14, x4;
   u8 x6, x9, x15;
@@ -17207,7 +17181,7 @@ b4:;
   if (((u8)(x4 == x1))) { x6 = 0u; goto b0; } else { x5 = x4; goto b2; }
 }
 
-static u8 f204(Q x0, u64 x1, Q x2)
+static u8 f203(Q x0, u64 x1, Q x2)
 {
   u64 x4, x6, x8, x9, x12, x14, x16, x17, x3, x24, x25, x27, x34, x5, x7, x10, x11, x42, x13, x15, x52;
   u8 x19, x26, x31, x33, x38, x39, x41, x50, x18;
@@ -17231,7 +17205,7 @@ static u8 f204(Q x0, u64 x1, Q x2)
   MEMSET(ADD(x20, 24), 0u, 32);
   MEMSET(x21, 0u, 1536);
   MEMCPY(x22, x2, 24);
-  f188(x20, x22);
+  f187(x20, x22);
   { x4 = 0u; goto b0; }
 b0:;
   x3 = (u64)((u64)x4 + 24u);
@@ -17266,7 +17240,7 @@ b2:;
   { x12 = x10; goto b4; }
 b4:;
   MEMSET(x37, 0u, 32);
-  f189(x37, x35);
+  f188(x37, x35);
   x38 = ld8_1(x37);
   x39 = (u8)(x38 != 1u);
   x11 = (u64)((u64)x12 + UINT64_C(18446744073709551615));
@@ -17301,7 +17275,7 @@ b8:;
   goto b10;
 b10:;
   MEMSET(x46, 0u, 32);
-  f189(x46, x43);
+  f188(x46, x43);
   x50 = ld8_1(x46);
   x51 = ldp_8(x47);
   x52 = ld64_8(x48);
@@ -17309,7 +17283,7 @@ b10:;
   x18 = (u8)(x50 != 1u);
   if (x18) goto b11; else goto b12;
 b12:;
-  x54 = f205(x45, x21, x51, x52, x53);
+  x54 = f204(x45, x21, x51, x52, x53);
   if (((u8)((x54.f0) == 1u))) goto b10; else goto b11;
 b11:;
   { x19 = x18; goto b6; }
@@ -17317,7 +17291,7 @@ b6:;
   return x19;
 }
 
-static s_u8_u8 f205(Q x0, Q x1, Q x2, u64 x3, u32 x4)
+static s_u8_u8 f204(Q x0, Q x1, Q x2, u64 x3, u32 x4)
 {
   u64 x6, x7, x10, x14, x20, x5, x9, x25, x26, x31, x32, x33, x12, x13;
   u8 x8, x11, x16, x17, x22, x23, x27, x28, x29, x15, x35;
@@ -17336,7 +17310,7 @@ b1:;
   x22 = ld8_1(x21);
   if (((u8)(x22 == 1u))) goto b2; else goto b3;
 b2:;
-  x23 = f192(x18, FAR(x21, 8));
+  x23 = f191(x18, FAR(x21, 8));
   if (x23) { x7 = x6; x8 = 1u; goto b4; } else goto b3;
 b3:;
   x5 = (u64)((u64)x6 + 1u);
@@ -17348,7 +17322,7 @@ b0:;
   x24 = ldp_1(x0);
   x25 = ld64_1(ADD(x0, 8));
   x26 = ld64_8(FAR(x0, 24));
-  x27 = f191(x24, x25, x26, x18);
+  x27 = f190(x24, x25, x26, x18);
   x28 = (u8)(x11 ^ x27);
   x29 = (u8)(x4 != 0u);
   x15 = (u8)x29;
@@ -17385,7 +17359,7 @@ b6:;
   return s_u8_u8_set1(s_u8_u8_set0(((s_u8_u8){0u, 0u}), x17), x16);
 }
 
-static void f206(Q x0, Q x1, u64 x2, Q x3)
+static void f205(Q x0, Q x1, u64 x2, Q x3)
 {
   u64 x5, x7, x8, x11, x13, x15, x17, x19, x26, x27, x32, x35, x4, x6, x55, x9, x63, x14, x10, x12, x66, x71, x76, x16;
   u8 x18, x20, x34, x39, x60, x61, x62, x64, x68, x70, x75, x78, x79, x80;
@@ -17458,7 +17432,7 @@ b0:;
   MEMCPY(ADD(x28, 8), x21, 16);
   st32_4(x29, x22);
   MEMCPY(ADD(x28, 32), x23, 24);
-  f189(x30, x28);
+  f188(x30, x28);
   x39 = ld8_1(x30);
   if (((u8)(x39 == 1u))) goto b2; else { x17 = 0u; goto b3; }
 b2:;
@@ -17476,7 +17450,7 @@ b4:;
   x54 = ldp_8(x40);
   x55 = ld64_8(x41);
   x56 = ld32_4(x42);
-  x57 = f205(x36, x31, x54, x55, x56);
+  x57 = f204(x36, x31, x54, x55, x56);
   if ((((u8)((x57.f0) == 1u)) ? ((u8)(((x57.f1)) & 1u)) : 0u)) goto b5; else goto b6;
 b5:;
   MEMSET(x58, 0u, 32);
@@ -17525,7 +17499,7 @@ b8:;
   goto b19;
 b17:;
   MEMCPY(x69, x51, 24);
-  f207(x58, x38, x69);
+  f206(x58, x38, x69);
   x70 = ld8_1(x58);
   if (((u8)(x70 == 0u))) goto b20; else goto b21;
 b21:;
@@ -17539,7 +17513,7 @@ b18:;
   stp_8(x52, x73);
   MEMSET(x53, 0u, 32);
   MEMCPY(x74, x51, 24);
-  f207(x59, x52, x74);
+  f206(x59, x52, x74);
   x75 = ld8_1(x59);
   if (((u8)(x75 == 0u))) goto b23; else goto b24;
 b23:;
@@ -17554,7 +17528,7 @@ b26:;
   os_rattle_dealloc(x77);
   goto b25;
 b25:;
-  f213(x52);
+  f212(x52);
   goto b19;
 b20:;
   goto b6;
@@ -17562,13 +17536,13 @@ b19:;
   x78 = ld8_1(x37);
   if (((u8)(x78 == 1u))) goto b27; else goto b28;
 b27:;
-  f213(x38);
+  f212(x38);
   goto b28;
 b28:;
   MEMSET(x24, 0u, 40);
   { x18 = 1u; x19 = 0u; goto b29; }
 b6:;
-  f189(x30, x28);
+  f188(x30, x28);
   x79 = ld8_1(x30);
   if (((u8)(x79 == 1u))) goto b4; else goto b30;
 b30:;
@@ -17585,7 +17559,7 @@ b29:;
   return;
 }
 
-static void f207(Q x0, Q x1, Q x2)
+static void f206(Q x0, Q x1, Q x2)
 {
   u64 x4, x5;
   u8 x7;
@@ -17601,25 +17575,25 @@ b2:;
   return;
 b0:;
   MEMCPY(x6, x2, 24);
-  f211(x1, x6);
+  f210(x1, x6);
   st8_1(x0, 0u);
   MEMSET(FAR(x0, 8), 0u, 24);
   goto b2;
 b1:;
-  x7 = f208(x1);
+  x7 = f207(x1);
   if (x7) goto b3; else goto b4;
 b4:;
   st8_1(x0, 1u);
   MEMCPY(FAR(x0, 8), x3, 24);
   goto b2;
 b3:;
-  f211(x1, x3);
+  f210(x1, x3);
   st8_1(x0, 0u);
   MEMSET(FAR(x0, 8), 0u, 24);
   goto b2;
 }
 
-static u8 f208(Q x0)
+static u8 f207(Q x0)
 {
   u8 x2, x1, x28;
   u64 x4, x6, x8, x10, x12, x14, x20, x21, x22, x23, x24, x25, x27, x32, x33, x35, x36, x37, x3, x39, x41, x42, x43, x45, x47, x48, x5, x51, x52, x53, x7;
@@ -17646,7 +17620,7 @@ b2:;
   st64_8(x17, x10);
   x18 = ADD(x16, 16);
   st64_8(x18, x10);
-  x1 = f209(x16);
+  x1 = f208(x16);
   x19 = ldp_8(x16);
   x20 = ld64_8(x17);
   x21 = ld64_8(x18);
@@ -17670,7 +17644,7 @@ b6:;
   if (x28) goto b7; else { x2 = 0u; goto b1; }
 b7:;
   x29 = ldp_8(x0);
-  x30 = f210(x29, x10, x10, x25);
+  x30 = f209(x29, x10, x10, x25);
   if (((u8)((x30.f0) == 0u))) goto b8; else { x2 = 0u; goto b1; }
 b8:;
   x31 = x30.f1;
@@ -17746,7 +17720,7 @@ b21:;
   { x2 = 1u; goto b1; }
 }
 
-static u8 f209(Q x0)
+static u8 f208(Q x0)
 {
   u8 x1;
   u64 x2, x4, x5, x6, x7, x8;
@@ -17766,7 +17740,7 @@ b1:;
   if (((u8)(x8 < UINT64_C(384307168202282326)))) goto b2; else { x1 = 0u; goto b0; }
 b2:;
   x9 = ldp_8(x0);
-  x10 = f210(x9, x2, x4, x8);
+  x10 = f209(x9, x2, x4, x8);
   if (((u8)((x10.f0) == 0u))) goto b3; else { x1 = 0u; goto b0; }
 b3:;
   stp_8(x0, (x10.f1));
@@ -17774,7 +17748,7 @@ b3:;
   { x1 = 1u; goto b0; }
 }
 
-static s_u8_Q f210(Q x0, u64 x1, u64 x2, u64 x3)
+static s_u8_Q f209(Q x0, u64 x1, u64 x2, u64 x3)
 {
   s_u8_Q x6, x4, x5;
   Q x9, x7, x8;
@@ -17802,7 +17776,7 @@ b2:;
   return s_u8_Q_set1(x6, x9);
 }
 
-static void f211(Q x0, Q x1)
+static void f210(Q x0, Q x1)
 {
   Q x2, x4, x9;
   u64 x3, x5, x6, x7, x8;
@@ -17827,7 +17801,7 @@ b1:;
   goto b2;
 }
 
-static u64 f212(Q x0, Q x1)
+static u64 f211(Q x0, Q x1)
 {
   u64 x3, x6, x10, x2;
   u8 x4, x9, x11;
@@ -17853,7 +17827,7 @@ b1:;
   return x3;
 }
 
-static void f213(Q x0)
+static void f212(Q x0)
 {
   u64 x3, x5, x7, x8, x9, x2, x10, x12, x1, x15, x4;
   Q x6, x11, x13, x14, x16;
@@ -17899,7 +17873,7 @@ b9:;
   return;
 }
 
-static void f214(Q x0, u64 x1, Q x2, Q x3, Q x4, Q x5, Q x6, u8 x7, Q x8)
+static void f213(Q x0, u64 x1, Q x2, Q x3, Q x4, Q x5, Q x6, u8 x7, Q x8)
 {
   u64 x10, x14, x22, x31, x33, x35, x37, x39, x40, x41, x44, x52, x54, x55, x61, x64, x65, x69, x72, x74, x75, x79, x81, x83, x85, x87, x88, x90, x93, x95, x97, x100, x101, x104, x106, x111, x114, x117, x124, x126, x129, x132, x134, x135, x139, x141, x143, x145, x147, x148, x150, x152, x154, x157, x158, x161, x163, x168, x171, x174, x177, x180, x183, x187, x189, x191, x193, x194, x176, x179, x182, x186, x188, x206, x208, x211, x213, x212, x216, x217, x219, x222, x224, x223, x228, x229, x232, x234, x237, x240, x243, x245, x251, x175, x257, x178, x181, x13, x268, x269, x9, x277, x12, x285, x21, x20, x302, x42, x308, x309, x312, x313, x30, x43, x315, x32, x318, x320, x323, x34, x326, x38, x36, x62, x63, x329, x330, x53, x51, x60, x334, x337, x338, x339, x344, x347, x348, x68, x350, x356, x361, x362, x365, x86, x379, x71, x73, x78, x382, x383, x386, x80, x389, x84, x82, x115, x112, x98, x99, x393, x394, x398, x399, x92, x89, x402, x403, x96, x405, x94, x91, x116, x113, x409, x410, x414, x415, x105, x103, x110, x419, x420, x452, x457, x463, x465, x467, x469, x123, x475, x476, x478, x484, x127, x125, x487, x128, x494, x495, x498, x146, x511, x131, x133, x138, x514, x515, x518, x140, x521, x144, x142, x172, x169, x155, x156, x524, x525, x528, x529, x149, x531, x532, x534, x153, x151, x173, x170, x537, x538, x541, x542, x162, x160, x167, x545, x215, x567, x190, x192, x199, x570, x198, x197, x201, x202, x205, x574, x575, x578, x207, x579, x210, x583, x214, x585, x209, x238, x235, x226, x227, x590, x218, x592, x221, x595, x598, x225, x600, x220, x239, x236, x605, x233, x231, x607, x613, x244;
   u8 x11, x27, x29, x47, x49, x50, x56, x57, x66, x67, x70, x77, x102, x119, x118, x130, x137, x159, x196, x203, x204, x230, x242, x246, x247, x250, x255, x270, x275, x276, x278, x280, x281, x288, x291, x294, x298, x26, x300, x303, x28, x45, x48, x46, x317, x322, x325, x336, x341, x374, x76, x376, x378, x381, x385, x388, x391, x392, x397, x401, x404, x407, x408, x413, x421, x422, x425, x458, x459, x464, x466, x470, x471, x472, x473, x480, x482, x485, x486, x488, x489, x490, x491, x492, x506, x136, x508, x510, x513, x517, x520, x523, x533, x536, x552, x560, x195, x564, x566, x568, x569, x573, x577, x582, x587, x591, x596, x597, x602, x606, x612, x241;
@@ -18071,8 +18045,8 @@ b15:;
   st8_1(ADD(x289, 1), x247);
   MEMCPY(ADD(x289, 2), x248, 16);
   MEMCPY(ADD(x289, 18), x249, 10);
-  f181(x290, x286, x287, x1, x289, ((u8)((x288) & 1u)), x8);
-  (void)f183(x286, x287, x1, x289, x285, x8);
+  f180(x290, x286, x287, x1, x289, ((u8)((x288) & 1u)), x8);
+  (void)f182(x286, x287, x1, x289, x285, x8);
   x291 = ld8_1(x290);
   MEMCPY(x258, ADD(x290, 1), 16);
   x292 = FAR(x0, 112);
@@ -18084,7 +18058,7 @@ b15:;
   MEMCPY(ADD(x296, 1), x258, 16);
   if (x7) goto b17; else goto b18;
 b18:;
-  f186(x292, x287, x296);
+  f185(x292, x287, x296);
   goto b19;
 b17:;
   MEMCPY(x297, x2, 16);
@@ -18093,18 +18067,18 @@ b17:;
 b20:;
   x24 = ldp_8(x292);
   x21 = ld64_8(FAR(x0, 120));
-  x26 = f194(x24, x21, x1, x297);
+  x26 = f193(x24, x21, x1, x297);
   { x22 = x21; x25 = x24; x27 = x26; x29 = 0u; goto b22; }
 b21:;
   MEMCPY(x299, x2, 16);
   x23 = ldp_8(x292);
   x20 = ld64_8(FAR(x0, 120));
-  x300 = f194(x23, x20, x1, x259);
+  x300 = f193(x23, x20, x1, x259);
   if (x300) goto b23; else { x22 = x20; x25 = x23; x27 = 0u; x29 = 0u; goto b22; }
 b23:;
   x301 = ldp_8(FAR(x0, 136));
   x302 = ld64_8(FAR(x0, 144));
-  x303 = f173(x301, x302, x299);
+  x303 = f172(x301, x302, x299);
   x28 = (u8)(x303 == x294);
   { x22 = x20; x25 = x23; x27 = 0u; x29 = x28; goto b22; }
 b22:;
@@ -18112,7 +18086,7 @@ b22:;
   x305 = FAR(x0, 120);
   if (((u8)(x22 == 0u))) goto b24; else goto b25;
 b24:;
-  x306 = f215(x25, 0u, x295);
+  x306 = f214(x25, 0u, x295);
   x45 = x306.f0;
   x42 = x306.f1;
   MEMCPY(x307, x2, 16);
@@ -18130,7 +18104,7 @@ b28:;
   x30 = (u64)((u64)x31 + 1u);
   if ((x48 ? 1u : ((u8)(x30 == x22)))) goto b29; else { x31 = x30; goto b28; }
 b29:;
-  x314 = f215(x25, x22, x295);
+  x314 = f214(x25, x22, x295);
   x46 = x314.f0;
   x43 = x314.f1;
   x315 = (u64)x293;
@@ -18218,7 +18192,7 @@ b41:;
   x332 = FAR(x0, 160);
   x333 = ldp_8(x292);
   x334 = ld64_8(x305);
-  x335 = f215(x333, x334, x304);
+  x335 = f214(x333, x334, x304);
   x336 = x335.f0;
   x337 = x335.f1;
   x338 = ld64_8(x304);
@@ -18277,13 +18251,13 @@ b62:;
   f94(FAR(x0, 864));
   goto b61;
 b61:;
-  f186(x292, x287, x296);
+  f185(x292, x287, x296);
   if (x27) goto b63; else goto b19;
 b19:;
   MEMCPY(x259, x2, 16);
   goto b64;
 b63:;
-  f216(x292, x295);
+  f215(x292, x295);
   st8_1(x353, 1u);
   MEMCPY(ADD(x353, 1), x295, 16);
   f93(x287, x353);
@@ -18324,7 +18298,7 @@ b65:;
 b66:;
   goto b67;
 b67:;
-  f196(x366, x363);
+  f195(x366, x363);
   x374 = ld8_1(x366);
   if (((u8)(x374 == 1u))) goto b68; else goto b69;
 b68:;
@@ -18335,7 +18309,7 @@ b68:;
   x76 = (u8)(x375 == 0u);
   if (((u8)(x76 | ((u8)(x86 < x365))))) { x77 = x76; goto b70; } else goto b71;
 b71:;
-  x376 = f198(x107, x86, x1, x371);
+  x376 = f197(x107, x86, x1, x371);
   if (x376) { x77 = 0u; goto b70; } else goto b72;
 b72:;
   if (((u8)(x86 == 0u))) { x75 = 0u; goto b73; } else { x72 = 0u; x74 = 0u; goto b74; }
@@ -18510,7 +18484,7 @@ b109:;
   stp_8(x424, x418);
   st64_8(ADD(x424, 8), x419);
   st64_8(ADD(x424, 16), x420);
-  f197(x423, x424);
+  f196(x423, x424);
   x425 = ld8_1(x423);
   if (((u8)(x425 == 1u))) goto b111; else { x130 = 1u; goto b112; }
 b111:;
@@ -18552,7 +18526,7 @@ b113:;
   x461 = ld32_4(x456);
   x462 = ldp_8(x427);
   x463 = ld64_8(x428);
-  x464 = f200(x462, x463, x417, x426);
+  x464 = f199(x462, x463, x417, x426);
   if (x464) goto b114; else { x124 = 0u; goto b115; }
 b114:;
   x465 = ld64_8(x429);
@@ -18645,7 +18619,7 @@ b136:;
   st32_4(x449, x284);
   st64_8(x450, ((u64)((u64)x124 + x1)));
   st64_8(x451, 0u);
-  f217(x427, x439, x440, x478, x441);
+  f216(x427, x439, x440, x478, x441);
   goto b127;
 b123:;
   if (x464) goto b138; else { x118 = x119; goto b117; }
@@ -18657,7 +18631,7 @@ b127:;
 b138:;
   { x118 = 0u; goto b117; }
 b117:;
-  f197(x423, x424);
+  f196(x423, x424);
   x492 = ld8_1(x423);
   if (((u8)(x492 == 1u))) { x119 = x118; goto b113; } else { x130 = x118; goto b112; }
 b112:;
@@ -18680,7 +18654,7 @@ b112:;
   x505 = ADD(x504, 8);
   goto b139;
 b139:;
-  f202(x499, x496);
+  f201(x499, x496);
   x506 = ld8_1(x499);
   if (((u8)(x506 == 1u))) goto b140; else goto b141;
 b140:;
@@ -18691,7 +18665,7 @@ b140:;
   x136 = (u8)(x507 == 0u);
   if (((u8)(x136 | ((u8)(x146 < x498))))) { x137 = x136; goto b142; } else goto b143;
 b143:;
-  x508 = f203(x164, x146, x1, x504);
+  x508 = f202(x164, x146, x1, x504);
   if (x508) { x137 = 0u; goto b142; } else goto b144;
 b144:;
   if (((u8)(x146 == 0u))) { x135 = 0u; goto b145; } else { x132 = 0u; x134 = 0u; goto b146; }
@@ -18855,7 +18829,7 @@ b141:;
 b176:;
   goto b177;
 b177:;
-  f189(x548, x546);
+  f188(x548, x546);
   x560 = ld8_1(x548);
   if (((u8)(x560 == 1u))) goto b178; else goto b179;
 b178:;
@@ -18866,7 +18840,7 @@ b178:;
   x195 = (u8)(x562 == 0u);
   if (((u8)(x195 | ((u8)(x215 < x545))))) { x196 = x195; goto b180; } else goto b181;
 b181:;
-  x564 = f191(x563, x215, x1, x561);
+  x564 = f190(x563, x215, x1, x561);
   if (x564) { x196 = 0u; goto b180; } else goto b182;
 b182:;
   if (((u8)(x215 == 0u))) { x194 = 0u; goto b183; } else { x191 = 0u; x193 = 0u; goto b184; }
@@ -18882,7 +18856,7 @@ b183:;
 b180:;
   if ((x552 ? 1u : ((u8)(((u8)(x177 == 0u)) | x196)))) { x176 = x177; x179 = x180; x182 = x183; x184 = x185; x186 = x187; x188 = x189; x203 = 1u; x204 = 0u; goto b185; } else goto b186;
 b186:;
-  x568 = f191(x563, x215, x1, x561);
+  x568 = f190(x563, x215, x1, x561);
   if (x568) { x176 = x177; x179 = x180; x182 = x183; x184 = x185; x186 = x187; x188 = x189; x203 = 1u; x204 = 0u; goto b185; } else goto b187;
 b187:;
   x569 = (u8)(x183 == x177);
@@ -18976,7 +18950,7 @@ b210:;
   x590 = ld64_8(FAR(x588, 8));
   stp_8(x556, x589);
   st64_8(x557, x590);
-  x591 = f192(x561, x556);
+  x591 = f191(x561, x556);
   if (x591) goto b211; else goto b212;
 b212:;
   x218 = (u64)((u64)x219 + 1u);
@@ -18996,7 +18970,7 @@ b215:;
   x595 = ld64_8(FAR(x593, 8));
   stp_8(x558, x594);
   st64_8(x559, x595);
-  x596 = f192(x561, x558);
+  x596 = f191(x561, x558);
   x597 = ld8_1(FAR(x593, 24));
   x598 = ld64_8(FAR(x593, 32));
   x599 = ADD(x563, (u64)((u64)((u64)x224 * 40u)));
@@ -19038,7 +19012,7 @@ b223:;
   x605 = ld64_8(FAR(x603, 8));
   stp_8(x554, x604);
   st64_8(x555, x605);
-  x606 = f192(x561, x554);
+  x606 = f191(x561, x554);
   if (x606) goto b224; else goto b225;
 b225:;
   x233 = (u64)((u64)x234 + 1u);
@@ -19078,7 +19052,7 @@ b230:;
   st64_8(ADD(x610, 16), x257);
   st64_8(ADD(x610, 24), x180);
   st64_8(ADD(x610, 32), x183);
-  f213(x610);
+  f212(x610);
   goto b231;
 b231:;
   x611 = FAR(x0, 1032);
@@ -19094,7 +19068,7 @@ b235:;
   f94(FAR(x0, 864));
   goto b234;
 b234:;
-  x614 = f220(x359, x1);
+  x614 = f219(x359, x1);
   if (((u8)((x614.f0) == 1u))) goto b236; else { x243 = 0u; x245 = 0u; goto b237; }
 b236:;
   x244 = usub_sat64((x614.f1), 1u);
@@ -19106,7 +19080,7 @@ b237:;
   return;
 }
 
-static s_u8_u64 f215(Q x0, u64 x1, Q x2)
+static s_u8_u64 f214(Q x0, u64 x1, Q x2)
 {
   u64 x4, x6, x9, x10, x3, x13, x14, x5;
   u8 x8, x7;
@@ -19134,7 +19108,7 @@ b0:;
   return s_u8_u64_set1(s_u8_u64_set0(((s_u8_u64){0u, 0u}), x8), x6);
 }
 
-static void f216(Q x0, Q x1)
+static void f215(Q x0, Q x1)
 {
   u64 x3, x6, x7, x8, x11, x12, x2;
   Q x5, x10;
@@ -19160,7 +19134,7 @@ b2:;
   x2 = (u64)((u64)x3 + 1u);
   if ((((u8)u128_eq(u128_or(u128_shl(u128_of(0, x12), (unsigned)u128_low(u128_of(0u, 64u)) & 127u), u128_of(0, x11)), x9)) ? 1u : ((u8)(x2 == x6)))) goto b0; else { x3 = x2; goto b2; }
 b0:;
-  x13 = f215(x5, x6, x1);
+  x13 = f214(x5, x6, x1);
   MEMCPY(x14, x1, 16);
   if (((u8)((x13.f0) == 1u))) goto b3; else goto b4;
 b3:;
@@ -19173,7 +19147,7 @@ b4:;
   return;
 }
 
-static void f217(Q x0, Q x1, Q x2, u64 x3, Q x4)
+static void f216(Q x0, Q x1, Q x2, u64 x3, Q x4)
 {
   u8 x5, x8, x13, x14, x19;
   Q x6, x9;
@@ -19214,15 +19188,15 @@ b0:;
   MEMCPY(ADD(x18, 49), x9, 7);
   st64_8(ADD(x18, 56), x10);
   st64_8(ADD(x18, 64), x11);
-  f219(x0, x3, x18);
+  f218(x0, x3, x18);
   goto b2;
 b1:;
   if (((u8)(x17 == x16))) goto b3; else goto b4;
 b3:;
-  x19 = f218(x0);
+  x19 = f217(x0);
   if (x19) goto b4; else goto b5;
 b4:;
-  f219(x0, x3, x15);
+  f218(x0, x3, x15);
   goto b2;
 b5:;
   TRAP();
@@ -19241,7 +19215,7 @@ b9:;
   return;
 }
 
-static u8 f218(Q x0)
+static u8 f217(Q x0)
 {
   u8 x1;
   s_u64_u64 x4, x2, x13, x3;
@@ -19275,7 +19249,7 @@ b5:;
   { x1 = 1u; goto b0; }
 }
 
-static void f219(Q x0, u64 x1, Q x2)
+static void f218(Q x0, u64 x1, Q x2)
 {
   u64 x4, x6, x8, x11, x14, x16, x18, x20, x23, x26, x27, x28, x29, x12, x9, x32, x5, x33, x7, x3, x13, x10, x38, x15, x39, x17, x42, x19;
   Q x22, x24, x25, x30, x31, x34, x35, x36, x37, x40, x41;
@@ -19356,7 +19330,7 @@ b10:;
   return;
 }
 
-static s_u8_u64 f220(Q x0, u64 x1)
+static s_u8_u64 f219(Q x0, u64 x1)
 {
   Q x4, x12, x15, x2, x3;
   u64 x7, x11, x13, x16, x10, x5, x6, x19, x18;
@@ -19389,7 +19363,7 @@ b3:;
   return s_u8_u64_set1(s_u8_u64_set0(((s_u8_u64){0u, 0u}), x14), x11);
 }
 
-static void f221(Q x0, Q x1, u64 x2, Q x3, Q x4, Q x5)
+static void f220(Q x0, Q x1, u64 x2, Q x3, Q x4, Q x5)
 {
   u8 x6, x7, x8, x9, x11, x12, x13, x15, x20, x22, x23, x25, x27, x31, x34, x35, x36, x37, x38, x40, x50, x52, x53, x61, x63, x65, x67, x75, x82, x84, x91, x95, x113, x114, x118, x127, x10, x130, x133, x14, x21, x137, x139, x140, x141, x143, x26, x24, x146, x148, x155, x156, x158, x163, x39, x165, x166, x171, x177, x179, x62, x64, x66, x190, x60, x191, x199, x202, x212, x213, x222, x224;
   u64 x17, x19, x44, x46, x49, x57, x59, x69, x70, x77, x78, x79, x81, x87, x92, x101, x18, x16, x152, x153, x154, x43, x45, x174, x176, x182, x47, x48, x56, x58, x193, x194, x195, x196, x198, x200, x205, x208, x220, x221, x226;
@@ -19532,7 +19506,7 @@ b0:;
   MEMSET(x72, 0u, 32);
   MEMSET(x73, 0u, 33);
   MEMSET(x74, 0u, 33);
-  f153(x72);
+  f152(x72);
   x75 = ld8_1(x72);
   if (((u8)(x75 == 0u))) goto b2; else goto b3;
 b2:;
@@ -19570,7 +19544,7 @@ b5:;
   MEMSET(ADD(x89, 77), 0u, 3);
   st64_8(x80, ((u64)((u64)x87 + 1u)));
   MEMCPY(x90, x4, 16);
-  x91 = f222(FAR(x1, 280), x90);
+  x91 = f221(FAR(x1, 280), x90);
   if (x91) goto b8; else goto b9;
 b8:;
   f94(FAR(x1, 864));
@@ -19615,7 +19589,7 @@ b9:;
   st8_1(ADD(x100, 1), 2u);
   MEMSET(ADD(x100, 2), 0u, 13);
   st8_1(ADD(x100, 15), 1u);
-  f223(x71, x98, x99, x96, x100, ((u8)((x95) & 1u)), 0u, x97);
+  f222(x71, x98, x99, x96, x100, ((u8)((x95) & 1u)), 0u, x97);
   MEMCPY(ADD(x74, 7), x71, 24);
   x101 = ld64_8(x80);
   x102 = ldp_8(x86);
@@ -19671,7 +19645,7 @@ b17:;
   switch (x127) { case 0u: goto b18; case 1u: goto b19; case 2u: goto b20; case 3u: goto b21; case 4u: goto b22; default: goto b23; }
 b18:;
   MEMCPY(x128, x116, 24);
-  f169(x122, x128, x120);
+  f168(x122, x128, x120);
   x10 = ld8_1(ADD(x122, 1));
   x129 = ADD(x122, 2);
   if (((u8)((x16 | x18) == 0u))) goto b24; else goto b25;
@@ -19700,7 +19674,7 @@ b29:;
   { x23 = x9; goto b30; }
 b19:;
   MEMCPY(x132, x116, 24);
-  f169(x123, x132, x120);
+  f168(x123, x132, x120);
   x133 = ld8_1(x123);
   if (((u8)(x133 == 1u))) goto b31; else goto b32;
 b31:;
@@ -19723,7 +19697,7 @@ b33:;
   { x23 = x13; goto b30; }
 b20:;
   MEMCPY(x135, x116, 24);
-  f169(x124, x135, x120);
+  f168(x124, x135, x120);
   x21 = ld8_1(ADD(x124, 1));
   x136 = ADD(x124, 2);
   if (((u8)((x16 | x18) == 0u))) goto b34; else goto b35;
@@ -19756,7 +19730,7 @@ b21:;
   x140 = ld8_1(FAR(x3, 34));
   x141 = ld8_1(FAR(x3, 35));
   MEMCPY(x142, x116, 24);
-  f175(x125, x142, x120);
+  f174(x125, x142, x120);
   x143 = ld8_1(x125);
   st8_1(x121, 1u);
   st8_1(ADD(x121, 1), 1u);
@@ -19768,8 +19742,8 @@ b21:;
   { x23 = 1u; goto b30; }
 b22:;
   MEMCPY(x144, x116, 24);
-  f175(x126, x144, x120);
-  f176(x121, FAR(x3, 33), x126);
+  f174(x126, x144, x120);
+  f175(x121, FAR(x3, 33), x126);
   x26 = ld8_1(x121);
   x24 = ld8_1(ADD(x121, 1));
   { x25 = x24; x27 = x26; goto b39; }
@@ -19796,13 +19770,13 @@ b40:;
   MEMCPY(ADD(x145, 17), x106, 10);
   if (x114) goto b42; else goto b43;
 b42:;
-  x146 = f177(x30, x2, x145);
+  x146 = f176(x30, x2, x145);
   if (x146) goto b44; else goto b45;
 b43:;
   st8_1(x147, x31);
   MEMCPY(ADD(x147, 1), x105, 16);
   MEMCPY(ADD(x147, 17), x106, 10);
-  x148 = f179(x30, x2, x147);
+  x148 = f178(x30, x2, x147);
   if (x148) goto b44; else goto b45;
 b44:;
   MEMSET(x149, 0u, 32);
@@ -19813,7 +19787,7 @@ b41:;
   x152 = ld64_8(FAR(x1, 456));
   x153 = ld64_8(FAR(x1, 616));
   x154 = ld64_8(FAR(x1, 624));
-  x155 = f146(x151, x152, x153, x2, x110, x150, x154);
+  x155 = f145(x151, x152, x153, x2, x110, x150, x154);
   if (x155) goto b47; else goto b45;
 b45:;
   x156 = ld8_1(x111);
@@ -19833,7 +19807,7 @@ b52:;
   MEMCPY(ADD(x160, 1), x159, 6);
   MEMSET(x161, 0u, 7);
   MEMCPY(x162, x116, 24);
-  f169(x161, x162, x160);
+  f168(x161, x162, x160);
   x163 = ld8_1(x161);
   if (((u8)(x163 == 1u))) goto b53; else goto b54;
 b53:;
@@ -19857,12 +19831,12 @@ b57:;
   MEMSET(x170, 0u, 32);
   if (x37) goto b58; else { x42 = Q_NULL; x44 = 0u; x46 = 0u; goto b59; }
 b58:;
-  f153(x170);
+  f152(x170);
   x171 = ld8_1(x170);
   if (((u8)(x171 == 0u))) goto b60; else goto b61;
 b60:;
   MEMSET(x172, 0u, 6);
-  f223(x173, ADD(x170, 8), x172, x167, x169, x166, 1u, x168);
+  f222(x173, ADD(x170, 8), x172, x167, x169, x166, 1u, x168);
   x41 = ldp_8(x173);
   x43 = ld64_8(ADD(x173, 8));
   x45 = ld64_8(ADD(x173, 16));
@@ -19935,7 +19909,7 @@ b65:;
 b49:;
   st8_1(x108, 5u);
   st8_1(ADD(x108, 1), 0u);
-  f149(x104, x1, x2, x108, x5);
+  f148(x104, x1, x2, x108, x5);
   x62 = ld8_1(x104);
   x64 = ld8_1(ADD(x104, 8));
   x66 = ld8_1(ADD(x104, 9));
@@ -19944,7 +19918,7 @@ b49:;
 b47:;
   MEMSET(x189, 0u, 40);
   MEMSET(x149, 0u, 32);
-  f152(x189, x33, x110, x5);
+  f151(x189, x33, x110, x5);
   x190 = ld8_1(x189);
   if (((u8)(x190 == 0u))) goto b71; else goto b72;
 b71:;
@@ -19954,7 +19928,7 @@ b71:;
   x58 = ld64_8(ADD(x189, 32));
   { x51 = x33; x52 = x34; x53 = x35; x55 = x54; x57 = x56; x59 = x58; x61 = x60; goto b46; }
 b46:;
-  f153(x149);
+  f152(x149);
   x191 = ld8_1(x149);
   if (((u8)(x191 == 0u))) goto b73; else goto b74;
 b73:;
@@ -20011,12 +19985,12 @@ b76:;
   st8_1(ADD(x210, 1), x53);
   MEMCPY(ADD(x210, 2), x105, 16);
   MEMCPY(ADD(x210, 18), x106, 10);
-  f181(x211, x51, x209, x2, x210, x114, x5);
-  (void)f183(x51, x209, x2, x210, x208, x5);
+  f180(x211, x51, x209, x2, x210, x114, x5);
+  (void)f182(x51, x209, x2, x210, x208, x5);
   x212 = ld8_1(x211);
   MEMCPY(ADD(x107, 1), ADD(x211, 1), 16);
   st8_1(x107, x212);
-  f186(FAR(x1, 112), x209, x107);
+  f185(FAR(x1, 112), x209, x107);
   x213 = ld8_1(x1);
   MEMCPY(x214, FAR(x1, 1), 6);
   MEMCPY(x215, x4, 16);
@@ -20024,7 +19998,7 @@ b76:;
   st64_8(ADD(x216, 8), x193);
   st64_8(ADD(x216, 16), x194);
   MEMSET(x217, 0u, 6);
-  f223(x218, x216, x217, x214, x110, ((u8)((x213) & 1u)), 1u, x215);
+  f222(x218, x216, x217, x214, x110, ((u8)((x213) & 1u)), 1u, x215);
   x219 = ldp_8(x218);
   x220 = ld64_8(ADD(x218, 8));
   x221 = ld64_8(ADD(x218, 16));
@@ -20033,7 +20007,7 @@ b76:;
 b83:;
   goto b84;
 b82:;
-  f159(x223, x51, x110);
+  f158(x223, x51, x110);
   x224 = ld8_1(x223);
   MEMCPY(x225, ADD(x223, 1), 6);
   if (((u8)(x224 == 1u))) goto b85; else goto b84;
@@ -20061,7 +20035,7 @@ b84:;
   stp_8(ADD(x230, 8), x55);
   st64_8(ADD(x230, 16), x57);
   st64_8(ADD(x230, 24), x59);
-  f155(x1, x2, x110, x229, x230, x5);
+  f154(x1, x2, x110, x229, x230, x5);
   goto b86;
 b86:;
   MEMCPY(x68, x109, 16);
@@ -20077,7 +20051,7 @@ b70:;
   goto b14;
 }
 
-static u8 f222(Q x0, Q x1)
+static u8 f221(Q x0, Q x1)
 {
   u8 x2, x10;
   Q x3, x5, x8, x9, x11;
@@ -20109,7 +20083,7 @@ b1:;
   return x2;
 }
 
-static void f223(Q x0, Q x1, Q x2, Q x3, Q x4, u8 x5, u8 x6, Q x7)
+static void f222(Q x0, Q x1, Q x2, Q x3, Q x4, u8 x5, u8 x6, Q x7)
 {
   u8 x8, x9;
   u32 x10;
@@ -20214,7 +20188,7 @@ static void f223(Q x0, Q x1, Q x2, Q x3, Q x4, u8 x5, u8 x6, Q x7)
   return;
 }
 
-static void f224(Q x0, Q x1, u64 x2, Q x3, Q x4, Q x5)
+static void f223(Q x0, Q x1, u64 x2, Q x3, Q x4, Q x5)
 {
   u8 x6, x7, x8, x10, x11, x12, x14, x19, x21, x23, x25, x30, x40, x9, x43, x46, x13, x20, x50, x53, x54, x55, x57, x24, x22, x62, x64, x76, x81, x85, x86, x89;
   u64 x16, x18, x17, x15, x59, x61, x67, x72, x74, x77, x80, x82, x83, x88, x93;
@@ -20300,7 +20274,7 @@ b2:;
   switch (x40) { case 0u: goto b3; case 1u: goto b4; case 2u: goto b5; case 3u: goto b6; case 4u: goto b7; default: goto b8; }
 b3:;
   MEMCPY(x41, x29, 24);
-  f169(x35, x41, x33);
+  f168(x35, x41, x33);
   x9 = ld8_1(ADD(x35, 1));
   x42 = ADD(x35, 2);
   if (((u8)((x15 | x17) == 0u))) goto b9; else goto b10;
@@ -20327,7 +20301,7 @@ b14:;
   { x23 = x8; x25 = 1u; goto b11; }
 b4:;
   MEMCPY(x45, x29, 24);
-  f169(x36, x45, x33);
+  f168(x36, x45, x33);
   x46 = ld8_1(x36);
   if (((u8)(x46 == 1u))) goto b15; else goto b16;
 b15:;
@@ -20348,7 +20322,7 @@ b17:;
   { x23 = x12; x25 = 1u; goto b11; }
 b5:;
   MEMCPY(x48, x29, 24);
-  f169(x37, x48, x33);
+  f168(x37, x48, x33);
   x20 = ld8_1(ADD(x37, 1));
   x49 = ADD(x37, 2);
   if (((u8)((x15 | x17) == 0u))) goto b18; else goto b19;
@@ -20379,7 +20353,7 @@ b6:;
   x54 = ld8_1(FAR(x3, 34));
   x55 = ld8_1(FAR(x3, 35));
   MEMCPY(x56, x29, 24);
-  f175(x38, x56, x33);
+  f174(x38, x56, x33);
   x57 = ld8_1(x38);
   MEMCPY(ADD(x34, 2), x52, 16);
   st8_1(ADD(x34, 18), x53);
@@ -20390,8 +20364,8 @@ b6:;
   { x23 = 1u; x25 = 1u; goto b11; }
 b7:;
   MEMCPY(x58, x29, 24);
-  f175(x39, x58, x33);
-  f176(x34, FAR(x3, 33), x39);
+  f174(x39, x58, x33);
+  f175(x34, FAR(x3, 33), x39);
   x24 = ld8_1(x34);
   x22 = ld8_1(ADD(x34, 1));
   { x23 = x22; x25 = x24; goto b11; }
@@ -20436,7 +20410,7 @@ b24:;
   x74 = ld64_1(x73);
   st64_8(x75, x72);
   st64_8(ADD(x75, 8), x74);
-  x76 = f222(FAR(x1, 280), x75);
+  x76 = f221(FAR(x1, 280), x75);
   if (x76) goto b26; else goto b27;
 b26:;
   f94(FAR(x1, 864));
@@ -20454,7 +20428,7 @@ b27:;
   goto b28;
 b28:;
   x80 = ld64_8(FAR(x1, 88));
-  x81 = f183(FAR(x1, 448), x70, x2, x26, x80, x5);
+  x81 = f182(FAR(x1, 448), x70, x2, x26, x80, x5);
   x82 = ld64_1(x71);
   x83 = ld64_1(x73);
   st64_8(x84, x82);
@@ -20469,7 +20443,7 @@ b31:;
 b32:;
   x87 = ldp_8(FAR(x1, 112));
   x88 = ld64_8(FAR(x1, 120));
-  x89 = f194(x87, x88, x2, x84);
+  x89 = f193(x87, x88, x2, x84);
   st64_8(x90, x82);
   st64_8(ADD(x90, 8), x83);
   MEMSET(ADD(x91, 16), 0u, 17);
@@ -20480,7 +20454,7 @@ b33:;
   MEMSET(ADD(x91, 16), 0u, 17);
   goto b34;
 b34:;
-  f216(FAR(x1, 112), x90);
+  f215(FAR(x1, 112), x90);
   st8_1(x92, 1u);
   MEMCPY(ADD(x92, 1), x90, 16);
   f93(x70, x92);
@@ -20514,7 +20488,7 @@ b25:;
   goto b36;
 }
 
-static void f225(Q x0, Q x1, u64 x2, Q x3, Q x4, Q x5)
+static void f224(Q x0, Q x1, u64 x2, Q x3, Q x4, Q x5)
 {
   u8 x6, x7, x8, x10, x11, x12, x14, x19, x21, x23, x25, x26, x44, x54, x9, x57, x60, x13, x20, x64, x67, x68, x69, x71, x24, x22, x76, x77, x80, x82, x83, x84, x85, x86, x91, x96, x117, x129, x142, x153, x160, x162, x164;
   u64 x16, x18, x29, x32, x17, x15, x87, x88, x90, x93, x94, x109, x110, x111, x28, x113, x115, x116, x27, x118, x121, x125, x127, x128, x30, x131, x135, x137, x31, x143, x156, x159, x165;
@@ -20623,7 +20597,7 @@ b2:;
   switch (x54) { case 0u: goto b3; case 1u: goto b4; case 2u: goto b5; case 3u: goto b6; case 4u: goto b7; default: goto b8; }
 b3:;
   MEMCPY(x55, x43, 24);
-  f169(x49, x55, x47);
+  f168(x49, x55, x47);
   x9 = ld8_1(ADD(x49, 1));
   x56 = ADD(x49, 2);
   if (((u8)((x15 | x17) == 0u))) goto b9; else goto b10;
@@ -20652,7 +20626,7 @@ b14:;
   { x23 = x8; x25 = 1u; goto b11; }
 b4:;
   MEMCPY(x59, x43, 24);
-  f169(x50, x59, x47);
+  f168(x50, x59, x47);
   x60 = ld8_1(x50);
   if (((u8)(x60 == 1u))) goto b15; else goto b16;
 b15:;
@@ -20675,7 +20649,7 @@ b17:;
   { x23 = x12; x25 = 1u; goto b11; }
 b5:;
   MEMCPY(x62, x43, 24);
-  f169(x51, x62, x47);
+  f168(x51, x62, x47);
   x20 = ld8_1(ADD(x51, 1));
   x63 = ADD(x51, 2);
   if (((u8)((x15 | x17) == 0u))) goto b18; else goto b19;
@@ -20708,7 +20682,7 @@ b6:;
   x68 = ld8_1(FAR(x3, 34));
   x69 = ld8_1(FAR(x3, 35));
   MEMCPY(x70, x43, 24);
-  f175(x52, x70, x47);
+  f174(x52, x70, x47);
   x71 = ld8_1(x52);
   st8_1(x48, 1u);
   st8_1(ADD(x48, 1), 1u);
@@ -20721,8 +20695,8 @@ b6:;
   { x23 = 1u; x25 = 1u; goto b11; }
 b7:;
   MEMCPY(x72, x43, 24);
-  f175(x53, x72, x47);
-  f176(x48, FAR(x3, 33), x53);
+  f174(x53, x72, x47);
+  f175(x48, FAR(x3, 33), x53);
   x24 = ld8_1(x48);
   x22 = ld8_1(ADD(x48, 1));
   { x23 = x22; x25 = x24; goto b11; }
@@ -20748,13 +20722,13 @@ b23:;
   MEMCPY(ADD(x79, 17), x74, 10);
   if (x77) goto b26; else goto b27;
 b26:;
-  x80 = f177(x78, x2, x79);
+  x80 = f176(x78, x2, x79);
   if (x80) { x26 = 1u; goto b25; } else goto b28;
 b27:;
   st8_1(x81, x23);
   MEMCPY(ADD(x81, 1), x73, 16);
   MEMCPY(ADD(x81, 17), x74, 10);
-  x82 = f179(x78, x2, x81);
+  x82 = f178(x78, x2, x81);
   if (x82) { x26 = 1u; goto b25; } else goto b28;
 b28:;
   x83 = ld8_1(x75);
@@ -20764,7 +20738,7 @@ b30:;
 b29:;
   st8_1(x40, 5u);
   st8_1(ADD(x40, 1), 0u);
-  f149(x36, x1, x2, x40, x5);
+  f148(x36, x1, x2, x40, x5);
   x84 = ld8_1(x36);
   st8_1(x0, x84);
   x85 = ld8_1(ADD(x36, 8));
@@ -20774,7 +20748,7 @@ b29:;
   MEMCPY(FAR(x0, 10), ADD(x36, 10), 16);
   goto b30;
 b25:;
-  f180(x38, x37, x26);
+  f179(x38, x37, x26);
   x87 = (x77 ? 21u : 12u);
   x88 = ld64_8(FAR(x5, 40));
   x89 = FAR(x5, 32);
@@ -20825,7 +20799,7 @@ b35:;
   x116 = umin64(x113, x115);
   if (((u8)(x116 == 0u))) goto b37; else { x29 = x28; goto b38; }
 b37:;
-  x117 = f226(x92);
+  x117 = f225(x92);
   if (((u8)((x117) & 1u))) goto b39; else goto b40;
 b40:;
   x27 = ld64_8(x112);
@@ -20896,7 +20870,7 @@ b50:;
   st8_1(x148, 1u);
   stn(ADD(x148, 1), u128_low(x95), 8); stn(ADD(ADD(x148, 1), 8), u128_high(x95), 7);
   st8_1(ADD(x148, 16), x96);
-  f230(x92, x97, x148, x144, x144);
+  f229(x92, x97, x148, x144, x144);
   goto b36;
 b43:;
   x149 = os_rattle_alloc(64u, 16u);
@@ -20906,7 +20880,7 @@ b53:;
   st8_1(x151, 1u);
   stn(ADD(x151, 1), u128_low(x95), 8); stn(ADD(ADD(x151, 1), 8), u128_high(x95), 7);
   st8_1(ADD(x151, 16), x96);
-  f230(x92, x97, x151, x150, x150);
+  f229(x92, x97, x151, x150, x150);
   goto b55;
 b54:;
   goto b41;
@@ -20944,12 +20918,12 @@ b55:;
   st8_1(ADD(x161, 1), x162);
   MEMCPY(ADD(x161, 2), ADD(x38, 2), 16);
   MEMCPY(ADD(x161, 18), ADD(x38, 18), 10);
-  f181(x163, x78, x92, x2, x161, x77, x5);
-  (void)f183(x78, x92, x2, x161, x159, x5);
+  f180(x163, x78, x92, x2, x161, x77, x5);
+  (void)f182(x78, x92, x2, x161, x159, x5);
   x164 = ld8_1(x163);
   MEMCPY(ADD(x39, 1), ADD(x163, 1), 16);
   st8_1(x39, x164);
-  f186(FAR(x1, 112), x92, x39);
+  f185(FAR(x1, 112), x92, x39);
   if (x26) goto b56; else goto b57;
 b57:;
   x165 = ld64_8(x89);
@@ -20972,7 +20946,7 @@ b41:;
   goto b30;
 }
 
-static u8 f226(Q x0)
+static u8 f225(Q x0)
 {
   u64 x3, x5, x2, x1, x12, x4;
   u8 x7, x9, x10, x15, x6;
@@ -20983,13 +20957,13 @@ static u8 f226(Q x0)
   x2 = ld64_8(x8);
   if (((u8)(x2 == 0u))) goto b0; else { x3 = x2; goto b1; }
 b0:;
-  x9 = f227(FAR(x0, 64));
+  x9 = f226(FAR(x0, 64));
   if (((u8)((x9) & 1u))) { x7 = 1u; goto b2; } else goto b3;
 b3:;
   x1 = ld64_8(x8);
   { x3 = x1; goto b1; }
 b1:;
-  x10 = f229(x0, x3);
+  x10 = f228(x0, x3);
   if (((u8)((x10) & 1u))) { x7 = 1u; goto b2; } else goto b4;
 b4:;
   x11 = FAR(x0, 32);
@@ -21017,7 +20991,7 @@ b2:;
   return x7;
 }
 
-static u8 f227(Q x0)
+static u8 f226(Q x0)
 {
   u64 x2, x6, x11, x16, x17, x18, x19, x22, x23, x1, x29, x30, x5, x31, x32, x10, x34, x38, x40;
   u8 x4, x12, x13, x28, x3, x33, x35, x41, x42;
@@ -21063,7 +21037,7 @@ b7:;
   if (((u8)(x2 == 0u))) { x4 = 0u; x6 = 0u; x9 = x8; goto b8; } else goto b9;
 b9:;
   x27 = ADD(x24, 16);
-  x28 = f228(x24, x2);
+  x28 = f227(x24, x2);
   if (x28) goto b10; else goto b11;
 b10:;
   x29 = ld64_8(x25);
@@ -21133,7 +21107,7 @@ b0:;
   return x13;
 }
 
-static u8 f228(Q x0, u64 x1)
+static u8 f227(Q x0, u64 x1)
 {
   u8 x2, x13, x14;
   s_u64_u64 x5, x15, x3, x4;
@@ -21172,7 +21146,7 @@ b7:;
   { x2 = 1u; goto b0; }
 }
 
-static u8 f229(Q x0, u64 x1)
+static u8 f228(Q x0, u64 x1)
 {
   u64 x3, x2, x6;
   u8 x4, x7;
@@ -21200,7 +21174,7 @@ b0:;
   return x4;
 }
 
-static void f230(Q x0, u128 x1, Q x2, Q x3, Q x4)
+static void f229(Q x0, u128 x1, Q x2, Q x3, Q x4)
 {
   u64 x7, x19, x22, x23, x26, x29, x5, x32, x37, x6, x41, x42, x43, x44, x45, x46, x49, x52;
   u32 x10, x31, x8, x35, x36, x9, x40;
@@ -21274,7 +21248,7 @@ b0:;
   x46 = umin64(x44, x45);
   if (((u8)(x46 == 0u))) goto b9; else goto b10;
 b9:;
-  x47 = f226(x0);
+  x47 = f225(x0);
   if (((u8)(x47 == 0u))) goto b10; else goto b11;
 b6:;
   x48 = ldp_8(FAR(x0, 32));
@@ -21285,7 +21259,7 @@ b11:;
   TRAP();
   UNREACHABLE();
 b10:;
-  f231(x27, ((u32)(x23)));
+  f230(x27, ((u32)(x23)));
   x49 = ld64_8(x25);
   x50 = ldp_8(x0);
   st64_1(ADD(x50, (u64)((u64)((u64)x49 << 3))), ((u64)((u64)x13)));
@@ -21298,7 +21272,7 @@ b10:;
   return;
 }
 
-static void f231(Q x0, u32 x1)
+static void f230(Q x0, u32 x1)
 {
   Q x2, x4, x8, x9;
   u64 x3, x5, x7, x10;
@@ -21318,66 +21292,151 @@ static void f231(Q x0, u32 x1)
   return;
 }
 
+static void f231(Q x0, Q x1, u64 x2, Q x3, Q x4)
+{
+  u8 x5, x14, x16, x20, x21, x22, x23, x24, x26, x27, x28;
+  Q x8, x10, x11;
+  u64 x9, x12, x18;
+  s_u8_u64 x13;
+  u32 x17;
+  _Alignas(8) u8 y0_[64];
+  Q const x25 = Q_OF(y0_);
+  _Alignas(8) u8 y1_[32];
+  Q const x6 = Q_OF(y1_);
+  _Alignas(1) u8 y2_[17];
+  Q const x19 = Q_OF(y2_);
+  _Alignas(1) u8 y3_[16];
+  Q const x7 = Q_OF(y3_);
+  _Alignas(1) u8 y4_[16];
+  Q const x15 = Q_OF(y4_);
+  MEMSET(x6, 0u, 32);
+  MEMCPY(x7, x3, 16);
+  x8 = FAR(x3, 40);
+  x9 = ld64_1(FAR(x3, 48));
+  x10 = FAR(x1, 280);
+  x11 = ldp_8(FAR(x1, 312));
+  x12 = ld64_8(FAR(x1, 320));
+  x13 = f97(x11, x12, FAR(x1, 286));
+  if (((u8)((x13.f0) == 0u))) goto b0; else goto b1;
+b0:;
+  x14 = ld8_1(FAR(FAR(x11, (u64)((u64)((u64)(x13.f1) * 72u))), 48));
+  if (((u8)(x14 == 1u))) goto b2; else goto b1;
+b2:;
+  MEMSET(x15, 0u, 16);
+  { x5 = 1u; goto b3; }
+b1:;
+  x16 = f132(x10, 1u, x7);
+  if (x16) goto b4; else goto b5;
+b5:;
+  MEMCPY(x15, x3, 16);
+  { x5 = 3u; goto b3; }
+b4:;
+  x17 = ld32_4(FAR(x1, 76));
+  x18 = uadd_sat64(x9, 40u);
+  if (((u8)(x18 > ((u64)x17)))) goto b6; else goto b7;
+b6:;
+  MEMSET(x15, 0u, 16);
+  { x5 = 4u; goto b3; }
+b8:;
+  return;
+b3:;
+  st8_1(x19, x5);
+  MEMCPY(ADD(x19, 1), x15, 16);
+  f148(x6, x1, x2, x19, x4);
+  x20 = ld8_1(x6);
+  st8_1(x0, x20);
+  x21 = ld8_1(ADD(x6, 8));
+  st8_1(FAR(x0, 8), x21);
+  x22 = ld8_1(ADD(x6, 9));
+  st8_1(FAR(x0, 9), x22);
+  MEMCPY(FAR(x0, 10), ADD(x6, 10), 16);
+  goto b8;
+b7:;
+  x23 = ld8_1(FAR(x1, 72));
+  x24 = ld8_1(FAR(x3, 32));
+  st64_8(x25, 0u);
+  st8_1(ADD(x25, 8), x24);
+  st8_1(ADD(x25, 9), x23);
+  MEMCPY(ADD(x25, 10), x3, 16);
+  MEMCPY(ADD(x25, 26), FAR(x3, 16), 16);
+  st16_2(ADD(x25, 42), 0u);
+  st32_4(ADD(x25, 44), 0u);
+  MEMCPY(ADD(x25, 48), x8, 16);
+  f232(x6, x1, x2, x25, x4);
+  x26 = ld8_1(x6);
+  st8_1(x0, x26);
+  x27 = ld8_1(ADD(x6, 8));
+  st8_1(FAR(x0, 8), x27);
+  x28 = ld8_1(ADD(x6, 9));
+  st8_1(FAR(x0, 9), x28);
+  MEMCPY(FAR(x0, 10), ADD(x6, 10), 16);
+  goto b8;
+}
+
 static void f232(Q x0, Q x1, u64 x2, Q x3, Q x4)
 {
-  u8 x5, x8, x11, x14, x15, x16, x17, x20, x23, x26, x27, x28, x29, x30, x31, x32, x37, x38, x39, x46, x47, x48, x49, x50, x51, x54, x57, x68, x7, x10, x13, x72, x75, x6, x9, x12, x83, x19, x22, x25, x87, x90, x18, x21, x24, x91, x92, x93;
-  Q x34, x41, x64, x71, x79, x86;
-  u64 x65, x66, x67, x80, x81, x82;
+  u8 x5, x8, x11, x14, x15, x16, x17, x20, x23, x26, x27, x28, x29, x30, x31, x32, x37, x38, x39, x47, x48, x49, x50, x51, x54, x57, x69, x7, x10, x13, x75, x6, x9, x12, x84, x19, x22, x25, x90, x18, x21, x24, x91, x92;
+  Q x34, x41, x59, x65, x72, x80, x87;
+  u64 x66, x67, x68, x81, x82, x83;
   _Alignas(8) u8 y0_[80];
   Q const x56 = Q_OF(y0_);
-  Q const x84 = Q_OF(y0_);
-  Q const x69 = Q_OF(y0_);
+  Q const x85 = Q_OF(y0_);
+  Q const x70 = Q_OF(y0_);
   _Alignas(8) u8 y1_[33];
   Q const x55 = Q_OF(y1_);
   Q const x61 = Q_OF(y1_);
-  Q const x76 = Q_OF(y1_);
+  Q const x77 = Q_OF(y1_);
   _Alignas(8) u8 y2_[32];
   Q const x62 = Q_OF(y2_);
-  Q const x77 = Q_OF(y2_);
+  Q const x78 = Q_OF(y2_);
   _Alignas(8) u8 y3_[32];
-  Q const x45 = Q_OF(y3_);
+  Q const x46 = Q_OF(y3_);
   _Alignas(8) u8 y4_[32];
-  Q const x42 = Q_OF(y4_);
+  Q const x43 = Q_OF(y4_);
   _Alignas(1) u8 y5_[17];
-  Q const x85 = Q_OF(y5_);
+  Q const x86 = Q_OF(y5_);
   _Alignas(1) u8 y6_[17];
-  Q const x70 = Q_OF(y6_);
+  Q const x71 = Q_OF(y6_);
   _Alignas(1) u8 y7_[17];
-  Q const x63 = Q_OF(y7_);
+  Q const x64 = Q_OF(y7_);
   _Alignas(1) u8 y8_[17];
-  Q const x78 = Q_OF(y8_);
+  Q const x79 = Q_OF(y8_);
   _Alignas(1) u8 y9_[17];
   Q const x36 = Q_OF(y9_);
   _Alignas(1) u8 y10_[17];
   Q const x40 = Q_OF(y10_);
   _Alignas(1) u8 y11_[16];
-  Q const x60 = Q_OF(y11_);
-  _Alignas(2) u8 y12_[16];
-  Q const x58 = Q_OF(y12_);
+  Q const x63 = Q_OF(y11_);
+  _Alignas(1) u8 y12_[16];
+  Q const x76 = Q_OF(y12_);
   _Alignas(2) u8 y13_[16];
-  Q const x59 = Q_OF(y13_);
-  _Alignas(1) u8 y14_[16];
-  Q const x35 = Q_OF(y14_);
-  _Alignas(2) u8 y15_[16];
-  Q const x33 = Q_OF(y15_);
-  _Alignas(1) u8 y16_[6];
-  Q const x73 = Q_OF(y16_);
-  _Alignas(1) u8 y17_[6];
-  Q const x74 = Q_OF(y17_);
+  Q const x58 = Q_OF(y13_);
+  _Alignas(2) u8 y14_[16];
+  Q const x42 = Q_OF(y14_);
+  _Alignas(1) u8 y15_[16];
+  Q const x35 = Q_OF(y15_);
+  _Alignas(2) u8 y16_[16];
+  Q const x33 = Q_OF(y16_);
+  _Alignas(1) u8 y17_[11];
+  Q const x60 = Q_OF(y17_);
   _Alignas(1) u8 y18_[6];
-  Q const x52 = Q_OF(y18_);
+  Q const x73 = Q_OF(y18_);
   _Alignas(1) u8 y19_[6];
-  Q const x53 = Q_OF(y19_);
+  Q const x74 = Q_OF(y19_);
   _Alignas(1) u8 y20_[6];
-  Q const x88 = Q_OF(y20_);
+  Q const x52 = Q_OF(y20_);
   _Alignas(1) u8 y21_[6];
-  Q const x89 = Q_OF(y21_);
+  Q const x53 = Q_OF(y21_);
   _Alignas(1) u8 y22_[6];
-  Q const x43 = Q_OF(y22_);
+  Q const x88 = Q_OF(y22_);
   _Alignas(1) u8 y23_[6];
-  Q const x44 = Q_OF(y23_);
+  Q const x89 = Q_OF(y23_);
+  _Alignas(1) u8 y24_[6];
+  Q const x44 = Q_OF(y24_);
+  _Alignas(1) u8 y25_[6];
+  Q const x45 = Q_OF(y25_);
   MEMSET(x33, 0u, 16);
-  x34 = FAR(x3, 16);
+  x34 = FAR(x3, 26);
   MEMCPY(x35, x34, 16);
   MEMSET(x36, 0u, 17);
   x37 = ld8_1(x1);
@@ -21394,33 +21453,33 @@ b2:;
   st8_1(x40, x39);
   x41 = ADD(x40, 1);
   MEMCPY(x41, ADD(x36, 1), 16);
-  MEMSET(x42, 0u, 32);
-  MEMSET(x43, 0u, 6);
+  MEMSET(x42, 0u, 16);
+  MEMSET(x43, 0u, 32);
   MEMSET(x44, 0u, 6);
+  MEMSET(x45, 0u, 6);
   switch (x39) { case 0u: goto b3; case 1u: goto b4; case 2u: goto b5; default: goto b6; }
 b3:;
-  MEMSET(x45, 0u, 32);
-  x46 = ld8_1(x34);
-  x47 = ld8_1(FAR(x3, 28));
-  x48 = ld8_1(FAR(x3, 29));
-  x49 = ld8_1(FAR(x3, 30));
-  x50 = ld8_1(FAR(x3, 31));
-  if (((u8)(x46 == 255u))) goto b7; else goto b8;
+  MEMSET(x46, 0u, 32);
+  x47 = ld8_1(x34);
+  x48 = ld8_1(FAR(x3, 38));
+  x49 = ld8_1(FAR(x3, 39));
+  x50 = ld8_1(FAR(x3, 40));
+  x51 = ld8_1(FAR(x3, 41));
+  if (((u8)(x47 == 255u))) goto b7; else goto b8;
 b7:;
-  x51 = ld8_1(FAR(x1, 72));
   st8_1(x52, 51u);
   st8_1(ADD(x52, 1), 51u);
-  st8_1(ADD(x52, 2), x47);
-  st8_1(ADD(x52, 3), x48);
-  st8_1(ADD(x52, 4), x49);
-  st8_1(ADD(x52, 5), x50);
+  st8_1(ADD(x52, 2), x48);
+  st8_1(ADD(x52, 3), x49);
+  st8_1(ADD(x52, 4), x50);
+  st8_1(ADD(x52, 5), x51);
   MEMCPY(x53, FAR(x1, 1), 6);
-  f236(x45, x3, x52, x53, x51);
-  x54 = ld8_1(x45);
+  f142(x46, x52, x53, x3);
+  x54 = ld8_1(x46);
   if (((u8)(x54 == 0u))) goto b9; else goto b10;
 b9:;
   MEMSET(x55, 0u, 33);
-  MEMCPY(ADD(x55, 7), ADD(x45, 8), 24);
+  MEMCPY(ADD(x55, 7), ADD(x46, 8), 24);
   st64_8(ADD(x56, 72), 0u);
   MEMCPY(ADD(x56, 9), x55, 33);
   MEMSET(ADD(x56, 43), 0u, 34);
@@ -21437,49 +21496,56 @@ b11:;
   MEMSET(x58, 0u, 16);
   { x5 = 1u; goto b13; }
 b13:;
-  MEMCPY(x59, x58, 16);
+  MEMCPY(x42, x58, 16);
   { x15 = x5; x16 = 0u; x17 = 0u; goto b14; }
 b10:;
-  MEMSET(x59, 0u, 16);
+  MEMSET(x42, 0u, 16);
   { x15 = 1u; x16 = 0u; x17 = 0u; goto b14; }
 b8:;
-  st8_1(x60, x46);
-  MEMCPY(ADD(x60, 1), FAR(x3, 17), 11);
-  st8_1(ADD(x60, 12), x47);
-  st8_1(ADD(x60, 13), x48);
-  st8_1(ADD(x60, 14), x49);
-  st8_1(ADD(x60, 15), x50);
+  x59 = FAR(x3, 27);
+  MEMCPY(x60, x59, 11);
   MEMSET(x61, 0u, 32);
   MEMSET(x62, 0u, 32);
-  MEMSET(x63, 0u, 17);
-  x64 = ldp_8(FAR(x1, 448));
-  x65 = ld64_8(FAR(x1, 456));
-  x66 = ld64_8(FAR(x1, 616));
-  x67 = ld64_8(FAR(x1, 624));
-  x68 = f146(x64, x65, x66, x2, x60, x63, x67);
-  if (x68) goto b15; else goto b16;
+  st8_1(x63, x47);
+  MEMCPY(ADD(x63, 1), x59, 11);
+  st8_1(ADD(x63, 12), x48);
+  st8_1(ADD(x63, 13), x49);
+  st8_1(ADD(x63, 14), x50);
+  st8_1(ADD(x63, 15), x51);
+  MEMSET(x64, 0u, 17);
+  x65 = ldp_8(FAR(x1, 448));
+  x66 = ld64_8(FAR(x1, 456));
+  x67 = ld64_8(FAR(x1, 616));
+  x68 = ld64_8(FAR(x1, 624));
+  x69 = f145(x65, x66, x67, x2, x63, x64, x68);
+  if (x69) goto b15; else goto b16;
 b16:;
-  MEMSET(x69, 0u, 32);
-  MEMSET(ADD(x70, 2), 0u, 15);
-  st8_1(x70, 5u);
-  st8_1(ADD(x70, 1), 0u);
-  f149(x69, x1, x2, x70, x4);
-  x7 = ld8_1(x69);
-  x10 = ld8_1(ADD(x69, 8));
-  x13 = ld8_1(ADD(x69, 9));
-  x71 = ADD(x61, 10);
-  MEMCPY(x71, ADD(x69, 10), 16);
-  MEMCPY(x58, x71, 16);
+  MEMSET(x70, 0u, 32);
+  MEMSET(ADD(x71, 2), 0u, 15);
+  st8_1(x71, 5u);
+  st8_1(ADD(x71, 1), 0u);
+  f148(x70, x1, x2, x71, x4);
+  x7 = ld8_1(x70);
+  x10 = ld8_1(ADD(x70, 8));
+  x13 = ld8_1(ADD(x70, 9));
+  x72 = ADD(x61, 10);
+  MEMCPY(x72, ADD(x70, 10), 16);
+  MEMCPY(x58, x72, 16);
   { x8 = x7; x11 = x10; x14 = x13; goto b17; }
 b15:;
-  x72 = ld8_1(FAR(x1, 72));
   MEMSET(x73, 0u, 6);
   MEMCPY(x74, FAR(x1, 1), 6);
-  f236(x62, x3, x73, x74, x72);
+  f142(x62, x73, x74, x3);
   x75 = ld8_1(x62);
   if (((u8)(x75 == 0u))) goto b18; else goto b19;
 b18:;
-  f151(x61, x1, x2, x60, ADD(x62, 8), x4);
+  st8_1(x76, x47);
+  MEMCPY(ADD(x76, 1), x60, 11);
+  st8_1(ADD(x76, 12), x48);
+  st8_1(ADD(x76, 13), x49);
+  st8_1(ADD(x76, 14), x50);
+  st8_1(ADD(x76, 15), x51);
+  f150(x61, x1, x2, x76, ADD(x62, 8), x4);
   x6 = ld8_1(x61);
   x9 = ld8_1(ADD(x61, 8));
   x12 = ld8_1(ADD(x61, 9));
@@ -21489,72 +21555,70 @@ b19:;
   MEMSET(x58, 0u, 16);
   { x8 = 1u; x11 = 0u; x14 = 0u; goto b17; }
 b17:;
-  MEMCPY(x59, x58, 16);
+  MEMCPY(x42, x58, 16);
   { x15 = x8; x16 = x11; x17 = x14; goto b14; }
 b14:;
   { x27 = x15; x28 = x16; x29 = x17; goto b20; }
 b4:;
-  MEMSET(x76, 0u, 32);
   MEMSET(x77, 0u, 32);
-  MEMSET(x78, 0u, 17);
-  x79 = ldp_8(FAR(x1, 448));
-  x80 = ld64_8(FAR(x1, 456));
-  x81 = ld64_8(FAR(x1, 616));
-  x82 = ld64_8(FAR(x1, 624));
-  x83 = f146(x79, x80, x81, x2, x41, x78, x82);
-  if (x83) goto b21; else goto b22;
+  MEMSET(x78, 0u, 32);
+  MEMSET(x79, 0u, 17);
+  x80 = ldp_8(FAR(x1, 448));
+  x81 = ld64_8(FAR(x1, 456));
+  x82 = ld64_8(FAR(x1, 616));
+  x83 = ld64_8(FAR(x1, 624));
+  x84 = f145(x80, x81, x82, x2, x41, x79, x83);
+  if (x84) goto b21; else goto b22;
 b22:;
-  MEMSET(x84, 0u, 32);
-  MEMSET(ADD(x85, 2), 0u, 15);
-  st8_1(x85, 5u);
-  st8_1(ADD(x85, 1), 0u);
-  f149(x84, x1, x2, x85, x4);
-  x19 = ld8_1(x84);
-  x22 = ld8_1(ADD(x84, 8));
-  x25 = ld8_1(ADD(x84, 9));
-  x86 = ADD(x76, 10);
-  MEMCPY(x86, ADD(x84, 10), 16);
-  MEMCPY(x59, x86, 16);
+  MEMSET(x85, 0u, 32);
+  MEMSET(ADD(x86, 2), 0u, 15);
+  st8_1(x86, 5u);
+  st8_1(ADD(x86, 1), 0u);
+  f148(x85, x1, x2, x86, x4);
+  x19 = ld8_1(x85);
+  x22 = ld8_1(ADD(x85, 8));
+  x25 = ld8_1(ADD(x85, 9));
+  x87 = ADD(x77, 10);
+  MEMCPY(x87, ADD(x85, 10), 16);
+  MEMCPY(x42, x87, 16);
   { x20 = x19; x23 = x22; x26 = x25; goto b23; }
 b21:;
-  x87 = ld8_1(FAR(x1, 72));
   MEMSET(x88, 0u, 6);
   MEMCPY(x89, FAR(x1, 1), 6);
-  f236(x77, x3, x88, x89, x87);
-  x90 = ld8_1(x77);
+  f142(x78, x88, x89, x3);
+  x90 = ld8_1(x78);
   if (((u8)(x90 == 0u))) goto b24; else goto b25;
 b24:;
-  f151(x76, x1, x2, x41, ADD(x77, 8), x4);
-  x18 = ld8_1(x76);
-  x21 = ld8_1(ADD(x76, 8));
-  x24 = ld8_1(ADD(x76, 9));
-  MEMCPY(x59, ADD(x76, 10), 16);
+  f150(x77, x1, x2, x41, ADD(x78, 8), x4);
+  x18 = ld8_1(x77);
+  x21 = ld8_1(ADD(x77, 8));
+  x24 = ld8_1(ADD(x77, 9));
+  MEMCPY(x42, ADD(x77, 10), 16);
   { x20 = x18; x23 = x21; x26 = x24; goto b23; }
 b25:;
-  MEMSET(x59, 0u, 16);
+  MEMSET(x42, 0u, 16);
   { x20 = 1u; x23 = 0u; x26 = 0u; goto b23; }
 b23:;
   { x27 = x20; x28 = x23; x29 = x26; goto b20; }
 b5:;
-  x91 = ld8_1(FAR(x1, 72));
-  MEMCPY(x44, FAR(x1, 1), 6);
-  f236(x42, x3, x43, x44, x91);
-  x92 = ld8_1(x42);
-  if (((u8)(x92 == 0u))) goto b26; else goto b27;
+  MEMCPY(x45, FAR(x1, 1), 6);
+  f142(x43, x44, x45, x3);
+  x91 = ld8_1(x43);
+  if (((u8)(x91 == 0u))) goto b26; else goto b27;
 b26:;
-  x93 = f144(x1, x2, 3u, ADD(x42, 8), x4);
-  if (((u8)((x93) & 1u))) goto b28; else goto b29;
+  x92 = f143(x1, x2, 3u, ADD(x43, 8), x4);
+  if (((u8)((x92) & 1u))) goto b28; else goto b29;
 b27:;
   MEMSET(x33, 0u, 16);
   { x30 = 1u; x31 = 0u; x32 = 0u; goto b30; }
 b29:;
-  MEMSET(x59, 0u, 16);
+  MEMSET(x42, 0u, 16);
   { x27 = 0u; x28 = 1u; x29 = 0u; goto b20; }
 b28:;
   MEMSET(x33, 0u, 16);
   { x30 = 1u; x31 = 0u; x32 = 0u; goto b30; }
 b20:;
-  MEMCPY(x33, x59, 16);
+  MEMCPY(x33, x42, 16);
   { x30 = x27; x31 = x28; x32 = x29; goto b30; }
 b6:;
   UNREACHABLE();
@@ -21623,10 +21687,10 @@ static void f233(Q x0, Q x1, u64 x2, Q x3)
 b0:;
   st64_8(x21, x12);
   st64_8(ADD(x21, 8), x13);
-  f171(x22, x18, x21);
+  f170(x22, x18, x21);
   st64_8(x23, x12);
   st64_8(ADD(x23, 8), x13);
-  f172(x19, x22, x23, x17);
+  f171(x19, x22, x23, x17);
   x10 = ld8_1(x19);
   MEMCPY(x14, ADD(x19, 1), 16);
   { x11 = x10; goto b2; }
@@ -21669,10 +21733,10 @@ b7:;
 b6:;
   st64_8(x41, x12);
   st64_8(ADD(x41, 8), x13);
-  f171(x42, x18, x41);
+  f170(x42, x18, x41);
   st64_8(x43, x12);
   st64_8(ADD(x43, 8), x13);
-  f172(x20, x42, x43, x17);
+  f171(x20, x42, x43, x17);
   x8 = ld8_1(x20);
   x44 = ADD(x20, 1);
   x45 = u128_and(u128_of(ldn(ADD(x44, 8), 7), ldn(x44, 8)), u128_of(UINT64_C(72057594037927935), UINT64_C(18446744073709551615)));
@@ -21719,7 +21783,7 @@ b14:;
   x68 = umin64(x66, x67);
   if (((u8)(x68 == 0u))) goto b16; else { x6 = x5; goto b17; }
 b16:;
-  x69 = f226(x24);
+  x69 = f225(x24);
   if (((u8)((x69) & 1u))) goto b18; else goto b19;
 b19:;
   x4 = ld64_8(x65);
@@ -21738,7 +21802,7 @@ b21:;
   st8_1(x75, x8);
   stn(ADD(x75, 1), u128_low(x45), 8); stn(ADD(ADD(x75, 1), 8), u128_high(x45), 7);
   st8_1(ADD(x75, 16), x46);
-  f230(x24, x49, x75, x73, x74);
+  f229(x24, x49, x75, x73, x74);
   goto b15;
 b22:;
   x76 = os_rattle_alloc(64u, 16u);
@@ -21748,7 +21812,7 @@ b23:;
   st8_1(x78, x8);
   stn(ADD(x78, 1), u128_low(x45), 8); stn(ADD(ADD(x78, 1), 8), u128_high(x45), 7);
   st8_1(ADD(x78, 16), x46);
-  f230(x24, x49, x78, x77, x77);
+  f229(x24, x49, x78, x77, x77);
   goto b12;
 b24:;
   goto b20;
@@ -21864,59 +21928,39 @@ b7:;
   { x2 = 1u; goto b0; }
 }
 
-static void f236(Q x0, Q x1, Q x2, Q x3, u8 x4)
+static void f236(Q x0, Q x1)
 {
-  u8 x9, x12;
-  Q x10, x13;
-  u64 x11, x14, x15;
-  _Alignas(4) u8 y0_[44];
-  Q const x5 = Q_OF(y0_);
-  _Alignas(8) u8 y1_[32];
-  Q const x6 = Q_OF(y1_);
-  _Alignas(1) u8 y2_[6];
-  Q const x7 = Q_OF(y2_);
-  _Alignas(1) u8 y3_[6];
-  Q const x8 = Q_OF(y3_);
-  MEMSET(x5, 0u, 44);
-  MEMSET(x6, 0u, 32);
-  MEMCPY(x7, x2, 6);
-  MEMCPY(x8, x3, 6);
-  x9 = ld8_1(FAR(x1, 32));
-  MEMCPY(ADD(x5, 10), x1, 16);
-  MEMCPY(ADD(x5, 26), FAR(x1, 16), 16);
-  st32_4(ADD(x5, 4), 0u);
-  st8_1(ADD(x5, 8), x9);
-  st8_1(ADD(x5, 9), x4);
-  x10 = ldp_8(FAR(x1, 40));
-  x11 = ld64_8(FAR(x1, 48));
-  f143(x6, x7, x8, x5, x10, x11);
-  x12 = ld8_1(x6);
-  if (((u8)(x12 == 0u))) goto b0; else goto b1;
+  Q x2, x3, x4;
+  u64 x5;
+  s_u8_u64 x6;
+  u8 x7, x8;
+  x2 = FAR(x1, 280);
+  x3 = FAR(x1, 286);
+  x4 = ldp_8(FAR(x1, 312));
+  x5 = ld64_8(FAR(x1, 320));
+  x6 = f97(x4, x5, x3);
+  if (((u8)((x6.f0) == 0u))) goto b0; else goto b1;
 b0:;
-  x13 = ldp_8(ADD(x6, 8));
-  x14 = ld64_8(ADD(x6, 16));
-  x15 = ld64_8(ADD(x6, 24));
-  if (((u8)(x14 < 14u))) goto b2; else goto b3;
-b2:;
-  if (((u8)(x15 == 0u))) goto b4; else goto b5;
-b5:;
-  os_rattle_dealloc(x13);
-  goto b4;
-b6:;
-  return;
-b1:;
-  st8_1(x0, 1u);
-  MEMSET(FAR(x0, 8), 0u, 24);
-  goto b6;
+  x7 = ld8_1(FAR(FAR(x4, (u64)((u64)((u64)(x6.f1) * 72u))), 48));
+  if (((u8)(x7 == 1u))) goto b2; else goto b1;
 b3:;
-  st8_1(x0, 0u);
-  stp_1(FAR(x0, 8), x13);
-  st64_1(FAR(x0, 16), x14);
-  st64_1(FAR(x0, 24), x15);
-  goto b6;
+  return;
+b2:;
+  st8_1(x0, 1u);
+  st8_1(FAR(x0, 1), 1u);
+  MEMSET(FAR(x0, 2), 0u, 16);
+  goto b3;
+b1:;
+  x8 = f132(x2, 1u, x3);
+  if (x8) goto b4; else goto b5;
+b5:;
+  st8_1(x0, 1u);
+  st8_1(FAR(x0, 1), 2u);
+  MEMSET(FAR(x0, 2), 0u, 16);
+  goto b3;
 b4:;
-  TRAP();
-  UNREACHABLE();
+  MEMSET(x0, 0u, 18);
+  goto b3;
 }
 
 static void f237(Q x0, Q x1, u64 x2, Q x3, Q x4)
@@ -21956,7 +22000,7 @@ static void f237(Q x0, Q x1, u64 x2, Q x3, Q x4)
   x23 = ld8_1(ADD(x3, 15));
   MEMSET(x24, 0u, 26);
   MEMSET(ADD(x25, 18), 0u, 7);
-  f238(x26, x1);
+  f236(x26, x1);
   x27 = ld8_1(x26);
   if (((u8)(x27 == 1u))) goto b0; else goto b1;
 b2:;
@@ -21966,7 +22010,7 @@ b0:;
   st8_1(x25, 1u);
   st8_1(ADD(x25, 1), x28);
   MEMCPY(ADD(x25, 2), ADD(x26, 2), 16);
-  f239(x24, x1, x2, x25, x4);
+  f238(x24, x1, x2, x25, x4);
   x29 = ld8_1(x24);
   st8_1(x0, x29);
   x30 = ld8_1(ADD(x24, 1));
@@ -22019,7 +22063,7 @@ b10:;
   st8_1(ADD(x41, 22), x21);
   st8_1(ADD(x41, 23), x22);
   st8_1(ADD(x41, 24), x23);
-  f239(x40, x1, x2, x41, x4);
+  f238(x40, x1, x2, x41, x4);
   x5 = ld8_1(x40);
   x8 = ld8_1(ADD(x40, 1));
   x11 = ld8_1(ADD(x40, 2));
@@ -22034,7 +22078,7 @@ b11:;
   st8_1(ADD(x42, 13), x21);
   st8_1(ADD(x42, 14), x22);
   st8_1(ADD(x42, 15), x23);
-  f240(x40, x1, x2, x42, x4);
+  f239(x40, x1, x2, x42, x4);
   x6 = ld8_1(x40);
   x9 = ld8_1(ADD(x40, 1));
   x12 = ld8_1(ADD(x40, 2));
@@ -22049,11 +22093,11 @@ b12:;
   st8_1(ADD(x39, 19), x16);
   goto b13;
 b7:;
-  f240(x39, x1, x2, x38, x4);
+  f239(x39, x1, x2, x38, x4);
   goto b13;
 b8:;
   MEMSET(x43, 0u, 25);
-  f239(x39, x1, x2, x43, x4);
+  f238(x39, x1, x2, x43, x4);
   goto b13;
 b9:;
   UNREACHABLE();
@@ -22075,42 +22119,7 @@ b13:;
   goto b2;
 }
 
-static void f238(Q x0, Q x1)
-{
-  Q x2, x3, x4;
-  u64 x5;
-  s_u8_u64 x6;
-  u8 x7, x8;
-  x2 = FAR(x1, 280);
-  x3 = FAR(x1, 286);
-  x4 = ldp_8(FAR(x1, 312));
-  x5 = ld64_8(FAR(x1, 320));
-  x6 = f97(x4, x5, x3);
-  if (((u8)((x6.f0) == 0u))) goto b0; else goto b1;
-b0:;
-  x7 = ld8_1(FAR(FAR(x4, (u64)((u64)((u64)(x6.f1) * 72u))), 48));
-  if (((u8)(x7 == 1u))) goto b2; else goto b1;
-b3:;
-  return;
-b2:;
-  st8_1(x0, 1u);
-  st8_1(FAR(x0, 1), 1u);
-  MEMSET(FAR(x0, 2), 0u, 16);
-  goto b3;
-b1:;
-  x8 = f132(x2, 1u, x3);
-  if (x8) goto b4; else goto b5;
-b5:;
-  st8_1(x0, 1u);
-  st8_1(FAR(x0, 1), 2u);
-  MEMSET(FAR(x0, 2), 0u, 16);
-  goto b3;
-b4:;
-  MEMSET(x0, 0u, 18);
-  goto b3;
-}
-
-static void f239(Q x0, Q x1, u64 x2, Q x3, Q x4)
+static void f238(Q x0, Q x1, u64 x2, Q x3, Q x4)
 {
   u8 x5, x6, x8, x12;
   u64 x10, x11;
@@ -22146,7 +22155,7 @@ b2:;
   goto b3;
 }
 
-static void f240(Q x0, Q x1, u64 x2, Q x3, Q x4)
+static void f239(Q x0, Q x1, u64 x2, Q x3, Q x4)
 {
   Q x6, x23, x25, x26, x28, x30, x5, x47, x52, x53, x54, x57, x58, x71, x73, x74, x75;
   u64 x8, x10, x13, x19, x27, x29, x31, x7, x9, x41, x42, x48, x49, x51, x55, x60, x12, x61, x11, x62, x65, x72;
@@ -22189,7 +22198,7 @@ static void f240(Q x0, Q x1, u64 x2, Q x3, Q x4)
   x29 = ld64_8(x28);
   x30 = FAR(x1, 624);
   x31 = ld64_8(x30);
-  x32 = f146(x25, x27, x29, x2, x3, x24, x31);
+  x32 = f145(x25, x27, x29, x2, x3, x24, x31);
   if (x32) goto b0; else goto b1;
 b2:;
   return;
@@ -22197,7 +22206,7 @@ b1:;
   st8_1(x22, 1u);
   st8_1(ADD(x22, 1), 5u);
   MEMSET(ADD(x22, 2), 0u, 16);
-  f239(x21, x1, x2, x22, x4);
+  f238(x21, x1, x2, x22, x4);
   x33 = ld8_1(x21);
   st8_1(x0, x33);
   x34 = ld8_1(ADD(x21, 1));
@@ -22212,7 +22221,7 @@ b1:;
 b0:;
   MEMCPY(x37, x3, 16);
   MEMSET(x38, 0u, 40);
-  f152(x38, x23, x37, x4);
+  f151(x38, x23, x37, x4);
   x39 = ld8_1(x38);
   x40 = ld8_1(ADD(x38, 8));
   if (((u8)(x39 == 0u))) goto b3; else goto b4;
@@ -22241,7 +22250,7 @@ b5:;
   x47 = ldp_8(x23);
   x48 = ld64_8(x26);
   x49 = ld64_8(x30);
-  x50 = f147(x47, x48, x20, x49);
+  x50 = f146(x47, x48, x20, x49);
   x51 = x50.f1;
   if (((u8)((x50.f0) == 0u))) goto b10; else goto b11;
 b10:;
@@ -22280,10 +22289,10 @@ b11:;
   x62 = ld64_8(x28);
   if (((u8)(x48 < x62))) goto b19; else goto b20;
 b20:;
-  x63 = f148(x47, x48, x2);
+  x63 = f147(x47, x48, x2);
   if (((u8)(((x63.f0)) & 1u))) goto b19; else goto b21;
 b19:;
-  f157(x46, FAR(x1, 528));
+  f156(x46, FAR(x1, 528));
   x64 = ld8_1(x46);
   if (((u8)(x64 == 0u))) goto b22; else goto b21;
 b22:;
@@ -22297,7 +22306,7 @@ b22:;
   st8_1(ADD(x66, 35), 0u);
   st32_4(ADD(x66, 36), x45);
   MEMCPY(ADD(x66, 40), ADD(x46, 8), 32);
-  f158(x23, FAR(x1, 472), x65, x2, x51, x66);
+  f157(x23, FAR(x1, 472), x65, x2, x51, x66);
   f94(FAR(x1, 864));
   MEMCPY(x67, FAR(x1, 1), 6);
   MEMSET(x68, 0u, 33);
@@ -22356,7 +22365,7 @@ b4:;
   goto b2;
 }
 
-static void f241(Q x0, Q x1, u64 x2, Q x3, Q x4)
+static void f240(Q x0, Q x1, u64 x2, Q x3, Q x4)
 {
   Q x6, x7, x10;
   u64 x8, x12, x13, x14;
@@ -22389,7 +22398,7 @@ b3:;
   x15 = f78(FAR(x4, 24), x12);
   if (x15) goto b1; else goto b4;
 b1:;
-  f182(x16, x6, FAR(x1, 472), x5);
+  f181(x16, x6, FAR(x1, 472), x5);
   x17 = ld8_1(x16);
   MEMCPY(x18, ADD(x16, 8), 32);
   f94(FAR(x1, 864));
@@ -22408,7 +22417,7 @@ b4:;
   goto b5;
 }
 
-static void f242(Q x0, Q x1, u64 x2, u8 x3, Q x4)
+static void f241(Q x0, Q x1, u64 x2, u8 x3, Q x4)
 {
   u64 x6, x8, x10, x13, x18, x20, x22, x27, x30, x33, x35, x36, x37, x26, x42, x47, x49, x51, x55, x57, x59, x64, x66, x69, x11, x9, x5, x7, x76, x77, x12, x21, x17, x19, x84, x96, x32, x29, x97, x31, x28, x34, x98, x45, x48, x50, x46, x54, x106, x108, x53, x58, x56, x114, x116, x118, x62, x63, x65, x125, x128, x131, x134, x136, x68;
   Q x16, x25, x40, x41, x61, x72, x14, x73, x39, x74, x38, x15, x80, x23, x85, x86, x87, x88, x89, x91, x92, x93, x95, x100, x101, x102, x103, x104, x105, x107, x60, x113, x115, x117, x121, x122, x123, x124, x127, x129, x130, x132, x133, x135, x137;
@@ -22541,7 +22550,7 @@ b16:;
   MEMSET(x70, 0u, 16);
   { x52 = 1u; goto b32; }
 b8:;
-  f243(FAR(x1, 472));
+  f242(FAR(x1, 472));
   f94(FAR(x1, 864));
   MEMSET(x99, 0u, 6);
   if (((u8)(x42 == 0u))) goto b33; else goto b34;
@@ -22628,7 +22637,7 @@ b52:;
   st64_8(x115, 0u);
   goto b51;
 b51:;
-  f243(FAR(x1, 160));
+  f242(FAR(x1, 160));
   x117 = FAR(x1, 224);
   x118 = ld64_8(x117);
   if (((u8)(x118 == 0u))) goto b53; else goto b54;
@@ -22737,7 +22746,7 @@ b5:;
   UNREACHABLE();
 }
 
-static void f243(Q x0)
+static void f242(Q x0)
 {
   u64 x3, x1, x6, x2, x11;
   Q x4, x5, x7, x9, x10;
@@ -22769,7 +22778,7 @@ b3:;
   return;
 }
 
-static void f244(Q x0, Q x1, u64 x2, Q x3, Q x4)
+static void f243(Q x0, Q x1, u64 x2, Q x3, Q x4)
 {
   u8 x7, x8, x9, x10, x12;
   Q x11;
@@ -22787,7 +22796,7 @@ b2:;
   return;
 b0:;
   st8_1(x6, 0u);
-  f149(x5, x1, x2, x6, x4);
+  f148(x5, x1, x2, x6, x4);
   x8 = ld8_1(x5);
   st8_1(x0, x8);
   x9 = ld8_1(ADD(x5, 8));
@@ -22817,7 +22826,7 @@ b5:;
   goto b2;
 }
 
-static void f245(Q x0, Q x1, u64 x2, Q x3, Q x4)
+static void f244(Q x0, Q x1, u64 x2, Q x3, Q x4)
 {
   u64 x7, x13, x26, x43, x47, x50, x53, x5, x56, x61, x6, x66, x68, x11, x74, x79, x12, x84, x85, x86, x87, x88, x89, x92, x95;
   u32 x10, x16, x23, x24, x27, x29, x30, x55, x8, x59, x60, x9, x63, x69, x73, x14, x77, x78, x15, x81;
@@ -22866,7 +22875,7 @@ b2:;
   return;
 b0:;
   st8_1(x32, 0u);
-  f149(x31, x1, x2, x32, x4);
+  f148(x31, x1, x2, x32, x4);
   x37 = ld8_1(x31);
   st8_1(x0, x37);
   x38 = ld8_1(ADD(x31, 8));
@@ -22883,7 +22892,7 @@ b1:;
   stn(ADD(x41, 9), x26, 7);
   st8_1(ADD(x41, 16), ((u8)(x27)));
   x42 = FAR(x1, 1200);
-  x43 = f246(FAR(x1, 1304), x41);
+  x43 = f245(FAR(x1, 1304), x41);
   stp_8(x44, x41);
   x45 = ldp_8(x42);
   x46 = FAR(x1, 1208);
@@ -22914,7 +22923,7 @@ b8:;
   x59 = cttz32(x10);
   x60 = ld32_4(ADD(x58, (u64)((u64)((u32)((u32)x59 << 2)))));
   x61 = (u64)x60;
-  x62 = f247(x51, x61);
+  x62 = f246(x51, x61);
   if (x62) goto b9; else goto b10;
 b10:;
   x9 = (((u32)((u32)x10 + 4294967295u)) & x10);
@@ -22966,7 +22975,7 @@ b20:;
   x77 = cttz32(x16);
   x78 = ld32_4(ADD(x76, (u64)((u64)((u32)((u32)x77 << 2)))));
   x79 = (u64)x78;
-  x80 = f247(x71, x79);
+  x80 = f246(x71, x79);
   if (x80) goto b21; else goto b22;
 b22:;
   x15 = (((u32)((u32)x16 + 4294967295u)) & x16);
@@ -22998,11 +23007,11 @@ b15:;
   x89 = umin64(x87, x88);
   if (((u8)(x89 == 0u))) goto b25; else goto b26;
 b25:;
-  x90 = f248(x42);
+  x90 = f247(x42);
   if (((u8)(x90 == 0u))) goto b26; else goto b27;
 b26:;
   MEMCPY(x91, x67, 17);
-  f251(x48, x69);
+  f250(x48, x69);
   x92 = ld64_8(x46);
   x93 = ldp_8(x42);
   MEMCPY(ADD(x93, (u64)((u64)((u64)x92 * 17u))), x91, 17);
@@ -23033,7 +23042,7 @@ b12:;
 b14:;
   st8_1(x35, 5u);
   st8_1(ADD(x35, 1), 6u);
-  f149(x33, x1, x2, x35, x4);
+  f148(x33, x1, x2, x35, x4);
   x21 = ld8_1(x33);
   x19 = ld8_1(ADD(x33, 8));
   x17 = ld8_1(ADD(x33, 9));
@@ -23046,7 +23055,7 @@ b28:;
   goto b2;
 }
 
-static u64 f246(Q x0, Q x1)
+static u64 f245(Q x0, Q x1)
 {
   u64 x4, x6, x7, x3, x2, x5;
   u128 x8, x10, x12;
@@ -23067,7 +23076,7 @@ b1:;
   return ((u64)(u128_low(u128_xor(u128_lshr(x12, (unsigned)u128_low(u128_of(0u, 64u)) & 127u), x12))));
 }
 
-static u8 f247(Q x0, u64 x1)
+static u8 f246(Q x0, u64 x1)
 {
   u8 x3, x8, x9, x2;
   Q x4, x5, x6, x7;
@@ -23090,7 +23099,7 @@ b1:;
   return x3;
 }
 
-static u8 f248(Q x0)
+static u8 f247(Q x0)
 {
   u64 x3, x2, x1, x12, x14, x15;
   s_u64_u64 x6, x4, x17, x5;
@@ -23100,13 +23109,13 @@ static u8 f248(Q x0)
   x2 = ld64_8(x8);
   if (((u8)(x2 == 0u))) goto b0; else { x3 = x2; goto b1; }
 b0:;
-  x9 = f249(FAR(x0, 48));
+  x9 = f248(FAR(x0, 48));
   if (((u8)((x9) & 1u))) { x7 = 1u; goto b2; } else goto b3;
 b3:;
   x1 = ld64_8(x8);
   { x3 = x1; goto b1; }
 b1:;
-  x10 = f250(x0, x3);
+  x10 = f249(x0, x3);
   if (((u8)((x10) & 1u))) { x7 = 1u; goto b2; } else goto b4;
 b4:;
   x11 = FAR(x0, 24);
@@ -23137,7 +23146,7 @@ b2:;
   return x7;
 }
 
-static u8 f249(Q x0)
+static u8 f248(Q x0)
 {
   u64 x2, x8, x10, x13, x15, x20, x24, x7, x26, x27, x30, x31, x1, x32, x34, x6, x37, x39, x9, x12, x14, x11, x19, x43;
   s_u64_u64 x5, x3, x36, x4;
@@ -23251,7 +23260,7 @@ b0:;
   return x21;
 }
 
-static u8 f250(Q x0, u64 x1)
+static u8 f249(Q x0, u64 x1)
 {
   s_u64_u64 x4, x2, x11, x3;
   u8 x5;
@@ -23284,7 +23293,7 @@ b1:;
   return x5;
 }
 
-static void f251(Q x0, u32 x1)
+static void f250(Q x0, u32 x1)
 {
   Q x2, x4, x8, x9;
   u64 x3, x5, x7, x10;
@@ -23304,7 +23313,7 @@ static void f251(Q x0, u32 x1)
   return;
 }
 
-static void f252(Q x0, Q x1, u64 x2, Q x3, Q x4)
+static void f251(Q x0, Q x1, u64 x2, Q x3, Q x4)
 {
   u64 x7, x13, x25, x42, x46, x49, x52, x5, x55, x60, x6, x65, x67, x11, x73, x78, x12, x83, x84, x85, x86, x87, x88, x91, x94;
   u32 x10, x16, x24, x54, x8, x58, x59, x9, x62, x68, x72, x14, x76, x77, x15, x80;
@@ -23352,7 +23361,7 @@ b2:;
   return;
 b0:;
   st8_1(x31, 0u);
-  f149(x30, x1, x2, x31, x4);
+  f148(x30, x1, x2, x31, x4);
   x36 = ld8_1(x30);
   st8_1(x0, x36);
   x37 = ld8_1(ADD(x30, 8));
@@ -23365,7 +23374,7 @@ b1:;
   x39 = FAR(x1, 1312);
   x40 = FAR(x1, 1320);
   MEMCPY(x41, x3, 17);
-  x42 = f246(FAR(x1, 1424), x3);
+  x42 = f245(FAR(x1, 1424), x3);
   stp_8(x43, x41);
   x44 = ldp_8(x40);
   x45 = FAR(x1, 1328);
@@ -23396,7 +23405,7 @@ b8:;
   x58 = cttz32(x10);
   x59 = ld32_4(ADD(x57, (u64)((u64)((u32)((u32)x58 << 2)))));
   x60 = (u64)x59;
-  x61 = f247(x50, x60);
+  x61 = f246(x50, x60);
   if (x61) goto b9; else goto b10;
 b10:;
   x9 = (((u32)((u32)x10 + 4294967295u)) & x10);
@@ -23451,7 +23460,7 @@ b22:;
   x76 = cttz32(x16);
   x77 = ld32_4(ADD(x75, (u64)((u64)((u32)((u32)x76 << 2)))));
   x78 = (u64)x77;
-  x79 = f247(x70, x78);
+  x79 = f246(x70, x78);
   if (x79) goto b23; else goto b24;
 b24:;
   x15 = (((u32)((u32)x16 + 4294967295u)) & x16);
@@ -23482,11 +23491,11 @@ b17:;
   x88 = umin64(x86, x87);
   if (((u8)(x88 == 0u))) goto b27; else goto b28;
 b27:;
-  x89 = f253(x40);
+  x89 = f252(x40);
   if (((u8)(x89 == 0u))) goto b28; else goto b29;
 b28:;
   MEMCPY(x90, x66, 17);
-  f251(x47, x68);
+  f250(x47, x68);
   x91 = ld64_8(x45);
   x92 = ldp_8(x40);
   MEMCPY(ADD(x92, (u64)((u64)((u64)x91 * 17u))), x90, 17);
@@ -23516,7 +23525,7 @@ b14:;
 b16:;
   st8_1(x34, 5u);
   st8_1(ADD(x34, 1), 7u);
-  f149(x32, x1, x2, x34, x4);
+  f148(x32, x1, x2, x34, x4);
   x21 = ld8_1(x32);
   x19 = ld8_1(ADD(x32, 8));
   x17 = ld8_1(ADD(x32, 9));
@@ -23529,7 +23538,7 @@ b30:;
   goto b2;
 }
 
-static u8 f253(Q x0)
+static u8 f252(Q x0)
 {
   u64 x3, x2, x1, x12, x14, x15;
   s_u64_u64 x6, x4, x17, x5;
@@ -23539,13 +23548,13 @@ static u8 f253(Q x0)
   x2 = ld64_8(x8);
   if (((u8)(x2 == 0u))) goto b0; else { x3 = x2; goto b1; }
 b0:;
-  x9 = f249(FAR(x0, 48));
+  x9 = f248(FAR(x0, 48));
   if (((u8)((x9) & 1u))) { x7 = 1u; goto b2; } else goto b3;
 b3:;
   x1 = ld64_8(x8);
   { x3 = x1; goto b1; }
 b1:;
-  x10 = f250(x0, x3);
+  x10 = f249(x0, x3);
   if (((u8)((x10) & 1u))) { x7 = 1u; goto b2; } else goto b4;
 b4:;
   x11 = FAR(x0, 24);
@@ -23576,7 +23585,7 @@ b2:;
   return x7;
 }
 
-static void f254(Q x0, Q x1, u64 x2, Q x3, Q x4)
+static void f253(Q x0, Q x1, u64 x2, Q x3, Q x4)
 {
   u8 x6, x8, x10, x15, x16, x18, x19, x20, x27, x39, x43, x45, x48, x50, x52, x9, x7, x5;
   u32 x21, x42, x44, x49, x51;
@@ -23602,7 +23611,7 @@ static void f254(Q x0, Q x1, u64 x2, Q x3, Q x4)
   MEMSET(x11, 0u, 32);
   MEMSET(x12, 0u, 32);
   MEMSET(ADD(x13, 2), 0u, 15);
-  f238(x14, x1);
+  f236(x14, x1);
   x15 = ld8_1(x14);
   if (((u8)(x15 == 1u))) goto b0; else goto b1;
 b2:;
@@ -23611,7 +23620,7 @@ b0:;
   x16 = ld8_1(ADD(x14, 1));
   st8_1(x17, x16);
   MEMCPY(ADD(x17, 1), ADD(x14, 2), 16);
-  f149(x11, x1, x2, x17, x4);
+  f148(x11, x1, x2, x17, x4);
   x18 = ld8_1(x11);
   st8_1(x0, x18);
   x19 = ld8_1(ADD(x11, 8));
@@ -23687,7 +23696,7 @@ b12:;
   st64_8(ADD(x53, 56), x2);
   st8_1(ADD(x53, 64), 1u);
   MEMSET(ADD(x53, 65), 0u, 7);
-  f217(x28, x29, x30, x36, x53);
+  f216(x28, x29, x30, x36, x53);
   goto b10;
 b10:;
   goto b5;
@@ -23699,7 +23708,7 @@ b5:;
 b13:;
   st8_1(x13, 5u);
   st8_1(ADD(x13, 1), 3u);
-  f149(x12, x1, x2, x13, x4);
+  f148(x12, x1, x2, x13, x4);
   x9 = ld8_1(x12);
   x7 = ld8_1(ADD(x12, 8));
   x5 = ld8_1(ADD(x12, 9));
@@ -23712,7 +23721,7 @@ b14:;
   goto b2;
 }
 
-static void f255(Q x0, Q x1, u64 x2, Q x3, Q x4)
+static void f254(Q x0, Q x1, u64 x2, Q x3, Q x4)
 {
   u64 x7, x9, x12, x13, x14, x15, x19, x22;
   Q x8, x17, x18, x23, x24;
@@ -23782,124 +23791,7 @@ b6:;
   goto b8;
 }
 
-static void f256(Q x0, Q x1, u64 x2, Q x3, Q x4, u8 x5, Q x6, u64 x7, Q x8)
-{
-  u8 x9, x21, x23, x27, x28, x29, x30, x31, x35, x36, x37;
-  Q x17, x18, x32, x34, x39;
-  u64 x19, x25, x33, x38;
-  s_u8_u64 x20;
-  u32 x24;
-  _Alignas(8) u8 y0_[64];
-  Q const x14 = Q_OF(y0_);
-  _Alignas(8) u8 y1_[32];
-  Q const x12 = Q_OF(y1_);
-  _Alignas(8) u8 y2_[32];
-  Q const x15 = Q_OF(y2_);
-  _Alignas(8) u8 y3_[24];
-  Q const x13 = Q_OF(y3_);
-  _Alignas(1) u8 y4_[17];
-  Q const x26 = Q_OF(y4_);
-  _Alignas(1) u8 y5_[16];
-  Q const x16 = Q_OF(y5_);
-  _Alignas(1) u8 y6_[16];
-  Q const x10 = Q_OF(y6_);
-  _Alignas(1) u8 y7_[16];
-  Q const x11 = Q_OF(y7_);
-  _Alignas(1) u8 y8_[16];
-  Q const x22 = Q_OF(y8_);
-  MEMCPY(x10, x3, 16);
-  MEMCPY(x11, x4, 16);
-  MEMSET(x12, 0u, 32);
-  MEMSET(x13, 0u, 24);
-  MEMSET(x14, 0u, 64);
-  MEMSET(x15, 0u, 32);
-  MEMCPY(x16, x3, 16);
-  x17 = FAR(x1, 280);
-  x18 = ldp_8(FAR(x1, 312));
-  x19 = ld64_8(FAR(x1, 320));
-  x20 = f97(x18, x19, FAR(x1, 286));
-  if (((u8)((x20.f0) == 0u))) goto b0; else goto b1;
-b0:;
-  x21 = ld8_1(FAR(FAR(x18, (u64)((u64)((u64)(x20.f1) * 72u))), 48));
-  if (((u8)(x21 == 1u))) goto b2; else goto b1;
-b2:;
-  MEMSET(x22, 0u, 16);
-  { x9 = 1u; goto b3; }
-b1:;
-  x23 = f132(x17, 1u, x16);
-  if (x23) goto b4; else goto b5;
-b5:;
-  MEMCPY(x22, x3, 16);
-  { x9 = 3u; goto b3; }
-b4:;
-  x24 = ld32_4(FAR(x1, 76));
-  x25 = uadd_sat64(x7, 40u);
-  if (((u8)(x25 > ((u64)x24)))) goto b6; else goto b7;
-b6:;
-  MEMSET(x22, 0u, 16);
-  { x9 = 4u; goto b3; }
-b8:;
-  return;
-b3:;
-  st8_1(x26, x9);
-  MEMCPY(ADD(x26, 1), x22, 16);
-  f149(x12, x1, x2, x26, x8);
-  x27 = ld8_1(x12);
-  st8_1(x0, x27);
-  x28 = ld8_1(ADD(x12, 8));
-  st8_1(FAR(x0, 8), x28);
-  x29 = ld8_1(ADD(x12, 9));
-  st8_1(FAR(x0, 9), x29);
-  MEMCPY(FAR(x0, 10), ADD(x12, 10), 16);
-  goto b8;
-b7:;
-  f72(x15, x7);
-  x30 = ld8_1(x15);
-  if (((u8)(x30 == 0u))) goto b9; else goto b10;
-b9:;
-  MEMCPY(x13, ADD(x15, 8), 24);
-  x31 = f107(x13, x6, x7);
-  if (((u8)((x31) & 1u))) goto b11; else goto b12;
-b10:;
-  st8_1(x0, 1u);
-  MEMSET(FAR(x0, 8), 0u, 18);
-  goto b8;
-b12:;
-  MEMCPY(x14, x10, 16);
-  MEMCPY(ADD(x14, 16), x11, 16);
-  st8_1(ADD(x14, 32), x5);
-  x32 = ADD(x14, 40);
-  MEMCPY(x32, x13, 24);
-  f232(x12, x1, x2, x14, x8);
-  x33 = ld64_8(ADD(x14, 56));
-  if (((u8)(x33 == 0u))) goto b13; else goto b14;
-b14:;
-  x34 = ldp_8(x32);
-  os_rattle_dealloc(x34);
-  goto b13;
-b13:;
-  x35 = ld8_1(x12);
-  st8_1(x0, x35);
-  x36 = ld8_1(ADD(x12, 8));
-  st8_1(FAR(x0, 8), x36);
-  x37 = ld8_1(ADD(x12, 9));
-  st8_1(FAR(x0, 9), x37);
-  MEMCPY(FAR(x0, 10), ADD(x12, 10), 16);
-  goto b8;
-b11:;
-  x38 = ld64_8(ADD(x13, 16));
-  if (((u8)(x38 == 0u))) goto b15; else goto b16;
-b16:;
-  x39 = ldp_8(x13);
-  os_rattle_dealloc(x39);
-  goto b15;
-b15:;
-  st8_1(x0, 1u);
-  MEMSET(FAR(x0, 8), 0u, 18);
-  goto b8;
-}
-
-static u32 f257(Q x0)
+static u32 f255(Q x0)
 {
   u32 x1, x3, x5, x2, x4;
   u8 x6, x7, x8;
@@ -23935,7 +23827,7 @@ b4:;
   UNREACHABLE();
 }
 
-static void f258(Q x0, Q x1, u64 x2, Q x3)
+static void f256(Q x0, Q x1, u64 x2, Q x3)
 {
   u8 x6, x7, x8;
   _Alignas(1) u8 y0_[17];
@@ -23947,7 +23839,7 @@ static void f258(Q x0, Q x1, u64 x2, Q x3)
   x6 = ld8_1(x1);
   if (((u8)(x6 == 0u))) goto b0; else goto b1;
 b0:;
-  f170(x5, x1, x2, x4);
+  f169(x5, x1, x2, x4);
   goto b2;
 b1:;
   x7 = f132(FAR(x1, 280), 0u, x4);
@@ -23960,7 +23852,7 @@ b2:;
   return;
 }
 
-static void f259(Q x0, Q x1, u64 x2, Q x3)
+static void f257(Q x0, Q x1, u64 x2, Q x3)
 {
   u8 x6, x10, x12, x14, x16, x19, x20, x21, x22, x36, x5, x38, x39, x4, x40, x41, x42, x48, x49, x11, x50, x56, x58, x13, x15;
   u64 x9, x18, x23, x8, x37, x7, x43, x45, x47, x59, x17;
@@ -24009,7 +23901,7 @@ static void f259(Q x0, Q x1, u64 x2, Q x3)
   MEMCPY(x33, x3, 16);
   MEMSET(x34, 0u, 64);
   MEMSET(x35, 0u, 64);
-  f260(x34, x1, x2, x33);
+  f258(x34, x1, x2, x33);
   x36 = ld8_1(x34);
   if (((u8)(x36 == 1u))) goto b0; else goto b1;
 b0:;
@@ -24024,7 +23916,7 @@ b4:;
   x38 = f76(x1, x2);
   if (((u8)((x38) & 1u))) goto b5; else goto b3;
 b3:;
-  f260(x35, x1, x2, x33);
+  f258(x35, x1, x2, x33);
   x39 = ld8_1(x35);
   if (((u8)(x39 == 1u))) goto b6; else goto b7;
 b6:;
@@ -24039,7 +23931,7 @@ b2:;
   MEMCPY(x27, ADD(x28, 7), 40);
   st64_8(ADD(x27, 40), ((u64)x6));
   st64_8(ADD(x27, 48), x9);
-  f262(x29, x1, x2, x24, x27);
+  f260(x29, x1, x2, x24, x27);
   x40 = ld8_1(x29);
   if (((u8)(x40 == 1u))) goto b8; else goto b9;
 b10:;
@@ -24096,7 +23988,7 @@ b17:;
   MEMCPY(x55, x52, 16);
   { x10 = 1u; x12 = 0u; x14 = 0u; x16 = 0u; x18 = 0u; goto b19; }
 b18:;
-  f260(x54, x1, x2, x24);
+  f258(x54, x1, x2, x24);
   x56 = ld8_1(x54);
   if (((u8)(x56 == 1u))) goto b20; else goto b21;
 b20:;
@@ -24105,7 +23997,7 @@ b20:;
   st64_8(ADD(x57, 40), ((u64)x58));
   x59 = ld64_8(ADD(x54, 56));
   st64_8(ADD(x57, 48), x59);
-  f262(x60, x1, x2, x24, x57);
+  f260(x60, x1, x2, x24, x57);
   x13 = ld8_1(ADD(x57, 24));
   x15 = ld8_1(ADD(x57, 25));
   x17 = ld64_8(ADD(x57, 32));
@@ -24139,7 +24031,7 @@ b16:;
   goto b10;
 }
 
-static void f260(Q x0, Q x1, u64 x2, Q x3)
+static void f258(Q x0, Q x1, u64 x2, Q x3)
 {
   u8 x5, x7, x9, x12, x15, x18, x21, x34, x43, x11, x14, x17, x20, x46, x4, x6, x8, x10, x13, x16, x19, x49;
   u64 x23, x26, x28, x30, x32, x37, x39, x25, x22, x24, x29, x27;
@@ -24168,7 +24060,7 @@ b1:;
   MEMSET(x0, 0u, 64);
   goto b2;
 b0:;
-  f258(x33, x1, x2, x31);
+  f256(x33, x1, x2, x31);
   x34 = ld8_1(x33);
   switch (x34) { case 0u: goto b3; case 1u: goto b4; case 2u: goto b5; default: goto b6; }
 b3:;
@@ -24184,7 +24076,7 @@ b7:;
   x37 = ld64_8(FAR(x1, 456));
   x38 = FAR(x1, 624);
   x39 = ld64_8(x38);
-  x40 = f147(x36, x37, x35, x39);
+  x40 = f146(x36, x37, x35, x39);
   if (((u8)((x40.f0) == 0u))) goto b8; else goto b5;
 b8:;
   st64_8(x38, (x40.f1));
@@ -24210,7 +24102,7 @@ b9:;
   MEMSET(ADD(x45, 40), 0u, 16);
   goto b13;
 b10:;
-  f261(x45, x1, x46, x2, x32, x41, x42);
+  f259(x45, x1, x46, x2, x32, x41, x42);
   goto b13;
 b11:;
   if (((u8)(x43 == 255u))) goto b14; else goto b15;
@@ -24225,7 +24117,7 @@ b15:;
   st8_1(ADD(x48, 13), x14);
   st8_1(ADD(x48, 14), x17);
   st8_1(ADD(x48, 15), x20);
-  f261(x45, x1, x46, x2, x32, x41, x48);
+  f259(x45, x1, x46, x2, x32, x41, x48);
   goto b13;
 b13:;
   x4 = ld8_1(ADD(x45, 17));
@@ -24261,7 +24153,7 @@ b16:;
   goto b2;
 }
 
-static void f261(Q x0, Q x1, u8 x2, u64 x3, u64 x4, Q x5, Q x6)
+static void f259(Q x0, Q x1, u8 x2, u64 x3, u64 x4, Q x5, Q x6)
 {
   u8 x8, x9, x10, x14, x18, x25, x26, x28, x29, x31, x7, x13, x35, x39;
   u64 x12, x17, x21, x22, x30, x32, x33, x11, x34, x16, x41, x15;
@@ -24278,7 +24170,7 @@ static void f261(Q x0, Q x1, u8 x2, u64 x3, u64 x4, Q x5, Q x6)
   x20 = ldp_8(FAR(x1, 448));
   x21 = ld64_8(FAR(x1, 456));
   x22 = ld64_8(FAR(x1, 624));
-  x23 = f147(x20, x21, x6, x22);
+  x23 = f146(x20, x21, x6, x22);
   x24 = FAR(x20, (u64)((u64)((u64)(x23.f1) * 72u)));
   if (((u8)((x23.f0) == 0u))) goto b0; else goto b1;
 b0:;
@@ -24335,7 +24227,7 @@ b13:;
   x39 = ld8_1(x1);
   if (((u8)(x39 == 0u))) goto b15; else { x17 = x16; goto b14; }
 b15:;
-  x40 = f220(FAR(x1, 248), x3);
+  x40 = f219(FAR(x1, 248), x3);
   x41 = umin64(x16, (x40.f1));
   x15 = (((u8)((x40.f0) == 1u)) ? x41 : x16);
   { x17 = x15; goto b14; }
@@ -24354,7 +24246,7 @@ b14:;
   goto b12;
 }
 
-static void f262(Q x0, Q x1, u64 x2, Q x3, Q x4)
+static void f260(Q x0, Q x1, u64 x2, Q x3, Q x4)
 {
   u64 x7, x10, x12, x14, x17, x18, x23, x24, x25, x26, x28, x30, x6, x9, x5, x8, x27, x35, x11, x41, x43, x44, x50, x52, x29, x55, x56, x16, x15, x59, x60, x61, x62, x13;
   u8 x20, x22, x31, x32, x21, x19, x34, x47, x49, x51;
@@ -24420,7 +24312,7 @@ b12:;
   x42 = ldp_8(FAR(x1, 448));
   x43 = ld64_8(FAR(x1, 456));
   x44 = ld64_8(FAR(x1, 624));
-  x45 = f147(x42, x43, x40, x44);
+  x45 = f146(x42, x43, x40, x44);
   x46 = FAR(x42, (u64)((u64)((u64)(x45.f1) * 72u)));
   if (((u8)((x45.f0) == 0u))) goto b14; else goto b15;
 b14:;
@@ -24505,7 +24397,7 @@ b28:;
   goto b11;
 }
 
-static u64 f263(Q x0)
+static u64 f261(Q x0)
 {
   u64 x2, x4, x6, x8, x10, x21, x1, x22, x3, x23, x5, x7, x9, x24, x25;
   u16 x11, x12, x13, x14, x15, x16, x17, x18, x19, x20;
@@ -24564,7 +24456,7 @@ b11:;
   return ((u64)((u64)((u64)((u64)((u64)((u64)((u64)((u64)((u64)((u64)((u64)((u64)x25 + ((u64)((u64)((u64)x20) * 84u)))) + x2)) + x4)) + x6)) + x8)) + x10));
 }
 
-static u8 f264(Q x0, u64 x1)
+static u8 f262(Q x0, u64 x1)
 {
   u8 x2;
   s_u64_u64 x5, x3, x10, x4;
@@ -24592,7 +24484,7 @@ b4:;
   { x2 = 1u; goto b1; }
 }
 
-static void f265(Q x0, Q x1, u64 x2)
+static void f263(Q x0, Q x1, u64 x2)
 {
   u64 x5, x8, x10, x4, x7, x6, x3, x9;
   Q x11, x12, x14, x15;
@@ -24603,7 +24495,7 @@ static void f265(Q x0, Q x1, u64 x2)
   x7 = ld64_8(x12);
   if (((u8)(x2 > ((u64)((u64)x4 - x7))))) goto b0; else { x5 = x4; x8 = x7; goto b1; }
 b0:;
-  x13 = f266(x0, x2);
+  x13 = f264(x0, x2);
   if (x13) goto b2; else goto b3;
 b2:;
   x6 = ld64_8(x12);
@@ -24632,7 +24524,7 @@ b6:;
   return;
 }
 
-static u8 f266(Q x0, u64 x1)
+static u8 f264(Q x0, u64 x1)
 {
   u8 x3, x2;
   u64 x4, x5, x6, x7;
@@ -24644,7 +24536,7 @@ b1:;
   x5 = ld64_8(FAR(x0, 16));
   x6 = umax64(((u64)((u64)x4 + x1)), 8u);
   x7 = umax64(x6, ((u64)((u64)x5 << 1)));
-  x2 = f264(x0, (((u8)(x5 < UINT64_C(4611686018427387904))) ? x7 : x6));
+  x2 = f262(x0, (((u8)(x5 < UINT64_C(4611686018427387904))) ? x7 : x6));
   { x3 = x2; goto b0; }
 }
 
@@ -26089,7 +25981,7 @@ static u32 m_nd_add_address(Q x0, u64 x1, Q x2)
   u16 x17, x20, x15, x16;
   u32 x24, x25, x29, x30, x23;
   Q x31, x33, x34, x36, x39, x41, x43, x47, x49;
-  _Alignas(8) u8 y0_[72];
+  _Alignas(8) u8 y0_[80];
   Q const x26 = Q_OF(y0_);
   _Alignas(8) u8 y1_[32];
   Q const x44 = Q_OF(y1_);
@@ -26099,7 +25991,7 @@ static u32 m_nd_add_address(Q x0, u64 x1, Q x2)
   Q const x35 = Q_OF(y3_);
   _Alignas(2) u8 y4_[6];
   Q const x48 = Q_OF(y4_);
-  MEMSET(x26, 0u, 72);
+  MEMSET(x26, 0u, 80);
   x27 = ld64_1(x2);
   x28 = ld64_1(ADD(x2, 8));
   x29 = ld32_4(FAR(x2, 16));
@@ -26110,7 +26002,7 @@ b1:;
 b2:;
   if (((u8)(((u8)(x29 == 0u)) | ((u8)(x29 < x30))))) { x25 = 4294967293u; goto b0; } else goto b3;
 b3:;
-  st8_1(x26, 11u);
+  st8_1(x26, 12u);
   x31 = ADD(x26, 4);
   st64_4(x31, x27);
   st64_4(ADD(x26, 12), x28);
@@ -26165,7 +26057,7 @@ b15:;
   x15 = ld16_2(ADD(x44, 24));
   { x5 = x3; x8 = x6; x11 = x9; x14 = x12; x17 = x15; goto b17; }
 b16:;
-  f254(x45, x34, x1, x31, x43);
+  f253(x45, x34, x1, x31, x43);
   x4 = ld8_1(x45);
   x7 = ld8_1(ADD(x45, 8));
   x10 = ld8_1(ADD(x45, 9));
@@ -26186,7 +26078,7 @@ b18:;
   MEMCPY(ADD(x35, 2), x48, 6);
   st64_8(ADD(x35, 8), x22);
   st16_2(ADD(x35, 16), x20);
-  x23 = f257(x35);
+  x23 = f255(x35);
   { x24 = x23; goto b10; }
 b10:;
   st8_1(x0, 1u);
@@ -26284,7 +26176,7 @@ b17:;
   st8_1(ADD(x49, 16), x30);
   st8_1(ADD(x49, 17), x3);
   MEMCPY(ADD(x49, 18), x28, 16);
-  f252(x46, x35, x1, x49, x44);
+  f251(x46, x35, x1, x49, x44);
   x5 = ld8_1(x46);
   x8 = ld8_1(ADD(x46, 8));
   x11 = ld8_1(ADD(x46, 9));
@@ -26305,7 +26197,7 @@ b19:;
   MEMCPY(ADD(x36, 2), x48, 6);
   st64_8(ADD(x36, 8), x23);
   st16_2(ADD(x36, 16), x21);
-  x24 = f257(x36);
+  x24 = f255(x36);
   { x25 = x24; goto b11; }
 b11:;
   st8_1(x0, 1u);
@@ -26322,7 +26214,7 @@ static u32 m_nd_advertise(Q x0, u64 x1, Q x2)
   u16 x17, x20, x37, x38, x39, x15, x16;
   u32 x24, x25, x30, x31, x32, x33, x41, x42, x43, x23;
   Q x45, x47, x48, x50, x53, x55, x57, x61, x63;
-  _Alignas(8) u8 y0_[72];
+  _Alignas(8) u8 y0_[80];
   Q const x26 = Q_OF(y0_);
   _Alignas(8) u8 y1_[32];
   Q const x58 = Q_OF(y1_);
@@ -26332,7 +26224,7 @@ static u32 m_nd_advertise(Q x0, u64 x1, Q x2)
   Q const x49 = Q_OF(y3_);
   _Alignas(2) u8 y4_[6];
   Q const x62 = Q_OF(y4_);
-  MEMSET(x26, 0u, 72);
+  MEMSET(x26, 0u, 80);
   x27 = ld8_1(FAR(x2, 25));
   if (((u8)(x27 < 2u))) goto b0; else { x25 = 4294967293u; goto b1; }
 b0:;
@@ -26373,7 +26265,7 @@ b9:;
 b10:;
   if (((u8)(((u8)(((u8)(x36 == 1u)) | x44)) & ((u8)(((u8)(x43 == 0u)) | ((u8)(((u32)((u32)x43 + 4294966016u)) < 221u))))))) goto b11; else { x25 = 4294967293u; goto b1; }
 b11:;
-  st8_1(x26, 7u);
+  st8_1(x26, 8u);
   x45 = ADD(x26, 4);
   st16_2(x45, x37);
   st16_2(ADD(x26, 6), x38);
@@ -26434,7 +26326,7 @@ b23:;
   x15 = ld16_2(ADD(x58, 24));
   { x5 = x3; x8 = x6; x11 = x9; x14 = x12; x17 = x15; goto b25; }
 b24:;
-  f244(x59, x48, x1, x45, x57);
+  f243(x59, x48, x1, x45, x57);
   x4 = ld8_1(x59);
   x7 = ld8_1(ADD(x59, 8));
   x10 = ld8_1(ADD(x59, 9));
@@ -26455,7 +26347,7 @@ b26:;
   MEMCPY(ADD(x49, 2), x62, 6);
   st64_8(ADD(x49, 8), x22);
   st16_2(ADD(x49, 16), x20);
-  x23 = f257(x49);
+  x23 = f255(x49);
   { x24 = x23; goto b18; }
 b18:;
   st8_1(x0, 1u);
@@ -26472,7 +26364,7 @@ static u32 m_nd_advertise_prefix(Q x0, u64 x1, Q x2)
   u16 x17, x20, x15, x16;
   u32 x24, x25, x27, x39, x40, x23;
   Q x41, x43, x44, x46, x49, x51, x53, x57, x59;
-  _Alignas(8) u8 y0_[72];
+  _Alignas(8) u8 y0_[80];
   Q const x26 = Q_OF(y0_);
   _Alignas(8) u8 y1_[32];
   Q const x54 = Q_OF(y1_);
@@ -26486,7 +26378,7 @@ static u32 m_nd_advertise_prefix(Q x0, u64 x1, Q x2)
   Q const x36 = Q_OF(y5_);
   _Alignas(2) u8 y6_[6];
   Q const x58 = Q_OF(y6_);
-  MEMSET(x26, 0u, 72);
+  MEMSET(x26, 0u, 80);
   x27 = ld32_4(FAR(x2, 16));
   if (((u8)(x27 < 129u))) goto b0; else goto b1;
 b0:;
@@ -26522,7 +26414,7 @@ b7:;
   { x25 = 4294967293u; goto b6; }
 b10:;
   MEMCPY(ADD(x26, 6), x36, 14);
-  st8_1(x26, 8u);
+  st8_1(x26, 9u);
   x41 = ADD(x26, 4);
   st8_1(x41, x34);
   st8_1(ADD(x26, 5), x35);
@@ -26581,7 +26473,7 @@ b22:;
   x15 = ld16_2(ADD(x54, 24));
   { x5 = x3; x8 = x6; x11 = x9; x14 = x12; x17 = x15; goto b24; }
 b23:;
-  f245(x55, x44, x1, x41, x53);
+  f244(x55, x44, x1, x41, x53);
   x4 = ld8_1(x55);
   x7 = ld8_1(ADD(x55, 8));
   x10 = ld8_1(ADD(x55, 9));
@@ -26602,7 +26494,7 @@ b25:;
   MEMCPY(ADD(x45, 2), x58, 6);
   st64_8(ADD(x45, 8), x22);
   st16_2(ADD(x45, 16), x20);
-  x23 = f257(x45);
+  x23 = f255(x45);
   { x24 = x23; goto b17; }
 b17:;
   st8_1(x0, 1u);
@@ -26680,7 +26572,7 @@ b13:;
   x15 = ld16_2(ADD(x40, 24));
   { x5 = x3; x8 = x6; x11 = x9; x14 = x12; x17 = x15; goto b15; }
 b14:;
-  f242(x41, x30, x1, x27, x39);
+  f241(x41, x30, x1, x27, x39);
   x4 = ld8_1(x41);
   x7 = ld8_1(ADD(x41, 8));
   x10 = ld8_1(ADD(x41, 9));
@@ -26701,7 +26593,7 @@ b16:;
   MEMCPY(ADD(x31, 2), x44, 6);
   st64_8(ADD(x31, 8), x22);
   st16_2(ADD(x31, 16), x20);
-  x23 = f257(x31);
+  x23 = f255(x31);
   { x24 = x23; goto b8; }
 b8:;
   st8_1(x0, 1u);
@@ -26717,16 +26609,16 @@ static u32 m_nd_confirm(Q x0, u64 x1, Q x2)
   u8 x5, x11, x17;
   u32 x7, x8, x6;
   Q x10, x12, x13;
-  _Alignas(8) u8 y0_[72];
+  _Alignas(8) u8 y0_[80];
   Q const x9 = Q_OF(y0_);
   _Alignas(8) u8 y1_[24];
   Q const x14 = Q_OF(y1_);
   _Alignas(2) u8 y2_[6];
   Q const x15 = Q_OF(y2_);
-  MEMSET(ADD(x9, 16), 0u, 56);
+  MEMSET(ADD(x9, 16), 0u, 64);
   x10 = ADD(x9, 1);
   MEMCPY(x10, x2, 16);
-  st8_1(x9, 4u);
+  st8_1(x9, 5u);
   if (((u8)(x1 > UINT64_C(4611686018427387903)))) { x8 = 4294967293u; goto b0; } else goto b1;
 b1:;
   x11 = ld8_1(x0);
@@ -26756,7 +26648,7 @@ b5:;
   st8_1(ADD(x14, 1), 0u);
   MEMCPY(ADD(x14, 2), x15, 6);
   st64_8(ADD(x14, 8), x4);
-  x6 = f257(x14);
+  x6 = f255(x14);
   { x7 = x6; goto b8; }
 b8:;
   st8_1(x0, 1u);
@@ -26773,7 +26665,7 @@ static u32 m_nd_forget(Q x0, u64 x1, Q x2)
   u16 x17, x20, x15, x16;
   u32 x24, x25, x23;
   Q x27, x29, x30, x32, x35, x37, x39, x43, x45;
-  _Alignas(8) u8 y0_[72];
+  _Alignas(8) u8 y0_[80];
   Q const x26 = Q_OF(y0_);
   _Alignas(8) u8 y1_[32];
   Q const x40 = Q_OF(y1_);
@@ -26783,10 +26675,10 @@ static u32 m_nd_forget(Q x0, u64 x1, Q x2)
   Q const x31 = Q_OF(y3_);
   _Alignas(2) u8 y4_[6];
   Q const x44 = Q_OF(y4_);
-  MEMSET(ADD(x26, 16), 0u, 56);
+  MEMSET(ADD(x26, 16), 0u, 64);
   x27 = ADD(x26, 1);
   MEMCPY(x27, x2, 16);
-  st8_1(x26, 5u);
+  st8_1(x26, 6u);
   if (((u8)(x1 > UINT64_C(4611686018427387903)))) { x25 = 4294967293u; goto b0; } else goto b1;
 b1:;
   x28 = ld8_1(x0);
@@ -26836,7 +26728,7 @@ b12:;
   x15 = ld16_2(ADD(x40, 24));
   { x5 = x3; x8 = x6; x11 = x9; x14 = x12; x17 = x15; goto b14; }
 b13:;
-  f241(x41, x30, x1, x27, x39);
+  f240(x41, x30, x1, x27, x39);
   x4 = ld8_1(x41);
   x7 = ld8_1(ADD(x41, 8));
   x10 = ld8_1(ADD(x41, 9));
@@ -26857,7 +26749,7 @@ b15:;
   MEMCPY(ADD(x31, 2), x44, 6);
   st64_8(ADD(x31, 8), x22);
   st16_2(ADD(x31, 16), x20);
-  x23 = f257(x31);
+  x23 = f255(x31);
   { x24 = x23; goto b7; }
 b7:;
   st8_1(x0, 1u);
@@ -26914,7 +26806,7 @@ b5:;
   st8_1(ADD(x13, 1), 0u);
   MEMCPY(ADD(x13, 2), x15, 6);
   st64_8(ADD(x13, 8), x5);
-  x7 = f257(x13);
+  x7 = f255(x13);
   { x8 = x7; goto b8; }
 b8:;
   st8_1(x0, 1u);
@@ -26998,7 +26890,7 @@ b5:;
   MEMCPY(ADD(x24, 2), x25, 6);
   st64_8(ADD(x24, 8), x16);
   st16_2(ADD(x24, 16), x14);
-  x17 = f257(x24);
+  x17 = f255(x24);
   { x18 = x17; goto b8; }
 b8:;
   st8_1(x0, 1u);
@@ -27015,7 +26907,7 @@ static u32 m_nd_remove_address(Q x0, u64 x1, Q x2)
   u16 x17, x20, x15, x16;
   u32 x24, x25, x23;
   Q x27, x29, x30, x32, x35, x37, x39, x43, x45;
-  _Alignas(8) u8 y0_[72];
+  _Alignas(8) u8 y0_[80];
   Q const x26 = Q_OF(y0_);
   _Alignas(8) u8 y1_[32];
   Q const x40 = Q_OF(y1_);
@@ -27025,10 +26917,10 @@ static u32 m_nd_remove_address(Q x0, u64 x1, Q x2)
   Q const x31 = Q_OF(y3_);
   _Alignas(2) u8 y4_[6];
   Q const x44 = Q_OF(y4_);
-  MEMSET(ADD(x26, 16), 0u, 56);
+  MEMSET(ADD(x26, 16), 0u, 64);
   x27 = ADD(x26, 1);
   MEMCPY(x27, x2, 16);
-  st8_1(x26, 12u);
+  st8_1(x26, 13u);
   if (((u8)(x1 > UINT64_C(4611686018427387903)))) { x25 = 4294967293u; goto b0; } else goto b1;
 b1:;
   x28 = ld8_1(x0);
@@ -27078,7 +26970,7 @@ b12:;
   x15 = ld16_2(ADD(x40, 24));
   { x5 = x3; x8 = x6; x11 = x9; x14 = x12; x17 = x15; goto b14; }
 b13:;
-  f255(x41, x30, x1, x27, x39);
+  f254(x41, x30, x1, x27, x39);
   x4 = ld8_1(x41);
   x7 = ld8_1(ADD(x41, 8));
   x10 = ld8_1(ADD(x41, 9));
@@ -27099,7 +26991,7 @@ b15:;
   MEMCPY(ADD(x31, 2), x44, 6);
   st64_8(ADD(x31, 8), x22);
   st16_2(ADD(x31, 16), x20);
-  x23 = f257(x31);
+  x23 = f255(x31);
   { x24 = x23; goto b7; }
 b7:;
   st8_1(x0, 1u);
@@ -27111,21 +27003,23 @@ b0:;
 
 static u32 m_nd_send(Q x0, u64 x1, Q x2, Q x3, u8 x4, Q x5, u64 x6)
 {
-  u8 x8, x10, x20, x29, x34, x9, x7;
+  u8 x8, x10, x20, x31, x36, x9, x7;
   u16 x12, x11;
-  u64 x15, x13, x28, x31, x33, x14;
+  u64 x15, x13, x30, x33, x35, x14;
   u32 x17, x18, x16;
-  Q x19, x21, x22, x30, x32;
-  _Alignas(8) u8 y0_[32];
-  Q const x26 = Q_OF(y0_);
-  _Alignas(8) u8 y1_[24];
-  Q const x23 = Q_OF(y1_);
-  _Alignas(1) u8 y2_[16];
-  Q const x24 = Q_OF(y2_);
+  Q x19, x21, x22, x28, x32, x34;
+  _Alignas(8) u8 y0_[56];
+  Q const x27 = Q_OF(y0_);
+  _Alignas(8) u8 y1_[32];
+  Q const x26 = Q_OF(y1_);
+  _Alignas(8) u8 y2_[24];
+  Q const x23 = Q_OF(y2_);
   _Alignas(1) u8 y3_[16];
-  Q const x25 = Q_OF(y3_);
-  _Alignas(2) u8 y4_[6];
-  Q const x27 = Q_OF(y4_);
+  Q const x24 = Q_OF(y3_);
+  _Alignas(1) u8 y4_[16];
+  Q const x25 = Q_OF(y4_);
+  _Alignas(2) u8 y5_[6];
+  Q const x29 = Q_OF(y5_);
   x19 = FAR(x5, (u64)(((u8)((u64)x5 == 0u)) ? 4096u : 0u));
   if (((u8)(x1 > UINT64_C(4611686018427387903)))) { x18 = 4294967293u; goto b0; } else goto b1;
 b1:;
@@ -27139,49 +27033,56 @@ b2:;
   MEMCPY(x24, x2, 16);
   MEMCPY(x25, x3, 16);
   MEMSET(x26, 0u, 32);
+  x28 = ADD(x27, 32);
+  st64_8(x28, 0u);
   x13 = ld64_8(FAR(x22, 64));
   if (((u8)(x1 < x13))) goto b3; else goto b4;
 b3:;
-  MEMSET(x27, 0u, 6);
+  MEMSET(x29, 0u, 6);
   { x8 = 0u; x10 = 3u; x12 = 0u; x15 = x13; goto b5; }
 b4:;
-  x28 = f16(x22);
-  if (((u8)(x1 < x28))) goto b6; else goto b7;
+  x30 = f16(x22);
+  if (((u8)(x1 < x30))) goto b6; else goto b7;
 b7:;
-  x29 = f76(x22, x1);
-  if (((u8)((x29) & 1u))) goto b8; else goto b6;
+  x31 = f76(x22, x1);
+  if (((u8)((x31) & 1u))) goto b8; else goto b6;
 b6:;
-  x30 = FAR(x22, 1560);
-  x31 = ld64_8(x30);
-  if (((u8)(x31 == UINT64_C(18446744073709551615)))) goto b9; else goto b10;
+  x32 = FAR(x22, 1560);
+  x33 = ld64_8(x32);
+  if (((u8)(x33 == UINT64_C(18446744073709551615)))) goto b9; else goto b10;
 b10:;
-  st64_8(x30, ((u64)((u64)x31 + 1u)));
+  st64_8(x32, ((u64)((u64)x33 + 1u)));
   goto b9;
 b9:;
-  x32 = FAR(x22, 1552);
-  x33 = ld64_8(x32);
-  if (((u8)(x33 == UINT64_C(18446744073709551615)))) goto b11; else goto b12;
+  x34 = FAR(x22, 1552);
+  x35 = ld64_8(x34);
+  if (((u8)(x35 == UINT64_C(18446744073709551615)))) goto b11; else goto b12;
 b12:;
-  st64_8(x32, ((u64)((u64)x33 + 1u)));
+  st64_8(x34, ((u64)((u64)x35 + 1u)));
   goto b11;
 b8:;
   { x17 = 4294967295u; goto b13; }
 b11:;
-  f256(x26, x22, x1, x24, x25, x4, x19, x6, FAR(x22, 1448));
-  x34 = ld8_1(x26);
+  MEMCPY(x27, x24, 16);
+  MEMCPY(ADD(x27, 16), x25, 16);
+  st8_1(x28, x4);
+  stp_8(ADD(x27, 40), x19);
+  st64_8(ADD(x27, 48), x6);
+  f231(x26, x22, x1, x27, FAR(x22, 1448));
+  x36 = ld8_1(x26);
   x9 = ld8_1(ADD(x26, 8));
   x7 = ld8_1(ADD(x26, 9));
-  MEMCPY(x27, ADD(x26, 10), 6);
+  MEMCPY(x29, ADD(x26, 10), 6);
   x14 = ld64_8(ADD(x26, 16));
   x11 = ld16_2(ADD(x26, 24));
-  if (((u8)(x34 == 0u))) { x8 = x7; x10 = x9; x12 = x11; x15 = x14; goto b5; } else { x17 = 4294967295u; goto b13; }
+  if (((u8)(x36 == 0u))) { x8 = x7; x10 = x9; x12 = x11; x15 = x14; goto b5; } else { x17 = 4294967295u; goto b13; }
 b5:;
   st8_1(x23, x10);
   st8_1(ADD(x23, 1), x8);
-  MEMCPY(ADD(x23, 2), x27, 6);
+  MEMCPY(ADD(x23, 2), x29, 6);
   st64_8(ADD(x23, 8), x15);
   st16_2(ADD(x23, 16), x12);
-  x16 = f257(x23);
+  x16 = f255(x23);
   { x17 = x16; goto b13; }
 b13:;
   st8_1(x0, 1u);
@@ -27288,7 +27189,7 @@ b13:;
   if (((u8)(x53 == 0u))) goto b15; else goto b16;
 b15:;
   st8_1(x51, 0u);
-  f149(x50, x36, x1, x51, x45);
+  f148(x50, x36, x1, x51, x45);
   x8 = ld8_1(x50);
   x10 = ld8_1(ADD(x50, 8));
   x12 = ld8_1(ADD(x50, 9));
@@ -27421,7 +27322,7 @@ b34:;
   MEMCPY(ADD(x37, 2), x49, 6);
   st64_8(ADD(x37, 8), x30);
   st16_2(ADD(x37, 16), x28);
-  x31 = f257(x37);
+  x31 = f255(x37);
   { x32 = x31; goto b7; }
 b7:;
   st8_1(x0, 1u);
@@ -27528,7 +27429,7 @@ b21:;
   st64_8(x41, x11);
   x42 = ADD(x41, 8);
   st64_8(x42, x12);
-  f258(x43, x10, x1, x41);
+  f256(x43, x10, x1, x41);
   if (((u8)(x13 == 255u))) goto b24; else goto b25;
 b25:;
   st64_8(x41, x11);
@@ -27544,7 +27445,7 @@ b27:;
 b28:;
   UNREACHABLE();
 b29:;
-  f166(x46, FAR(x10, 448), x1, x45);
+  f165(x46, FAR(x10, 448), x1, x45);
   x47 = ld8_1(x46);
   if (((u8)(x47 == 1u))) goto b30; else goto b31;
 b30:;
@@ -27670,7 +27571,7 @@ b12:;
 b5:;
   { x21 = x19; x23 = x17; x25 = x15; x27 = x13; x29 = x13; x31 = x12; x33 = x11; x35 = x8; goto b14; }
 b13:;
-  f259(x58, x54, x1, x57);
+  f257(x58, x54, x1, x57);
   x78 = ld8_1(x58);
   x30 = ld8_1(ADD(x58, 8));
   x28 = ld8_1(ADD(x58, 9));
@@ -27760,7 +27661,7 @@ static u64 m_nd_node_bytes(Q x0)
   x4 = ld8_1(x3);
   if (((u8)(x4 == 1u))) goto b0; else { x2 = 0u; goto b1; }
 b0:;
-  x1 = f263(ADD(x3, 2));
+  x1 = f261(ADD(x3, 2));
   { x2 = x1; goto b1; }
 b1:;
   return x2;
@@ -27821,7 +27722,7 @@ b8:;
 b7:;
   stp_8(x25, x24);
   MEMSET(ADD(x25, 8), 0u, 16);
-  x26 = f264(x25, ((u64)((u64)x4 + 54u)));
+  x26 = f262(x25, ((u64)((u64)x4 + 54u)));
   if (x26) goto b9; else goto b10;
 b10:;
   x27 = ld64_8(ADD(x25, 16));
@@ -27843,26 +27744,26 @@ b9:;
   st16_1(ADD(x36, 12), 56710u);
   st64_1(ADD(x36, 14), x34);
   MEMCPY(ADD(x36, 22), x35, 32);
-  f265(x31, x36, 54u);
+  f263(x31, x36, 54u);
   x37 = ld8_1(x13);
   if (((u8)(x37 == 1u))) goto b13; else goto b14;
 b13:;
   x38 = f116(x2, x33, x12, x4);
   if (((u8)(x4 < 4u))) goto b15; else goto b16;
 b15:;
-  f265(x31, x12, x4);
+  f263(x31, x12, x4);
   goto b17;
 b16:;
-  f265(x31, x12, 2u);
+  f263(x31, x12, 2u);
   x39 = bswap16(x38);
   st16_2(x40, x39);
-  f265(x31, x40, 2u);
-  f265(x31, FAR(x12, 4), ((u64)((u64)x4 + UINT64_C(18446744073709551612))));
+  f263(x31, x40, 2u);
+  f263(x31, FAR(x12, 4), ((u64)((u64)x4 + UINT64_C(18446744073709551612))));
   goto b17;
 b17:;
   goto b18;
 b14:;
-  f265(x31, x12, x4);
+  f263(x31, x12, x4);
   goto b18;
 b18:;
   x41 = ldp_8(x31);
@@ -27910,7 +27811,7 @@ b28:;
   st8_1(x20, x6);
   st8_1(ADD(x20, 1), x8);
   MEMCPY(ADD(x20, 2), x53, 16);
-  x9 = f257(x20);
+  x9 = f255(x20);
   { x10 = x9; goto b5; }
 b5:;
   st8_1(x0, 1u);
@@ -27960,7 +27861,7 @@ b0:;
   x20 = (u64)x9;
   x21 = (u64)((u64)((u64)((u64)x20 << 1)) + ((u64)x7));
   x22 = (u64)x11;
-  x23 = f263(x18);
+  x23 = f261(x18);
   x24 = (u64)x15;
   x25 = (u64)((u64)x24 * 24u);
   x26 = (u64)((u64)((u64)((u64)((u64)((u64)((u64)((u64)x17 + 8192u)) + (((u64)((u64)((u64)((u64)x17 << 1)) + 62u)) & 524256u))) + ((u64)((u64)((u64)((u64)x20 + x19)) * 224u)))) + ((u64)((u32)((u32)((u32)((u32)((u32)((u32)x12 >> 16)) + (x12 & 65535u))) << 6))));
@@ -28005,7 +27906,7 @@ b6:;
   x13 = f76(x9, x1);
   if (((u8)((x13) & 1u))) { x5 = 4294967295u; goto b3; } else goto b5;
 b5:;
-  f258(x14, x9, x1, x10);
+  f256(x14, x9, x1, x10);
   x15 = ld8_1(x14);
   MEMCPY(x16, ADD(x14, 1), 16);
   switch (x15) { case 0u: goto b7; case 1u: goto b8; case 2u: goto b9; default: goto b10; }
@@ -28463,7 +28364,7 @@ b2:;
   MEMCPY(x18, x2, 16);
   MEMSET(x19, 0u, 16);
   MEMSET(x20, 0u, 6);
-  f166(x21, FAR(x17, 448), x1, x18);
+  f165(x21, FAR(x17, 448), x1, x18);
   x22 = ld8_1(x21);
   MEMCPY(x23, ADD(x21, 8), 16);
   x6 = ld8_1(ADD(x21, 24));
